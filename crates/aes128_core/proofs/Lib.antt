@@ -1,0 +1,4 @@
+pub mod ColumnLemmas
+pub mod KeyLemmas
+pub mod RoundLemmas
+pub mod TableRules

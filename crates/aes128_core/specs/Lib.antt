@@ -1,0 +1,8 @@
+pub mod Aes128
+pub mod Columns
+pub mod Field
+pub mod KeyExpansion
+pub mod Rounds
+pub mod SBox
+pub mod State
+pub mod Vectors

@@ -1,0 +1,73 @@
+//! AES-128 (FIPS 197): encryption of single blocks of 16 bytes.
+//!
+//! [`Aes128::new`] expands a key once, and [`Aes128::encrypt`] then encrypts any number of blocks
+//! under it. Nothing here allocates and nothing can fail. There is no decryption and no mode of
+//! operation.
+//!
+//! The S-box and the columns of a round are looked up in tables by bytes that depend on the key, so
+//! the time of a call may tell something of the key: secrecy of timing is not claimed.
+
+#![tactic(auto)]
+
+ghost use Rattle.std.specs.Prelude.{◌≡◌, ℕ, List, map};
+ghost use Rattle.aes128_core.specs.Columns.{word_bytes, key_of};
+ghost use Rattle.aes128_core.specs.KeyExpansion.{key_expansion};
+ghost use Rattle.aes128_core.specs.Aes128.{cipher};
+
+mod columns;
+mod key_expansion;
+mod rounds;
+mod tables;
+#[cfg(test)]
+mod tests;
+
+use crate::key_expansion::expand;
+use crate::rounds::{block_of, first_round, last_round, round};
+use std::marker::Model;
+
+/// An AES-128 key, expanded and ready to encrypt blocks.
+///
+/// It takes 176 bytes, and contracts see it as its key, a list of 16 bytes.
+#[derive(Drop)]
+pub struct Aes128 {
+    // All 44 words of the key schedule. The first four are the key itself.
+    words: [u32; 44],
+}
+
+impl Model for Aes128 {
+    ghost Value = { List ℕ };
+
+    ghost view = { λ a. key_of a.words };
+
+    ghost invariant = { λ a. map word_bytes a.words ≡ key_expansion (key_of a.words) };
+}
+
+impl Aes128 {
+    /// Expands a key of 16 bytes, the first byte first (FIPS 197, section 5.2).
+    ///
+    /// The key schedule is computed here alone, so keep the value as long as the key is used.
+    pub fn new(key: &[u8; 16]) -> Aes128
+        ensures { result ≡ key.now }
+    {
+        Aes128 { words: expand(key) }
+    }
+
+    /// Encrypts one block of 16 bytes: the standard's `Cipher` of 10 rounds (FIPS 197, section 5.1).
+    #[tactic(auto, unfolding(crate::specs::Rounds::rounds, crate::specs::Aes128::cipher))]
+    pub fn encrypt(&self, block: &[u8; 16]) -> [u8; 16]
+        ensures { result ≡ cipher self.now block.now }
+    {
+        let words = &self.words;
+        let state = first_round(words, block);
+        let state = round(words, 1, state);
+        let state = round(words, 2, state);
+        let state = round(words, 3, state);
+        let state = round(words, 4, state);
+        let state = round(words, 5, state);
+        let state = round(words, 6, state);
+        let state = round(words, 7, state);
+        let state = round(words, 8, state);
+        let state = round(words, 9, state);
+        block_of(last_round(words, state))
+    }
+}

@@ -1,0 +1,23 @@
+use crate::Aes128;
+
+// The examples of FIPS 197: appendix B, and C.1 of the edition of 2001.
+#[test]
+fn encrypts_the_examples_of_the_standard(rt: HostRuntime) {
+    let examples: [(u128, u128, u128); 2] = [
+        (
+            0x2b7e151628aed2a6abf7158809cf4f3c,
+            0x3243f6a8885a308d313198a2e0370734,
+            0x3925841d02dc09fbdc118597196a0b32,
+        ),
+        (
+            0x000102030405060708090a0b0c0d0e0f,
+            0x00112233445566778899aabbccddeeff,
+            0x69c4e0d86a7b0430d8cdb78070b4c55a,
+        ),
+    ];
+    for (key, block, want) in examples {
+        let cipher = Aes128::new(&key.to_be_bytes());
+        let got = u128::from_be_bytes(cipher.encrypt(&block.to_be_bytes()));
+        assert_eq!(rt; got, want, "under the key {key:032x}");
+    }
+}

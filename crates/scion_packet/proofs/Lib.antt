@@ -1,0 +1,11 @@
+pub mod Tests
+pub mod Fields
+pub mod Sizes
+pub mod Runs
+pub mod Meta
+pub mod PathSpelled
+pub mod PathBack
+pub mod HeaderSpelled
+pub mod HeaderBack
+pub mod PacketLaws
+pub mod Offsets

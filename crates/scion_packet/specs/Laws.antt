@@ -1,0 +1,39 @@
+-- What reading and spelling have to do with each other.
+use Rattle.std.specs.Prelude.{◌≡◌, ◌<◌, ℕ, ◌+◌, List, None, slice_index}
+use Rattle.field_rows.specs.Place.{IsBytes}
+use Rattle.scion_packet.specs.Header.{HeaderFields, SpellsHeader, header_fault, header_of}
+use Rattle.scion_packet.specs.Lengths.{first_hop, hop_place, info_place, segment_count}
+use Rattle.scion_packet.specs.Path.{PathFields, SpellsPath, current_hop, current_info, hop_at, hop_number, info_at, lengths_of, path_fault, path_of, place_at}
+use Rattle.scion_packet.specs.Places.{hop_there, info_there}
+use Rattle.scion_packet.specs.Packet.{Packet, Spells, first_fault, packet_of}
+
+-- What passes all tests spells what is read from it, byte for byte; what spells anything passes all
+-- tests; and it spells nothing but what is read from it.
+pub record HeaderLaws : Type 0 where
+  pub spelled : (bytes : List ℕ) → IsBytes bytes → header_fault bytes ≡ None → SpellsHeader bytes (header_of bytes)
+  pub passes : (bytes : List ℕ) (h : HeaderFields) → SpellsHeader bytes h → header_fault bytes ≡ None
+  pub only : (bytes : List ℕ) (h : HeaderFields) → SpellsHeader bytes h → h ≡ header_of bytes
+
+pub record PathLaws : Type 0 where
+  pub spelled : (path : List ℕ) → IsBytes path → path_fault path ≡ None → SpellsPath path (path_of path)
+  pub passes : (path : List ℕ) (p : PathFields) → SpellsPath path p → path_fault path ≡ None
+  pub only : (path : List ℕ) (p : PathFields) → SpellsPath path p → p ≡ path_of path
+
+pub record PacketLaws : Type 0 where
+  pub spelled : (bytes : List ℕ) → IsBytes bytes → first_fault bytes ≡ None → Spells bytes (packet_of bytes)
+  pub passes : (bytes : List ℕ) (p : Packet) → Spells bytes p → first_fault bytes ≡ None
+  pub only : (bytes : List ℕ) (p : Packet) → Spells bytes p → p ≡ packet_of bytes
+
+-- In the bytes of a path that passes all tests, the info field and the hop field at any place stand at
+-- one offset each, and the current ones at the offsets that the cursor names: whoever wants one reads
+-- nothing else.
+pub record FieldsStand (path : List ℕ) : Type 0 where
+  pub info : (k i : ℕ) → k < segment_count (lengths_of path) → info_there (path_of path).segments (place_at k i) ≡ info_at path (info_place k)
+  pub hop : (k i : ℕ) → k < segment_count (lengths_of path) → i < slice_index (lengths_of path) k
+      → hop_there (path_of path).segments (place_at k i) ≡ hop_at path (hop_place (lengths_of path) (first_hop (lengths_of path) k + i))
+  pub current_info_field : info_there (path_of path).segments (path_of path).place ≡ info_at path (info_place (current_info path))
+  pub current_hop_field : hop_there (path_of path).segments (path_of path).place ≡ hop_at path (hop_place (lengths_of path) (current_hop path))
+  pub current_hop_number : hop_number (path_of path).segments (path_of path).place ≡ current_hop path
+
+abbrev pub OffsetLaws : Type 0
+OffsetLaws = (path : List ℕ) → IsBytes path → path_fault path ≡ None → FieldsStand path

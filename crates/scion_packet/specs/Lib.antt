@@ -1,0 +1,10 @@
+pub mod Fault
+pub mod Header
+pub mod Lengths
+pub mod Path
+pub mod Places
+pub mod Packet
+pub mod Laws
+pub mod Example
+pub use Rattle.field_rows.specs.Row
+pub use Rattle.field_rows.specs.Place

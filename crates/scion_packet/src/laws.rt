@@ -1,0 +1,27 @@
+//! The laws of reading and spelling: nothing here runs.
+
+ghost use Rattle.scion_packet.specs.Laws.{HeaderLaws, OffsetLaws, PacketLaws, PathLaws};
+
+/// A datagram that passes the header's tests begins with the header that is read from it; one that
+/// begins with any header passes them, and begins with no other.
+pub fn header_laws()
+    ensures { HeaderLaws }
+{}
+
+/// Bytes that pass the path's tests are those of the path that is read from them; those of any path
+/// pass them, and are those of no other.
+pub fn path_laws()
+    ensures { PathLaws }
+{}
+
+/// A datagram that passes all tests spells the packet that is read from it, byte for byte; one that
+/// spells any packet passes them, and spells no other.
+pub fn packet_laws()
+    ensures { PacketLaws }
+{}
+
+/// Each info field and each hop field of a path that passes its tests stands at one offset of its
+/// bytes, the current ones at those that the cursor names.
+pub fn offset_laws()
+    ensures { OffsetLaws }
+{}
