@@ -21,7 +21,7 @@ front_text_len h =
     omega (arith, length-append d s)
 
 -- bytes of bytes
-part-are : (bytes : List ℕ) (at n : ℕ) → IsBytes bytes → IsBytes (text_at bytes at n)
+pub part-are : (bytes : List ℕ) (at n : ℕ) → IsBytes bytes → IsBytes (text_at bytes at n)
 part-are bytes at n are i =
     elim (cases_lt i n) [
       | inl below ↦ rw (get_or-take n (drop at bytes) i 0 below, get_or-drop at bytes i 0) (are (at + i))
@@ -29,14 +29,14 @@ part-are bytes at n are i =
     ]
 
 -- the tests of the header and of the path
-both_pass : (bytes : List ℕ) → first_fault bytes ≡ None → (header_fault bytes ≡ None) × (path_fault (path_bytes bytes) ≡ None)
+pub both_pass : (bytes : List ℕ) → first_fault bytes ≡ None → (header_fault bytes ≡ None) × (path_fault (path_bytes bytes) ≡ None)
 both_pass bytes none =
     let all = all_pass (tests bytes) none in (
       none_fails (header_tests bytes) (all.0, (all.1.0, (all.1.1.0, (all.1.1.1.0, (all.1.1.1.1.0, tt))))),
       none_fails (path_tests (path_bytes bytes)) all.1.1.1.1.1,
     )
 
-pass_both : (bytes : List ℕ) → header_fault bytes ≡ None → path_fault (path_bytes bytes) ≡ None → first_fault bytes ≡ None
+pub pass_both : (bytes : List ℕ) → header_fault bytes ≡ None → path_fault (path_bytes bytes) ≡ None → first_fault bytes ≡ None
 pass_both bytes header path =
     let h = all_pass (header_tests bytes) header in
     let p = all_pass (path_tests (path_bytes bytes)) path in
@@ -51,6 +51,13 @@ three_parts bytes f e le =
     ap (λ (t : List ℕ). take (e - f) (drop f bytes) ++ t) (sym last) ∙ take-append-drop (e - f) (drop f bytes) in
     sym (take-append-drop f bytes) ∙ ap (λ (t : List ℕ). take f bytes ++ t) (sym rest)
 
+-- the front of the datagram, up to its path
+front_there : (bytes : List ℕ) → IsBytes bytes → first_fault bytes ≡ None → header_text (header_of bytes) ≡ take (front_end bytes) bytes
+front_there bytes are none =
+    let h = header_spelled bytes are (both_pass bytes none).0 in
+    let ends = front_is bytes (header_of bytes) h in
+    sym h.front.read ∙ ap (λ (n : ℕ). take n bytes) (front_text_len (header_of bytes) ∙ sym ends.0)
+
 pub packet_spelled : (bytes : List ℕ) → IsBytes bytes → first_fault bytes ≡ None → Spells bytes (packet_of bytes)
 packet_spelled bytes are none =
     let both = both_pass bytes none in
@@ -59,8 +66,7 @@ packet_spelled bytes are none =
     let path = path_bytes bytes in
     let p = path_spelled path (part-are bytes (front_end bytes) (header_end bytes - front_end bytes) are) both.1 in
     let ends = front_is bytes (header_of bytes) h in
-    let front : header_text (header_of bytes) ≡ take (front_end bytes) bytes =
-    sym h.front.read ∙ ap (λ (n : ℕ). take n bytes) (front_text_len (header_of bytes) ∙ sym ends.0) in
+    let front = front_there bytes are none in
     let path-len : length path ≡ header_end bytes - front_end bytes =
     length-take-le (header_end bytes - front_end bytes) (drop (front_end bytes) bytes) (omega (arith, length-drop (front_end bytes) bytes, passes.covers, passes.whole)) in
     let text-len : length (path_text (path_of path)) ≡ length path = ap length (sym p.text) in
@@ -113,3 +119,8 @@ pub packet_only : (bytes : List ℕ) (p : Packet) → Spells bytes p → p ≡ p
 packet_only bytes p spells =
     let parts = packet_parts bytes p spells in
     same_packet p (packet_of bytes) (header_only bytes p.header parts.header) (path_only (path_bytes bytes) p.path parts.path) (sym parts.payload)
+
+pub path_written_over : (bytes new path : List ℕ) (q : PathFields) → IsBytes bytes → first_fault bytes ≡ None → path ≡ path_text q
+    → new ≡ take (front_end bytes) bytes ++ (path ++ drop (header_end bytes) bytes) → new ≡ spelling (record (packet_of bytes) { path = q })
+path_written_over bytes new path q are none is new-is =
+    new-is ∙ ap₂ (λ (f t : List ℕ). f ++ (t ++ drop (header_end bytes) bytes)) (sym (front_there bytes are none)) is

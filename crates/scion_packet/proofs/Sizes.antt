@@ -183,3 +183,42 @@ hop_is_of a b c hop lawful lt =
         ]
       ]
     ]
+
+-- Where segment k ends: behind the last hop of the path, or before it where another segment follows.
+pub record EndOf (lengths : List ℕ) (k : ℕ) : Type 0 where
+  pub last : k + 1 ≡ segment_count lengths → first_hop lengths k + slice_index lengths k ≡ hop_count lengths
+  pub others : k + 1 < segment_count lengths → first_hop lengths k + slice_index lengths k < hop_count lengths
+
+pub end_of : (a b c k : ℕ) → are_lengths (a ∷ b ∷ c ∷ []) ≡ true → k < segment_count (a ∷ b ∷ c ∷ []) → EndOf (a ∷ b ∷ c ∷ []) k
+end_of a b c zero lawful there =
+    elim (length_case a b c lawful) [
+      | One some none nothing count ↦ record { last = λ e. omega (arith, e); others = λ lt. absurd (omega (arith, lt)) }
+      | Two some more nothing count ↦ record { last = λ e. absurd (omega (arith, e)); others = λ lt. omega (arith, lt) }
+      | Three some more most count ↦ record { last = λ e. absurd (omega (arith, e)); others = λ lt. omega (arith, lt) }
+    ]
+end_of a b c (suc zero) lawful there =
+    elim (length_case a b c lawful) [
+      | One some none nothing count ↦ absurd (omega arith)
+      | Two some more nothing count ↦ record { last = λ e. omega (arith, e); others = λ lt. absurd (omega (arith, lt)) }
+      | Three some more most count ↦ record { last = λ e. absurd (omega (arith, e)); others = λ lt. omega (arith, lt) }
+    ]
+end_of a b c (suc (suc zero)) lawful there =
+    elim (length_case a b c lawful) [
+      | One some none nothing count ↦ absurd (omega arith)
+      | Two some more nothing count ↦ absurd (omega arith)
+      | Three some more most count ↦ record { last = λ e. omega (arith, e); others = λ lt. absurd (omega (arith, lt)) }
+    ]
+end_of a b c (suc (suc (suc k))) lawful there =
+    elim (length_case a b c lawful) [
+      | One some none nothing count ↦ absurd (omega arith)
+      | Two some more nothing count ↦ absurd (omega arith)
+      | Three some more most count ↦ absurd (omega arith)
+    ]
+
+pub count_few : (a b c : ℕ) → are_lengths (a ∷ b ∷ c ∷ []) ≡ true → segment_count (a ∷ b ∷ c ∷ []) ≤ 3
+count_few a b c lawful =
+    elim (length_case a b c lawful) [
+      | One some none nothing count ↦ omega arith
+      | Two some more nothing count ↦ omega arith
+      | Three some more most count ↦ omega arith
+    ]

@@ -1,11 +1,11 @@
 -- What reading and spelling have to do with each other.
-use Rattle.std.specs.Prelude.{◌≡◌, ◌<◌, ℕ, ◌+◌, List, None, slice_index}
+use Rattle.std.specs.Prelude.{◌≡◌, ◌<◌, ℕ, ◌+◌, List, ◌++◌, ◌≤◌, ◌==◌, drop, length, None, slice_index, take}
 use Rattle.field_rows.specs.Place.{IsBytes}
-use Rattle.scion_packet.specs.Header.{HeaderFields, SpellsHeader, header_fault, header_of}
-use Rattle.scion_packet.specs.Lengths.{first_hop, hop_place, info_place, segment_count}
-use Rattle.scion_packet.specs.Path.{PathFields, SpellsPath, current_hop, current_info, hop_at, hop_number, info_at, lengths_of, path_fault, path_of, place_at}
-use Rattle.scion_packet.specs.Places.{hop_there, info_there}
-use Rattle.scion_packet.specs.Packet.{Packet, Spells, first_fault, packet_of}
+use Rattle.scion_packet.specs.Header.{HeaderFields, SpellsHeader, front_end, header_end, header_fault, header_of}
+use Rattle.scion_packet.specs.Lengths.{first_hop, hop_count, hop_place, info_place, segment_count}
+use Rattle.scion_packet.specs.Path.{PathFields, SpellsPath, current_hop, current_info, hop_at, hop_number, info_at, lengths_of, path_fault, path_of, path_text, place_at}
+use Rattle.scion_packet.specs.Places.{hop_there, info_there, is_last_of_path}
+use Rattle.scion_packet.specs.Packet.{Packet, Spells, first_fault, packet_of, spelling}
 
 -- What passes all tests spells what is read from it, byte for byte; what spells anything passes all
 -- tests; and it spells nothing but what is read from it.
@@ -24,6 +24,14 @@ pub record PacketLaws : Type 0 where
   pub passes : (bytes : List ℕ) (p : Packet) → Spells bytes p → first_fault bytes ≡ None
   pub only : (bytes : List ℕ) (p : Packet) → Spells bytes p → p ≡ packet_of bytes
 
+-- A datagram with the bytes of its path written over by those of another one of their length spells its packet with
+-- that path.
+abbrev pub PathWrittenOver : Type 0
+PathWrittenOver =
+    (bytes new path : List ℕ) (q : PathFields) → IsBytes bytes → first_fault bytes ≡ None → path ≡ path_text q
+    → new ≡ take (front_end bytes) bytes ++ (path ++ drop (header_end bytes) bytes)
+    → new ≡ spelling (record (packet_of bytes) { path = q })
+
 -- In the bytes of a path that passes all tests, the info field and the hop field at any place stand at
 -- one offset each, and the current ones at the offsets that the cursor names: whoever wants one reads
 -- nothing else.
@@ -33,6 +41,11 @@ pub record FieldsStand (path : List ℕ) : Type 0 where
       → hop_there (path_of path).segments (place_at k i) ≡ hop_at path (hop_place (lengths_of path) (first_hop (lengths_of path) k + i))
   pub current_info_field : info_there (path_of path).segments (path_of path).place ≡ info_at path (info_place (current_info path))
   pub current_hop_field : hop_there (path_of path).segments (path_of path).place ≡ hop_at path (hop_place (lengths_of path) (current_hop path))
+  pub there : current_info path < length (path_of path).segments
+  pub few : length (path_of path).segments ≤ 3
+  pub info_room : info_place (current_info path) + 8 ≤ length path
+  pub hop_room : hop_place (lengths_of path) (current_hop path) + 12 ≤ length path
+  pub last : is_last_of_path (path_of path).segments (path_of path).place ≡ (current_hop path + 1 == hop_count (lengths_of path))
   pub current_hop_number : hop_number (path_of path).segments (path_of path).place ≡ current_hop path
 
 abbrev pub OffsetLaws : Type 0

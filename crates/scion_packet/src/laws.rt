@@ -1,6 +1,6 @@
 //! The laws of reading and spelling: nothing here runs.
 
-ghost use Rattle.scion_packet.specs.Laws.{HeaderLaws, OffsetLaws, PacketLaws, PathLaws};
+ghost use Rattle.scion_packet.specs.Laws.{HeaderLaws, OffsetLaws, PacketLaws, PathLaws, PathWrittenOver};
 
 /// A datagram that passes the header's tests begins with the header that is read from it; one that
 /// begins with any header passes them, and begins with no other.
@@ -24,4 +24,10 @@ pub fn packet_laws()
 /// bytes, the current ones at those that the cursor names.
 pub fn offset_laws()
     ensures { OffsetLaws }
+{}
+
+/// A datagram whose path is written over where it lies spells its packet with the new path, and the
+/// rest of it as it was.
+pub fn path_written_over()
+    ensures { PathWrittenOver }
 {}

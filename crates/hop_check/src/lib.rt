@@ -1,0 +1,15 @@
+//! The check of one hop field: how long it is good for, the MAC by which the AS authorised it, and the
+//! chaining of segment identifiers from hop to hop (draft-dekater-scion-dataplane, "Path
+//! Authorization").
+//!
+//! It knows one info field and one hop field, and no link, no configuration and no clock: the moment is
+//! handed in. Nothing here takes memory.
+#![tactic(auto)]
+
+mod expiry;
+mod mac;
+#[cfg(test)]
+mod tests;
+
+pub use expiry::expired;
+pub use mac::{chain, mac_input, verify};

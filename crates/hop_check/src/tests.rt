@@ -1,0 +1,67 @@
+//! Values from outside: a hop field whose MAC was made by OpenSSL, and moments by hand.
+
+use super::*;
+use cmac_core::Cmac;
+use path_fields::{Hop, Info};
+
+const KEY: [u8; 16] = [
+    0x2b, 0x7e, 0x15, 0x16, 0x28, 0xae, 0xd2, 0xa6, 0xab, 0xf7, 0x15, 0x88, 0x09, 0xcf, 0x4f, 0x3c,
+];
+
+fn info() -> Info {
+    Info {
+        reserved_flags: 0,
+        along: true,
+        reserved: 0,
+        segment_id: 0x1234,
+        timestamp: 1694498816,
+    }
+}
+
+fn hop(expiry: u8, mac: [u8; 6]) -> Hop {
+    Hop {
+        reserved_flags: 0,
+        ingress_alert: false,
+        egress_alert: false,
+        expiry,
+        construction_ingress: 1,
+        construction_egress: 2,
+        mac,
+    }
+}
+
+#[test]
+fn makes_the_input(rt: HostRuntime) {
+    let input = mac_input(&info(), &hop(0x3f, [0; 6]));
+    let wanted = [0, 0, 0x12, 0x34, 0x65, 0, 0, 0, 0, 0x3f, 0, 1, 0, 2, 0, 0];
+    assert!(rt; input == wanted);
+}
+
+#[test]
+fn compares_all_six_bytes(rt: HostRuntime) {
+    let cmac = Cmac::new(&KEY);
+    let mac = [0x0e, 0x66, 0xd2, 0x97, 0x45, 0x36];
+    assert!(rt; verify(&cmac, &info(), &hop(0x3f, mac)));
+    for place in 0..6 {
+        let mut other = mac;
+        other[place] ^= 1;
+        assert!(rt; !verify(&cmac, &info(), &hop(0x3f, other)), "byte {place}");
+    }
+    assert_eq!(rt; chain(0x1234, &mac), 0x1c52);
+    assert_eq!(rt; chain(0x1c52, &mac), 0x1234);
+}
+
+#[test]
+fn expires_behind_the_last_moment(rt: HostRuntime) {
+    // An expiry, and the last second at which it is good, counted from the timestamp.
+    for (expiry, last) in [(0x3f, 21600), (0, 337), (255, 86400)] {
+        let end = 1694498816 + last;
+        assert!(rt; !expired(&info(), &hop(expiry, [0; 6]), end), "at {last}");
+        assert!(rt;
+            expired(&info(), &hop(expiry, [0; 6]), end + 1),
+            "behind {last}"
+        );
+    }
+    assert!(rt; expired(&info(), &hop(255, [0; 6]), u64::MAX));
+    assert!(rt; !expired(&info(), &hop(0, [0; 6]), 0));
+}

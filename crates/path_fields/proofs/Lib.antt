@@ -1,0 +1,6 @@
+mod ReadingLemmas
+mod SegmentLemmas
+mod PlaceLemmas
+mod LawLemmas
+mod WritingLemmas
+mod InPlaceLemmas

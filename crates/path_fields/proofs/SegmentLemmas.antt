@@ -1,0 +1,322 @@
+-- What a path's info fields and hop fields are once they are cut into segments.
+use Rattle.std.proofs.Common.{◌≡◌, ◌≤◌, ◌<◌, ℕ, zero, suc, ◌+◌, true, leb, eqb, cond, Bool, false, ◌&&◌, ◌||◌, List, [], ◌∷◌, ◌++◌, length, map, take, drop, slice_index, ◌⊎◌, inl, inr, refl, sym, ap, ap₂, ◌∙◌, arith, length-drop}
+use Rattle.std.specs.List.{AllByRecursion, flat_map}
+use Rattle.std.proofs.lemmas.Bool.{cases_eq, cases_lt, lt-ltb, le-ltb, eq-eqb, ne_eqb, leb-true, eqb-true, and_parts, or_cases, cond-true, cond-false}
+use Rattle.std.proofs.lemmas.List.{append-nil, drop-drop, length-map, length-take-le, take-append-drop, take_all}
+use Rattle.std.proofs.lemmas.List.Concat.{flat_map-append}
+use Rattle.std.proofs.lemmas.List.Folds.{flat_map-map}
+use Rattle.field_rows.specs.Row.{Fits, rows}
+use Rattle.scion_packet.specs.Lengths.{are_lengths, first_hop, hop_count, segment_count, segment_of}
+use Rattle.scion_packet.specs.Path.{IsHop, IsPath, IsSegment, Segment, bit, count_hops, hop_number, hop_text, hops_in, hops_text, info_table, infos_text}
+use Rattle.path_fields.specs.Fields.{hop_field, info_field}
+use Rattle.path_fields.specs.Laws.{InItsSegment}
+use Rattle.path_fields.specs.Path.{fields_of, place, segments, segments_from}
+use Rattle.path_fields.specs.declared.fields.Info.{Info}
+use Rattle.path_fields.specs.declared.fields.Hop.{Hop}
+use Rattle.path_fields.specs.declared.path.Path.{Path}
+
+-- ---- how many segments there are, by which lengths are 0
+
+rest_none : (b c : ℕ) → (leb 1 b || eqb c 0) ≡ true → b ≡ 0 → c ≡ 0
+rest_none b c some none =
+    elim (or_cases (leb 1 b) (eqb c 0) some) [
+      | inl more ↦ let one : 1 ≤ b = leb-true 1 b more in absurd (omega arith)
+      | inr nothing ↦ eqb-true c 0 nothing
+    ]
+
+pub some_hops : (lengths : List ℕ) → are_lengths lengths ≡ true → (1 ≤ slice_index lengths 0) × (hop_count lengths ≤ 64)
+some_hops lengths lawful =
+    let parts = and_parts (leb 1 (slice_index lengths 0) && (leb 1 (slice_index lengths 1) || eqb (slice_index lengths 2) 0)) (leb (hop_count lengths) 64) lawful in
+    let front = and_parts (leb 1 (slice_index lengths 0)) (leb 1 (slice_index lengths 1) || eqb (slice_index lengths 2) 0) parts.0 in
+    (leb-true 1 (slice_index lengths 0) front.0, leb-true (hop_count lengths) 64 parts.1)
+
+pub count_cases : (lengths : List ℕ) → are_lengths lengths ≡ true
+    → ((slice_index lengths 1 ≡ 0) × (slice_index lengths 2 ≡ 0) × (segment_count lengths ≡ 1))
+    ⊎ (((0 < slice_index lengths 1) × (slice_index lengths 2 ≡ 0) × (segment_count lengths ≡ 2)) ⊎ ((0 < slice_index lengths 1) × (0 < slice_index lengths 2) × (segment_count lengths ≡ 3)))
+count_cases lengths lawful =
+    let b = slice_index lengths 1 in
+    let c = slice_index lengths 2 in
+    let some : (leb 1 b || eqb c 0) ≡ true = (and_parts (leb 1 (slice_index lengths 0)) (leb 1 b || eqb c 0) (and_parts (leb 1 (slice_index lengths 0) && (leb 1 b || eqb c 0)) (leb (hop_count lengths) 64) lawful).0).1 in
+    elim (cases_eq b 0) [
+      | inl none ↦ inl (none, rest_none b c some none, cond-true (eqb b 0) 1 (cond (eqb c 0) 2 3) (eq-eqb b 0 none))
+      | inr is ↦
+          let b-some : 0 < b = omega arith in
+          let two : segment_count lengths ≡ cond (eqb c 0) 2 3 = cond-false (eqb b 0) 1 (cond (eqb c 0) 2 3) (ne_eqb b 0 is) in
+          elim (cases_eq c 0) [
+            | inl none ↦ inr (inl (b-some, none, two ∙ cond-true (eqb c 0) 2 3 (eq-eqb c 0 none)))
+            | inr more ↦ inr (inr (b-some, (omega arith), two ∙ cond-false (eqb c 0) 2 3 (ne_eqb c 0 more)))
+          ]
+    ]
+
+-- ---- the sizes of the segments
+
+-- the list of segments has the sizes that the lengths say
+pub record HasSizes (ss : List Segment) (lengths : List ℕ) : Type 0 where
+  pub count : length ss ≡ segment_count lengths
+  pub first : hops_in ss 0 ≡ slice_index lengths 0
+  pub second : hops_in ss 1 ≡ slice_index lengths 1
+  pub third : hops_in ss 2 ≡ slice_index lengths 2
+
+from_len : (k : ℕ) (lengths : List ℕ) (infos : List Info) (hops : List Hop) → length (segments_from k lengths infos hops) ≡ length infos
+from_len k lengths [] hops = refl
+from_len k lengths (i ∷ infos) hops = ap suc (from_len (k + 1) lengths infos hops)
+
+hops_in_from : (k j n : ℕ) (lengths : List ℕ) (infos : List Info) (hops : List Hop) → n ≡ k + j → j < length infos → first_hop lengths n + slice_index lengths n ≤ length hops
+    → hops_in (segments_from k lengths infos hops) j ≡ slice_index lengths n
+hops_in_from k j n lengths [] hops n-is there room = absurd (omega arith)
+hops_in_from k zero n lengths (i ∷ infos) hops n-is there room =
+    let e : k ≡ n = omega arith in
+    rw e (length-map (take (slice_index lengths n) (drop (first_hop lengths n) hops)) hop_field
+    ∙ length-take-le (slice_index lengths n) (drop (first_hop lengths n) hops) (omega (arith, length-drop (first_hop lengths n) hops)))
+hops_in_from k (suc j) n lengths (i ∷ infos) hops n-is there room = hops_in_from (k + 1) j n lengths infos hops (omega arith) (omega arith) room
+
+none_behind : (k j : ℕ) (lengths : List ℕ) (infos : List Info) (hops : List Hop) → length infos ≤ j → hops_in (segments_from k lengths infos hops) j ≡ 0
+none_behind k j lengths [] hops behind = refl
+none_behind k zero lengths (i ∷ infos) hops behind = absurd (omega arith)
+none_behind k (suc j) lengths (i ∷ infos) hops behind = none_behind (k + 1) j lengths infos hops (omega arith)
+
+-- a path's segments have the sizes of its lengths
+pub path_sizes : (p : Path) → HasSizes (segments p) p.lengths
+path_sizes p =
+    let l = p.lengths in
+    let infos = p.infos.items in
+    let hops = p.hops.items in
+    let count = from_len 0 l infos hops ∙ p.has_infos in
+    let first = hops_in_from 0 0 0 l infos hops refl in
+    let second = hops_in_from 0 1 1 l infos hops refl in
+    let third = hops_in_from 0 2 2 l infos hops refl in
+    elim (count_cases l p.lengths_are_lawful) [
+      | inl one ↦ record {
+        count = count;
+        first = first (omega (arith, p.has_infos, one.2)) (omega (arith, p.has_hops));
+        second = none_behind 0 1 l infos hops (omega (arith, p.has_infos, one.2)) ∙ sym one.0;
+        third = none_behind 0 2 l infos hops (omega (arith, p.has_infos, one.2)) ∙ sym one.1;
+      }
+      | inr more ↦ elim more [
+        | inl two ↦ record {
+          count = count;
+          first = first (omega (arith, p.has_infos, two.2)) (omega (arith, p.has_hops));
+          second = second (omega (arith, p.has_infos, two.2)) (omega (arith, p.has_hops));
+          third = none_behind 0 2 l infos hops (omega (arith, p.has_infos, two.2)) ∙ sym two.1;
+        }
+        | inr three ↦ record {
+          count = count;
+          first = first (omega (arith, p.has_infos, three.2)) (omega (arith, p.has_hops));
+          second = second (omega (arith, p.has_infos, three.2)) (omega (arith, p.has_hops));
+          third = third (omega (arith, p.has_infos, three.2)) (omega (arith, p.has_hops));
+        }
+      ]
+    ]
+
+-- ---- the number of a hop
+
+-- as many hops stand before a segment as its first one says
+pub hops_before : (ss : List Segment) (lengths : List ℕ) (k : ℕ) → HasSizes ss lengths → k < 3 → k < length ss → count_hops (take k ss) ≡ first_hop lengths k
+hops_before [] lengths k sizes few there = absurd (omega arith)
+hops_before (s ∷ ss) lengths zero sizes few there = refl
+hops_before (s ∷ ss) lengths (suc zero) sizes few there = omega (arith, sizes.first)
+hops_before (s ∷ []) lengths (suc (suc zero)) sizes few there = absurd (omega arith)
+hops_before (s ∷ t ∷ ss) lengths (suc (suc zero)) sizes few there = omega (arith, sizes.first, sizes.second)
+hops_before (s ∷ ss) lengths (suc (suc (suc k))) sizes few there = absurd (omega arith)
+
+pub all_hops : (ss : List Segment) (lengths : List ℕ) → HasSizes ss lengths → length ss ≤ 3 → count_hops ss ≡ hop_count lengths
+all_hops [] lengths sizes few = omega (arith, sizes.first, sizes.second, sizes.third)
+all_hops (s ∷ []) lengths sizes few = omega (arith, sizes.first, sizes.second, sizes.third)
+all_hops (s ∷ t ∷ []) lengths sizes few = omega (arith, sizes.first, sizes.second, sizes.third)
+all_hops (s ∷ t ∷ u ∷ []) lengths sizes few = omega (arith, sizes.first, sizes.second, sizes.third)
+all_hops (s ∷ t ∷ u ∷ v ∷ ss) lengths sizes few = absurd (omega arith)
+
+pub few_segments : (p : Path) → (1 ≤ length (segments p)) × (length (segments p) ≤ 3)
+few_segments p =
+    let count = (path_sizes p).count in
+    elim (count_cases p.lengths p.lengths_are_lawful) [
+      | inl one ↦ (omega (arith, count, one.2), omega (arith, count, one.2))
+      | inr more ↦ elim more [ inl two ↦ (omega (arith, count, two.2), omega (arith, count, two.2)) | inr three ↦ (omega (arith, count, three.2), omega (arith, count, three.2)) ]
+    ]
+
+-- ---- the texts
+
+pub infos_are : (k : ℕ) (lengths : List ℕ) (infos : List Info) (hops : List Hop)
+    → infos_text (segments_from k lengths infos hops) ≡ flat_map (λ i. rows (info_table (info_field i))) infos
+infos_are k lengths [] hops = refl
+infos_are k lengths (i ∷ infos) hops = ap (λ t. rows (info_table (info_field i)) ++ t) (infos_are (k + 1) lengths infos hops)
+
+abbrev text_of : List Hop → List ℕ
+text_of hops = flat_map (λ h. hop_text (hop_field h)) hops
+
+one_part : (hops : List Hop) → flat_map hop_text (map hop_field hops) ≡ text_of hops
+one_part hops = flat_map-map hop_text hop_field hops
+
+one_segment : (a : ℕ) (hops : List Hop) → length hops ≤ a → flat_map hop_text (map hop_field (take a hops)) ++ [] ≡ text_of hops
+one_segment a hops all = append-nil _ ∙ one_part (take a hops) ∙ ap text_of (take_all a hops all)
+
+-- what stands before a place of the list, and what stands behind it
+two_parts : (a : ℕ) (hops : List Hop) (rest : List ℕ) → rest ≡ text_of (drop a hops) → flat_map hop_text (map hop_field (take a hops)) ++ rest ≡ text_of hops
+two_parts a hops rest rest-is =
+    ap₂ (λ t u. t ++ u) (one_part (take a hops)) rest-is
+    ∙ sym (flat_map-append (λ h. hop_text (hop_field h)) (take a hops) (drop a hops))
+    ∙ ap text_of (take-append-drop a hops)
+
+three_texts : (lengths : List ℕ) (infos : List Info) (hops : List Hop) → 1 ≤ length infos → length infos ≤ 3 → length hops ≡ hop_count lengths
+    → (length infos ≤ 1 → slice_index lengths 1 ≡ 0) → (length infos ≤ 2 → slice_index lengths 2 ≡ 0) → hops_text (segments_from 0 lengths infos hops) ≡ text_of hops
+three_texts lengths [] hops some few len one two = absurd (omega arith)
+three_texts lengths (i ∷ []) hops some few len one two =
+    let none : slice_index lengths 1 ≡ 0 = one (omega arith) in
+    let none' : slice_index lengths 2 ≡ 0 = two (omega arith) in
+    one_segment (slice_index lengths 0) hops (omega arith)
+three_texts lengths (i ∷ j ∷ []) hops some few len one two =
+    let a = slice_index lengths 0 in
+    let none : slice_index lengths 2 ≡ 0 = two (omega arith) in
+    two_parts a hops _ (one_segment (slice_index lengths 1) (drop a hops) (omega (arith, length-drop a hops)))
+three_texts lengths (i ∷ j ∷ k ∷ []) hops some few len one two =
+    let a = slice_index lengths 0 in
+    let b = slice_index lengths 1 in
+    let third = one_segment (slice_index lengths 2) (drop (a + b) hops) (omega (arith, length-drop (a + b) hops)) ∙ ap text_of (sym (drop-drop b a hops)) in
+    two_parts a hops _ (two_parts b (drop a hops) _ third)
+three_texts lengths (i ∷ j ∷ k ∷ l ∷ infos) hops some few len one two = absurd (omega arith)
+
+pub hops_are : (p : Path) → hops_text (segments p) ≡ text_of p.hops.items
+hops_are p =
+    let few = few_segments p in
+    let same = from_len 0 p.lengths p.infos.items p.hops.items in
+    let some : 1 ≤ length p.infos.items = omega (arith, few.0, same) in
+    let three : length p.infos.items ≤ 3 = omega (arith, few.1, same) in
+    let texts = three_texts p.lengths p.infos.items p.hops.items some three p.has_hops in
+    elim (count_cases p.lengths p.lengths_are_lawful) [
+      | inl one ↦ texts (λ le. one.0) (λ le. one.1)
+      | inr more ↦ elim more [
+        | inl two ↦ texts (λ le. absurd (omega (arith, le, p.has_infos, two.2))) (λ le. two.1)
+        | inr three ↦ texts (λ le. absurd (omega (arith, le, p.has_infos, three.2))) (λ le. absurd (omega (arith, le, p.has_infos, three.2)))
+      ]
+    ]
+
+-- ---- the current hop
+
+pub in_first : (lengths : List ℕ) (h : ℕ) → h < slice_index lengths 0 → segment_of lengths h ≡ 0
+in_first lengths h lt = cond-true _ _ _ (lt-ltb _ _ lt)
+
+pub in_second : (lengths : List ℕ) (h : ℕ) → slice_index lengths 0 ≤ h → h < slice_index lengths 0 + slice_index lengths 1 → segment_of lengths h ≡ 1
+in_second lengths h ge lt = cond-false _ _ _ (le-ltb _ _ ge) ∙ cond-true _ _ _ (lt-ltb _ _ lt)
+
+pub in_third : (lengths : List ℕ) (h : ℕ) → slice_index lengths 0 + slice_index lengths 1 ≤ h → segment_of lengths h ≡ 2
+in_third lengths h ge =
+    let above : slice_index lengths 0 ≤ h = omega arith in
+    cond-false _ _ _ (le-ltb _ _ above) ∙ cond-false _ _ _ (le-ltb _ _ ge)
+
+-- a hop of a path is one of the hops of its segment
+pub in_segment : (lengths : List ℕ) (h : ℕ) → are_lengths lengths ≡ true → h < hop_count lengths → InItsSegment lengths h
+in_segment lengths h lawful there =
+    let a = slice_index lengths 0 in
+    let b = slice_index lengths 1 in
+    let cases = count_cases lengths lawful in
+    elim (cases_lt h a) [
+      | inl lt ↦
+          let e = in_first lengths h lt in
+          let some : 0 < segment_count lengths = elim cases [ inl one ↦ omega (arith, one.2) | inr more ↦ elim more [ inl two ↦ omega (arith, two.2) | inr three ↦ omega (arith, three.2) ] ] in
+          record { there = rw e some; behind = rw e (omega arith); inside = rw e (omega arith) }
+      | inr ge ↦ elim (cases_lt h (a + b)) [
+        | inl lt ↦
+            let e = in_second lengths h ge lt in
+            let some : 1 < segment_count lengths = elim cases [ inl one ↦ absurd (omega (arith, one.0)) | inr more ↦ elim more [ inl two ↦ omega (arith, two.2) | inr three ↦ omega (arith, three.2) ] ] in
+            record { there = rw e some; behind = rw e (omega arith); inside = rw e (omega arith) }
+        | inr beyond ↦
+            let e = in_third lengths h beyond in
+            let some : 2 < segment_count lengths = elim cases [ inl one ↦ absurd (omega (arith, one.0, one.1)) | inr more ↦ elim more [ inl two ↦ absurd (omega (arith, two.1)) | inr three ↦ omega (arith, three.2) ] ] in
+            record { there = rw e some; behind = rw e (omega arith); inside = rw e (omega arith) }
+      ]
+    ]
+
+pub its_segment : (p : Path) → InItsSegment p.lengths p.current_hop
+its_segment p = in_segment p.lengths p.current_hop p.lengths_are_lawful p.current_hop_is_there
+
+-- the number of the current hop is that of its place
+pub number_is : (p : Path) → hop_number (segments p) (place p) ≡ p.current_hop
+number_is p =
+    let its = its_segment p in
+    let sizes = path_sizes p in
+    let info-is = p.current_info_is_its in
+    let few = few_segments p in
+    let there : p.current_info < length (segments p) = omega (arith, its.there, info-is, sizes.count) in
+    let before = hops_before (segments p) p.lengths p.current_info sizes (omega (arith, few.1)) there in
+    let behind : first_hop p.lengths p.current_info ≤ p.current_hop = rw info-is its.behind in
+    omega (arith, before, behind)
+
+hops_in_is : (ss : List Segment) (lengths : List ℕ) (k : ℕ) → HasSizes ss lengths → k < 3 → hops_in ss k ≡ slice_index lengths k
+hops_in_is ss lengths zero sizes few = sizes.first
+hops_in_is ss lengths (suc zero) sizes few = sizes.second
+hops_in_is ss lengths (suc (suc zero)) sizes few = sizes.third
+hops_in_is ss lengths (suc (suc (suc k))) sizes few = absurd (omega arith)
+
+-- ---- a path is lawful
+
+bit-lt : (b : Bool) → bit b < 2
+bit-lt true = omega arith
+bit-lt false = omega arith
+
+info_fits : (i : Info) → Fits (info_table (info_field i))
+info_fits i = ((i.reserved_flags_fit, (omega arith, (bit-lt i.along, tt))), ((i.reserved_fits, tt), ((i.segment_id_fits, tt), ((i.timestamp_fits, tt), tt))))
+
+is_hop : (h : Hop) → IsHop (hop_field h)
+is_hop h = record {
+  fits = ((h.reserved_flags_fit, (bit-lt h.ingress_alert, (bit-lt h.egress_alert, tt))), ((h.expiry_fits, tt), ((h.construction_ingress_fits, tt), ((h.construction_egress_fits, tt), tt))));
+  mac_len = h.mac_is_whole;
+}
+
+are_hops : (hops : List Hop) → AllByRecursion IsHop (map hop_field hops)
+are_hops [] = tt
+are_hops (h ∷ hops) = (is_hop h, are_hops hops)
+
+are_segments : (k : ℕ) (lengths : List ℕ) (infos : List Info) (hops : List Hop)
+    → ((j : ℕ) → k ≤ j → j < k + length infos → (1 ≤ slice_index lengths j) × (first_hop lengths j + slice_index lengths j ≤ length hops))
+    → AllByRecursion IsSegment (segments_from k lengths infos hops)
+are_segments k lengths [] hops lens = tt
+are_segments k lengths (i ∷ infos) hops lens =
+    let here = lens k (omega arith) (omega arith) in
+    let m = slice_index lengths k in
+    let a = first_hop lengths k in
+    let len : length (take m (drop a hops)) ≡ m = length-take-le m (drop a hops) (omega (arith, here.1, length-drop a hops)) in (
+      record {
+        info = info_fits i;
+        hops = are_hops (take m (drop a hops));
+        some = omega (arith, length-map (take m (drop a hops)) hop_field, len, here.0);
+      },
+      are_segments (k + 1) lengths infos hops (λ j from below. lens j (omega (arith, from)) (omega (arith, below))),
+    )
+
+each_length : (lengths : List ℕ) (n j : ℕ) → are_lengths lengths ≡ true → n ≡ hop_count lengths → j < segment_count lengths
+    → (1 ≤ slice_index lengths j) × (first_hop lengths j + slice_index lengths j ≤ n)
+each_length lengths n zero lawful n-is below = ((some_hops lengths lawful).0, omega arith)
+each_length lengths n (suc zero) lawful n-is below = (
+  elim (count_cases lengths lawful) [ inl one ↦ absurd (omega (arith, below, one.2)) | inr more ↦ elim more [ inl two ↦ two.0 | inr three ↦ three.0 ] ],
+  omega arith,
+)
+each_length lengths n (suc (suc zero)) lawful n-is below = (
+  elim (count_cases lengths lawful) [ inl one ↦ absurd (omega (arith, below, one.2)) | inr more ↦ elim more [ inl two ↦ absurd (omega (arith, below, two.2)) | inr three ↦ three.1 ] ],
+  omega arith,
+)
+each_length lengths n (suc (suc (suc j))) lawful n-is below =
+    absurd (elim (count_cases lengths lawful) [ inl one ↦ omega (arith, below, one.2) | inr more ↦ elim more [ inl two ↦ omega (arith, below, two.2) | inr three ↦ omega (arith, below, three.2) ] ])
+
+pub lawful : (p : Path) → IsPath (fields_of p)
+lawful p =
+    let its = its_segment p in
+    let sizes = path_sizes p in
+    let few = few_segments p in
+    let some = some_hops p.lengths p.lengths_are_lawful in
+    let info-is = p.current_info_is_its in
+    let info-lt : p.current_info < 3 = omega (arith, its.there, info-is, sizes.count, few.1) in
+    let behind : first_hop p.lengths p.current_info ≤ p.current_hop = rw info-is its.behind in
+    let within : p.current_hop < first_hop p.lengths p.current_info + slice_index p.lengths p.current_info = rw info-is its.inside in
+    let size = hops_in_is (segments p) p.lengths p.current_info sizes info-lt in
+    let hop-lt : hop_number (segments p) (place p) < 64 = omega (arith, number_is p, p.current_hop_is_there, some.1) in
+    record {
+      meta = (
+        (omega arith, (hop-lt, tt)),
+        ((p.reserved_fits, (omega (arith, sizes.first, p.lengths_fit.0), (omega (arith, sizes.second, p.lengths_fit.1), (omega (arith, sizes.third, p.lengths_fit.2), tt)))), tt),
+      );
+      segments = are_segments 0 p.lengths p.infos.items p.hops.items (λ j from below. each_length p.lengths (length p.hops.items) j p.lengths_are_lawful p.has_hops (omega (arith, below, p.has_infos)));
+      some = few.0;
+      few = few.1;
+      hops = omega (arith, all_hops (segments p) p.lengths sizes few.1, some.1);
+      inside = omega (arith, size, within, behind);
+    }

@@ -1,0 +1,8 @@
+use Rattle.std.proofs.Common.{◌+◌, arith}
+use Rattle.field_rows.proofs.Rows.{Puts-next}
+use Rattle.path_fields.proofs.writing.write_info.Goals as goal
+
+pub returns : goal.returns
+returns c =
+    let at = c.args.at in
+    Puts-next _ _ _ at (at + 1) _ _ (rw c.flags_of.ensures at c.put_u8.ensures) (Puts-next _ _ _ (at + 1) (at + 2) _ _ c.put_u8-2.ensures (Puts-next _ _ _ (at + 2) (at + 4) _ _ c.put_u16.ensures c.put_u32.ensures (omega arith)) (omega arith)) (omega arith)

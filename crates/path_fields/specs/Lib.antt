@@ -1,0 +1,5 @@
+pub mod Fields
+pub mod Path
+pub mod Fault
+pub mod InPlace
+pub mod Laws

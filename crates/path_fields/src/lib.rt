@@ -1,0 +1,30 @@
+//! A SCION path: its info fields, its hop fields and the cursor at its current hop, read, written and
+//! moved exactly (draft-dekater-scion-dataplane, "SCION Path Type").
+//!
+//! A path is read as a whole into a `Path`, or field by field where it lies: `check_path` makes all
+//! tests, and `read_info`, `read_hop`, `set_cursor` and `set_seg_id` cost the same for a path of one
+//! hop and of 64. What is read is the plain record of `scion_packet`, and what is written is its text.
+#![tactic(auto)]
+
+mod fault;
+mod fields;
+mod in_place;
+mod laws;
+mod lengths;
+mod meta;
+mod moves;
+mod path;
+mod reading;
+#[cfg(test)]
+mod tests;
+mod writing;
+
+pub use fault::{NoRoom, PathEnd, PathFault};
+pub use fields::{Hop, Info};
+pub use in_place::{set_cursor, set_seg_id};
+pub use laws::{hop_stands, in_its_segment, info_stands, lawful};
+pub use meta::{Meta, check_path, read_meta};
+pub use moves::advance;
+pub use path::Path;
+pub use reading::{read_hop, read_info, read_path};
+pub use writing::write_path;

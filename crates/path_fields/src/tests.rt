@@ -1,0 +1,139 @@
+use crate::{
+    Hop, Info, Meta, NoRoom, PathEnd, PathFault, advance, check_path, hop_stands, in_its_segment,
+    info_stands, lawful, read_hop, read_info, read_meta, read_path, set_cursor, set_seg_id,
+    write_path,
+};
+use std::test::Fail;
+
+/// One segment of three hops, travelled along; the cursor is at the second.
+const PATH: [u8; 48] = *b"\x01\x00\x30\x00\x01\x00\x12\x34\x65\x00\x00\x00\
+    \x00\x3f\x00\x00\x00\x11\xa0\xa1\xa2\xa3\xa4\xa5\
+    \x00\x3f\x00\x01\x00\x02\xc0\xc1\xc2\xc3\xc4\xc5\
+    \x00\x3f\x00\x12\x00\x00\xb0\xb1\xb2\xb3\xb4\xb5";
+
+fn hop(construction_ingress: u16, construction_egress: u16, mac: [u8; 6]) -> Hop {
+    Hop {
+        reserved_flags: 0,
+        ingress_alert: false,
+        egress_alert: false,
+        expiry: 63,
+        construction_ingress,
+        construction_egress,
+        mac,
+    }
+}
+
+fn info() -> Info {
+    Info {
+        reserved_flags: 0,
+        along: true,
+        reserved: 0,
+        segment_id: 0x1234,
+        timestamp: 0x6500_0000,
+    }
+}
+
+#[test]
+fn reads_and_writes_a_path(rt: HostRuntime) -> Result<(), Fail> {
+    let path = read_path(&PATH)?;
+    assert_eq!(rt;
+        (path.current_info, path.current_hop, path.reserved),
+        (0, 1, 0)
+    );
+    assert_eq!(rt; path.lengths, [3, 0, 0]);
+    assert_eq!(rt; path.infos.as_slice(), [info()].as_slice());
+    let hops = [
+        hop(0, 17, [0xa0, 0xa1, 0xa2, 0xa3, 0xa4, 0xa5]),
+        hop(1, 2, [0xc0, 0xc1, 0xc2, 0xc3, 0xc4, 0xc5]),
+        hop(18, 0, [0xb0, 0xb1, 0xb2, 0xb3, 0xb4, 0xb5]),
+    ];
+    assert_eq!(rt; path.hops.as_slice(), hops.as_slice());
+    let mut room = [0x55; 50];
+    assert_eq!(rt; write_path(&path, &mut room[..47]), Err(NoRoom));
+    assert_eq!(rt; write_path(&path, &mut room), Ok(48));
+    let mut written = [0x55; 50];
+    written[..48].copy_from_slice(&PATH);
+    assert_eq!(rt; room, written);
+    lawful();
+    Ok(())
+}
+
+#[test]
+fn reads_one_field(rt: HostRuntime) {
+    let meta = Meta {
+        current_info: 0,
+        current_hop: 1,
+        reserved: 0,
+        lengths: [3, 0, 0],
+    };
+    assert_eq!(rt; read_meta(&PATH), meta);
+    assert_eq!(rt; check_path(&PATH), Ok(meta));
+    assert_eq!(rt;
+        (meta.segment_count(), meta.hop_count(), meta.path_len()),
+        (1, 3, 48)
+    );
+    assert_eq!(rt; (meta.segment_of(2), meta.first_hop(0)), (0, 0));
+    assert_eq!(rt; (meta.hops_place(), meta.hop_place(1)), (12, 24));
+    assert_eq!(rt; read_info(&PATH, 0), info());
+    assert_eq!(rt;
+        read_hop(&PATH, 24),
+        hop(1, 2, [0xc0, 0xc1, 0xc2, 0xc3, 0xc4, 0xc5])
+    );
+    info_stands();
+    hop_stands();
+    in_its_segment();
+}
+
+#[test]
+fn refuses_what_is_no_path(rt: HostRuntime) {
+    for len in [0, 3, 44, 47] {
+        assert_eq!(rt;
+            check_path(&PATH[..len]),
+            Err(PathFault::Header),
+            "{len} bytes"
+        );
+    }
+    let metas = [
+        [0x01, 0x00, 0x00, 0xc0],
+        [0x41, 0x00, 0x30, 0x00],
+        [0x01, 0x03, 0xf0, 0x80],
+        [0x03, 0x00, 0x30, 0x00],
+    ];
+    for meta in metas {
+        let mut path = PATH;
+        path[..4].copy_from_slice(&meta);
+        assert_eq!(rt; check_path(&path), Err(PathFault::Path), "{meta:?}");
+    }
+    let mut path = PATH;
+    path[4] = 0x03;
+    assert_eq!(rt; check_path(&path), Err(PathFault::Peering));
+}
+
+#[test]
+fn moves_over_three_segments(rt: HostRuntime) -> Result<(), Fail> {
+    // one hop, two and one
+    let mut bytes = [0; 76];
+    bytes[..4].copy_from_slice(&[0x00, 0x00, 0x10, 0x81]);
+    let mut path = read_path(&bytes)?;
+    for place in [(1, 1), (1, 2), (2, 3)] {
+        assert_eq!(rt; advance(&mut path), Ok(()));
+        assert_eq!(rt; (path.current_info, path.current_hop), place);
+    }
+    assert_eq!(rt; advance(&mut path), Err(PathEnd));
+    assert_eq!(rt; (path.current_info, path.current_hop), (2, 3));
+    Ok(())
+}
+
+#[test]
+fn sets_fields_in_place(rt: HostRuntime) {
+    // two segments of two hops, the cursor moved from the second hop to the third
+    let mut meta = [0x01, 0x00, 0x20, 0x80];
+    set_cursor(&mut meta, 1, 2);
+    assert_eq!(rt; meta, [0x42, 0x00, 0x20, 0x80]);
+    let mut path = PATH;
+    set_seg_id(&mut path, 0, 0xd2f4);
+    let mut chained = PATH;
+    chained[6] = 0xd2;
+    chained[7] = 0xf4;
+    assert_eq!(rt; path, chained);
+}

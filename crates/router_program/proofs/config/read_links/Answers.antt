@@ -1,0 +1,41 @@
+use Rattle.std.proofs.Common.{◌≡◌, ◌∙◌, ◌+◌, ◌<◌, ◌++◌, ◌∷◌, [], drop, get_or, length, length-append, map, inr, rules, sym, ap}
+use Rattle.toml.specs.View.{items_view, view}
+use Rattle.router_program.specs.Config.{link_of, links_from, shown}
+use Rattle.router_program.specs.Link.{id_of}
+use Rattle.router_program.proofs.LinksLemmas.{bad_link, distinct_push, few_links, ids_push, last_link, many_links, next_link, no_links}
+use Rattle.router_program.proofs.config.read_links.Goals as goal
+
+pub returns-then-count-eq0-clause-value : goal.returns-then-count-eq0-clause-value
+returns-then-count-eq0-clause-value c = inr (no_links c.args.members.now.items (search rules))
+
+pub returns-then-count-gt-MOST_LINKS-clause-value : goal.returns-then-count-gt-MOST_LINKS-clause-value
+returns-then-count-gt-MOST_LINKS-clause-value c = inr (many_links c.args.members.now.items (search rules))
+
+pub returns-in-Err-clause-value : goal.returns-in-Err-clause-value
+returns-in-Err-clause-value c =
+    let few = few_links c.args.members.now.items (search rules) (search rules) in
+    let member = ap (λ v. link_of (map id_of c.loop-member.links.items) (view v)) (c.member-item.is ∙ ap (λ vs. get_or vs c.loop-member.member-index c.member-item.result) c.deref-member-items.ensures.value) in
+    let read = rw c.as_slice.ensures.value at c.in-Err.ensures.value in
+    let here : c.loop-member.member-index < length c.args.members.now.items = search rules in
+    inr (few ∙ c.loop-member.invariant.rest
+    ∙ bad_link c.loop-member.links.items c.args.members.now.items c.loop-member.member-index c.in-Err.fault c.member-item.result here (read ∙ member))
+
+pub loop-member-preserved : goal.loop-member-preserved
+loop-member-preserved c =
+    let member = ap (λ v. link_of (map id_of c.loop-member.links.items) (view v)) (c.member-item.is ∙ ap (λ vs. get_or vs c.loop-member.member-index c.member-item.result) c.deref-member-items.ensures.value) in
+    let read = rw c.as_slice.ensures.value at c.in-Ok.ensures.value in
+    let fresh = rw c.as_slice.ensures.value at c.in-Ok.ensures.fresh in
+    let here : c.loop-member.member-index < length c.args.members.now.items = search rules in
+    let pushed : c.push.new.self.items ≡ c.loop-member.links.items ++ c.in-Ok.link ∷ [] = search rules in
+    record {
+      rest = c.loop-member.invariant.rest ∙ next_link c.loop-member.links.items c.args.members.now.items c.loop-member.member-index c.in-Ok.link c.member-item.result here (read ∙ member)
+          ∙ ap (λ links. links_from (shown links) (items_view (drop (c.loop-member.member-index + 1) c.args.members.now.items))) (sym pushed);
+      count = ap length pushed ∙ length-append c.loop-member.links.items (c.in-Ok.link ∷ []) ∙ ap (λ n. n + 1) c.loop-member.invariant.count;
+      distinct = rw (pushed, ids_push c.loop-member.links.items c.in-Ok.link)
+          (distinct_push (map id_of c.loop-member.links.items) c.in-Ok.link.id c.loop-member.invariant.distinct fresh);
+    }
+
+pub returns-clause-value : goal.returns-clause-value
+returns-clause-value c =
+    let few = few_links c.args.members.now.items (search rules) (search rules) in
+    few ∙ c.loop-member.invariant.rest ∙ last_link c.loop-member.links.items c.args.members.now.items c.loop-member.member-index (search rules)

@@ -1,0 +1,51 @@
+use Rattle.std.proofs.Common.{◌≡◌, ◌≤◌, ◌∙◌, ℕ, Some, ap, codes, decimal, rules, sym}
+use Rattle.std.specs.Prelude.{◌≢◌}
+use Rattle.router_program.proofs.WordsLemmas.{no_config, no_link, no_now, other_link, other_now, name_read, text_read}
+use Rattle.clap.specs.Matches.{found_of}
+use Rattle.clap.specs.declared.parser.matches.ArgMatches.TheViews.{out-ArgMatches}
+use Rattle.router_program.proofs.words.order_of.Goals as goal
+
+pub returns-in_err-config-clause-none : goal.returns-in_err-config-clause-none
+returns-in_err-config-clause-none c =
+    let read = text_read _ (found_of c.in-Some-route-default.route.now) (codes "config") c.get_str.result c.in-Some-route-default.ensures.rows c.get_str.ensures in
+    rw c.from_residual.ensures (λ config link now asks. no_config _ config link now (rw c.in_err-config.was at read) asks)
+
+pub returns-in_err-get_str-clause-none : goal.returns-in_err-get_str-clause-none
+returns-in_err-get_str-clause-none c =
+    let read = text_read _ (found_of c.in-Some-route-default.route.now) (codes "link") c.get_str-2.result c.in-Some-route-default.ensures.rows c.get_str-2.ensures in
+    rw c.from_residual-in_err-get_str.ensures (λ config link now asks. no_link _ config link now (rw c.in_err-get_str.was at read) asks)
+
+pub returns-in_err-link-clause-none : goal.returns-in_err-link-clause-none
+returns-in_err-link-clause-none c =
+    let read = text_read _ (found_of c.in-Some-route-default.route.now) (codes "link") c.get_str-2.result c.in-Some-route-default.ensures.rows c.get_str-2.ensures in
+    let limit : c.into.result ≡ 65535 = search rules in
+    let other : (n : ℕ) → n ≤ 65535 → c.in_ok-get_str.field-0.now ≢ decimal n = rw (← limit) (rw c.in_err-link.was at c.read_decimal.ensures.none) in
+    rw c.from_residual-in_err-link.ensures (λ config link now asks. other_link _ config _ link now (rw c.in_ok-get_str.was at read) other asks)
+
+pub returns-in_err-get_str-2-clause-none : goal.returns-in_err-get_str-2-clause-none
+returns-in_err-get_str-2-clause-none c =
+    let read = text_read _ (found_of c.in-Some-route-default.route.now) (codes "now") c.get_str-3.result c.in-Some-route-default.ensures.rows c.get_str-3.ensures in
+    rw c.from_residual-in_err-get_str-2.ensures (λ config link now asks. no_now _ config link now (rw c.in_err-get_str-2.was at read) asks)
+
+pub returns-in_err-now-clause-none : goal.returns-in_err-now-clause-none
+returns-in_err-now-clause-none c =
+    let read = text_read _ (found_of c.in-Some-route-default.route.now) (codes "now") c.get_str-3.result c.in-Some-route-default.ensures.rows c.get_str-3.ensures in
+    let other : (n : ℕ) → n ≤ 1099511627775 → c.in_ok-get_str-2.field-0.now ≢ decimal n = rw c.in_err-now.was at c.read_decimal-2.ensures.none in
+    rw c.from_residual-in_err-now.ensures (λ config link now asks. other_now _ config _ link now (rw c.in_ok-get_str-2.was at read) other asks)
+
+pub returns-clause-found : goal.returns-clause-found
+returns-clause-found c =
+    let config = text_read _ (found_of c.in-Some-route-default.route.now) (codes "config") c.get_str.result c.in-Some-route-default.ensures.rows c.get_str.ensures in
+    let link = text_read _ (found_of c.in-Some-route-default.route.now) (codes "link") c.get_str-2.result c.in-Some-route-default.ensures.rows c.get_str-2.ensures in
+    let now = text_read _ (found_of c.in-Some-route-default.route.now) (codes "now") c.get_str-3.result c.in-Some-route-default.ensures.rows c.get_str-3.ensures in
+    let link_found = rw c.in_ok-link.was at c.read_decimal.ensures.found in
+    let now_found = rw c.in_ok-now.was at c.read_decimal-2.ensures.found in
+    let limit : c.into.result ≡ 65535 = search rules in
+    record {
+      name = name_read (out-ArgMatches c.args.matches.now).subcommand ∙ sym c.in-Some-route-default.ensures.name ∙ ap (λ t. Some t) c.in-Some-route-default.is-route;
+      config_is = rw c.in_ok-config.was at config;
+      link_is = (rw c.in_ok-get_str.was at link) ∙ ap (λ t. Some t) link_found.1;
+      now_is = (rw c.in_ok-get_str-2.was at now) ∙ ap (λ t. Some t) now_found.1;
+      link_fits = rw limit at link_found.0;
+      now_fits = now_found.0;
+    }

@@ -1,0 +1,164 @@
+//! The command line.
+ghost use Rattle.std.specs.Prelude.{◌≡◌, ◌≢◌, ◌≤◌, ℕ, List, map, string_bytes, false, IfErr, IfNone, IfOk, IfSome};
+ghost use Rattle.clap.specs.Simple.{app_of, subcommand_rows_of};
+ghost use Rattle.clap.specs.Values.{kind_of};
+ghost use Rattle.clap.specs.Walk.{rule_of};
+ghost use Rattle.clap.specs.declared.builder.command.Command.TheViews.{out-Command as fields_of};
+ghost use Rattle.clap.specs.declared.error.kind.ErrorKind.TheVariants.{OutOfMemory};
+ghost use Rattle.router_program.specs.Words.{Asks, Orders, route, router, wanted};
+ghost use Rattle.router_program.specs.declared.words.WordsFault.TheVariants.{Memory, Told};
+
+use crate::decimal::read_decimal;
+use clap::error::ErrorKind;
+use clap::{Arg, ArgAction, ArgMatches, Command};
+use std::alloc::{AllocError, AllocFailed, Global};
+use thiserror::Error;
+
+/// The last second since 1970 that `--now` takes.
+const LAST_SECOND: u64 = 1099511627775;
+
+/// What the command line asks for: to answer the datagrams on the standard input.
+#[derive(Clone, Copy, Debug)]
+pub struct Order<'a> {
+    /// The path of the configuration.
+    pub config: &'a str,
+    /// The link on which the datagrams arrive; 0 is the internal network.
+    pub link: u16,
+    /// When they arrive, in seconds since 1970.
+    pub now: u64,
+}
+
+/// Why a command line gives no order.
+#[derive(Debug, Drop, Error)]
+pub enum WordsFault {
+    /// Help or the version was asked for, or the words are refused. The error has the text, the
+    /// stream that it belongs on, and the exit status.
+    #[error("{0}")]
+    Told(clap::Error),
+    /// No memory was left.
+    #[error("memory")]
+    Memory,
+}
+
+impl From<AllocError> for WordsFault {
+    ghost from_gives = { λ _ fault. fault ≡ Memory };
+
+    fn from(_error: AllocError) -> WordsFault {
+        WordsFault::Memory
+    }
+}
+
+impl<T: Drop> From<AllocFailed<T>> for WordsFault {
+    ghost from_gives = { λ _ fault. fault ≡ Memory };
+
+    fn from(_error: AllocFailed<T>) -> WordsFault {
+        WordsFault::Memory
+    }
+}
+
+/// What an error of the parse means.
+fn fault_of(error: clap::Error) -> WordsFault
+    ensures memory { kind_of error ≡ OutOfMemory → result ≡ Memory }
+    ensures told { kind_of error ≢ OutOfMemory → result ≡ Told error }
+{
+    match error.kind() {
+        ErrorKind::OutOfMemory => WordsFault::Memory,
+        _ => WordsFault::Told(error),
+    }
+}
+
+/// The option `--name VALUE`, which has to be there.
+fn wanted<'a>(alloc: Global, name: &'a str, value: &'a str, help: &'a str) -> Arg<'a>
+    ensures rule { rule_of result ≡ wanted name.now }
+    ensures own { result.global ≡ false }
+{
+    Arg::new(alloc, name)
+        .long(name)
+        .value_name(value)
+        .help(help)
+        .required(true)
+        .action(ArgAction::Set)
+}
+
+/// The words of `route`.
+fn route_grammar<'a>(alloc: Global) -> Result<Command<'a>, AllocError>
+    ensures app { IfOk result (λ command. app_of command ≡ route) }
+    ensures own { IfOk result (λ command. (fields_of command).has_globals ≡ false) }
+{
+    let config = wanted(
+        alloc,
+        "config",
+        "FILE",
+        "The border router's configuration, as TOML",
+    );
+    let link = wanted(
+        alloc,
+        "link",
+        "N",
+        "The link on which the datagrams arrive; 0 is the internal network",
+    );
+    let now = wanted(alloc, "now", "S", "When they arrive, in seconds since 1970");
+    Command::new(alloc, "route")
+        .about("Answers each line of hex on the standard input, a datagram, by one line")
+        .arg(config)?
+        .arg(link)?
+        .arg(now)
+}
+
+/// The words that the program takes.
+fn grammar<'a>(alloc: Global) -> Result<Command<'a>, AllocError>
+    ensures { IfOk result (λ command. app_of command ≡ router) }
+{
+    let route = route_grammar(alloc)?;
+    Command::new(alloc, "router")
+        .about("A SCION border router")
+        .version("0.1.0")
+        .no_binary_name(true)
+        .subcommand_required(true)
+        .subcommand(route)
+}
+
+/// The order that the parsed words give, if their numbers are plain decimals in range.
+fn order_of<'a>(matches: &ArgMatches<'a>) -> Option<Order<'a>>
+    ensures found { IfSome result (λ order. Asks (subcommand_rows_of matches.now) order.config.now order.link order.now) }
+    ensures none { IfNone result ((config : List ℕ) (link now : ℕ) → ¬ Asks (subcommand_rows_of matches.now) config link now) }
+{
+    let Some(("route", route)) = matches.subcommand() else {
+        return None;
+    };
+    let config = route.get_str("config")?;
+    let link = read_decimal(route.get_str("link")?, u16::MAX.into())?;
+    let now = read_decimal(route.get_str("now")?, LAST_SECOND)?;
+    Some(Order {
+        config,
+        link: link as u16,
+        now,
+    })
+}
+
+/// The order that the words after the program's name give.
+///
+/// Each option is named once, by `--name VALUE` or `--name=VALUE`. Numbers are plain decimals:
+/// digits with no sign and no leading zero.
+pub fn read_words<'a>(alloc: Global, words: &'a [String]) -> Result<Order<'a>, WordsFault>
+    ensures order { IfOk result (λ order.
+        Orders (map string_bytes words.now) order.config.now order.link order.now) }
+    ensures fault { IfErr result (λ fault. (config : List ℕ) (link now : ℕ)
+        → Orders (map string_bytes words.now) config link now → fault ≡ Memory) }
+{
+    let mut command = grammar(alloc)?;
+    let matches = match command.try_get_matches_from_mut(words) {
+        Ok(matches) => matches,
+        Err(error) => return Err(fault_of(error)),
+    };
+    match order_of(&matches) {
+        Some(order) => Ok(order),
+        None => {
+            let message = "N is a decimal number up to 65535, and S one up to 1099511627775";
+            match command.error(ErrorKind::ValueValidation, message) {
+                Ok(error) => Err(fault_of(error)),
+                Err(_) => Err(WordsFault::Memory),
+            }
+        }
+    }
+}

@@ -1,0 +1,4 @@
+pub mod Host
+pub mod Address
+pub mod Header
+pub mod Fault

@@ -1,0 +1,44 @@
+ghost use Rattle.std.specs.Prelude.{◌+◌, ◌*◌, ◌<◌, ◌≤◌, ◌^◌};
+ghost use Rattle.scion_packet.specs.Header.{host_len};
+ghost use Rattle.scion_header.specs.Host.{length_code};
+
+use crate::address::Address;
+
+/// The common header and the address header. The version is 0 and the path type that of a SCION path
+/// in each.
+#[derive(Clone, Copy, Debug, PartialEq, Eq)]
+pub struct Header {
+    pub traffic_class: u8,
+    /// The flow, 20 bits.
+    pub flow_id: u32,
+    /// The protocol of what follows the header: 17 is UDP, 202 SCMP.
+    pub next_header: u8,
+    /// The length of the whole header, path included, in units of four bytes.
+    pub header_length: u8,
+    /// The length in bytes of what follows the header.
+    pub payload_length: u16,
+    /// The reserved bits, kept as they came.
+    pub reserved: u16,
+    pub destination: Address,
+    pub source: Address,
+    pub ghost traffic_class_fits: { traffic_class < 2 ^ 8 },
+    pub ghost flow_id_fits: { flow_id < 2 ^ 20 },
+    pub ghost next_header_fits: { next_header < 2 ^ 8 },
+    pub ghost header_length_fits: { header_length < 2 ^ 8 },
+    pub ghost payload_length_fits: { payload_length < 2 ^ 16 },
+    pub ghost reserved_fits: { reserved < 2 ^ 16 },
+    pub ghost covers_addresses: { 28 + host_len (length_code destination.host) + host_len (length_code source.host) ≤ 4 * header_length },
+}
+
+impl Header {
+    ghost use Rattle.std.specs.Prelude.{◌≡◌};
+    ghost use Rattle.scion_packet.specs.Header.{front_len};
+    ghost use Rattle.scion_header.specs.Header.{header_fields};
+
+    /// How many bytes the common header and the address header have: the path begins behind them.
+    pub fn front_len(&self) -> usize
+        ensures { result ≡ front_len (header_fields self.now) }
+    {
+        28 + self.destination.host.as_slice().len() + self.source.host.as_slice().len()
+    }
+}

@@ -1,0 +1,25 @@
+//! The common header and the address header of a SCION packet, read and written exactly
+//! (draft-dekater-scion-dataplane, "SCION Header Specification").
+//!
+//! A datagram is read to the plain record of its numbers that `scion_packet` defines, or refused with
+//! the first of its tests that fails; what is written is the text that `scion_packet` has for that
+//! record. Neither takes memory, and both cost the same for every datagram.
+#![tactic(auto)]
+
+mod address;
+mod fault;
+mod header;
+mod host;
+mod laws;
+mod reading;
+#[cfg(test)]
+mod tests;
+mod writing;
+
+pub use address::Address;
+pub use fault::{HeaderFault, NoRoom};
+pub use header::Header;
+pub use host::Host;
+pub use laws::lawful;
+pub use reading::read_header;
+pub use writing::write_header;

@@ -1,0 +1,86 @@
+ghost use Rattle.std.specs.Prelude.{◌≡◌, ◌+◌, ◌/◌, ◌%◌, ◌<◌, ◌≤◌, length, None, Some, MatchResult, IfOk};
+ghost use Rattle.scion_packet.specs.Header.{address_of, front_end, header_end, header_fault, header_of, host_kinds, host_len};
+ghost use Rattle.scion_header.specs.Address.{host_address};
+ghost use Rattle.scion_header.specs.Fault.{fault_of};
+ghost use Rattle.scion_header.specs.Header.{header_fields};
+ghost use Rattle.scion_header.specs.Host.{length_code};
+
+use crate::address::Address;
+use crate::fault::HeaderFault;
+use crate::header::Header;
+use crate::host::host_at;
+use field_rows::{u16_at, u32_at, u48_at};
+
+/// How many bytes a host of this length code has.
+fn host_len(code: u8) -> usize
+    requires { code < 4 }
+    ensures { result ≡ host_len code }
+{
+    4 * (usize::from(code) + 1)
+}
+
+/// The address whose domain and host begin at these places, by its four bits of byte 9.
+fn address_at(bytes: &[u8], domain: usize, host: usize, bits: u8) -> Address
+    requires bits { bits < 16 }
+    requires domain_room { domain + 8 ≤ length bytes.now }
+    requires host_room { host + host_len (bits % 4) ≤ length bytes.now }
+    ensures address { host_address result ≡ address_of bytes.now domain host bits }
+    ensures code { length_code result.host ≡ bits % 4 }
+{
+    Address {
+        isd: u16_at(bytes, domain),
+        autonomous_system: u48_at(bytes, domain + 2),
+        kind: bits / 4,
+        host: host_at(bytes, host, bits % 4),
+    }
+}
+
+/// The header of a datagram that passed the tests, whose source host begins at this place.
+fn header_at(bytes: &[u8], source_host: usize) -> Header
+    requires whole { front_end bytes.now ≤ length bytes.now }
+    requires covers { front_end bytes.now ≤ header_end bytes.now }
+    requires place { source_host ≡ 28 + host_len (host_kinds bytes.now / 16 % 4) }
+    ensures { header_fields result ≡ header_of bytes.now }
+{
+    let first = u32_at(bytes, 0);
+    let kinds = bytes[9];
+    Header {
+        traffic_class: (first >> 20 & 0xff) as u8,
+        flow_id: first & 0xf_ffff,
+        next_header: bytes[4],
+        header_length: bytes[5],
+        payload_length: u16_at(bytes, 6),
+        reserved: u16_at(bytes, 10),
+        destination: address_at(bytes, 12, 28, kinds / 16),
+        source: address_at(bytes, 20, source_host, kinds % 16),
+    }
+}
+
+/// The header of a datagram, where all its tests pass; else the fault of the first that fails: the
+/// length of the common header, the version, the path type, that the header covers its addresses,
+/// and that the datagram is as long as its header says.
+pub fn read_header(bytes: &[u8]) -> Result<Header, HeaderFault>
+    ensures header { IfOk result (λ h. header_fields h ≡ header_of bytes.now) }
+    ensures fault { MatchResult result (λ _. header_fault bytes.now ≡ None) (λ e. header_fault bytes.now ≡ Some (fault_of e)) }
+{
+    if bytes.len() < 12 {
+        return Err(HeaderFault::Short);
+    }
+    if bytes[0] / 16 != 0 {
+        return Err(HeaderFault::Version);
+    }
+    if bytes[8] != 1 {
+        return Err(HeaderFault::PathType);
+    }
+    let kinds = bytes[9];
+    let source_host = 28 + host_len(kinds / 16 % 4);
+    let front = source_host + host_len(kinds % 4);
+    let whole = 4 * usize::from(bytes[5]);
+    if whole < front {
+        return Err(HeaderFault::Header);
+    }
+    if bytes.len() < whole {
+        return Err(HeaderFault::Short);
+    }
+    Ok(header_at(bytes, source_host))
+}
