@@ -1,6 +1,5 @@
 mod ReadingLemmas
 mod SegmentLemmas
 mod PlaceLemmas
-mod LawLemmas
 mod WritingLemmas
 mod InPlaceLemmas

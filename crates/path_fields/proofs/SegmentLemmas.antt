@@ -9,7 +9,6 @@ use Rattle.field_rows.specs.Row.{Fits, rows}
 use Rattle.scion_packet.specs.Lengths.{are_lengths, first_hop, hop_count, segment_count, segment_of}
 use Rattle.scion_packet.specs.Path.{IsHop, IsPath, IsSegment, Segment, bit, count_hops, hop_number, hop_text, hops_in, hops_text, info_table, infos_text}
 use Rattle.path_fields.specs.Fields.{hop_field, info_field}
-use Rattle.path_fields.specs.Laws.{InItsSegment}
 use Rattle.path_fields.specs.Path.{fields_of, place, segments, segments_from}
 use Rattle.path_fields.specs.declared.fields.Info.{Info}
 use Rattle.path_fields.specs.declared.fields.Hop.{Hop}
@@ -202,6 +201,12 @@ pub in_third : (lengths : List ℕ) (h : ℕ) → slice_index lengths 0 + slice_
 in_third lengths h ge =
     let above : slice_index lengths 0 ≤ h = omega arith in
     cond-false _ _ _ (le-ltb _ _ above) ∙ cond-false _ _ _ (le-ltb _ _ ge)
+
+-- the segment of a hop is there, and the hop is one of its hops
+pub record InItsSegment (lengths : List ℕ) (hop : ℕ) : Type 0 where
+  pub there : segment_of lengths hop < segment_count lengths
+  pub behind : first_hop lengths (segment_of lengths hop) ≤ hop
+  pub inside : hop < first_hop lengths (segment_of lengths hop) + slice_index lengths (segment_of lengths hop)
 
 -- a hop of a path is one of the hops of its segment
 pub in_segment : (lengths : List ℕ) (h : ℕ) → are_lengths lengths ≡ true → h < hop_count lengths → InItsSegment lengths h

@@ -2,4 +2,3 @@ pub mod Fields
 pub mod Path
 pub mod Fault
 pub mod InPlace
-pub mod Laws

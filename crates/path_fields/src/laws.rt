@@ -1,7 +1,6 @@
 //! What holds of every path: nothing here runs.
 
 ghost use Rattle.scion_packet.specs.Path.{IsPath};
-ghost use Rattle.path_fields.specs.Laws.{HopStands, InfoStands, LiesInItsSegment};
 ghost use Rattle.path_fields.specs.Path.{fields_of};
 ghost use Rattle.path_fields.specs.declared.path.Path.{Path};
 
@@ -9,19 +8,4 @@ ghost use Rattle.path_fields.specs.declared.path.Path.{Path};
 /// the path: so what `write_path` writes is the spelling of a lawful path.
 pub fn lawful()
     ensures { (p : Path) → IsPath (fields_of p) }
-{}
-
-/// The info field of each segment stands at one place in the bytes that were read.
-pub fn info_stands()
-    ensures { InfoStands }
-{}
-
-/// Each hop of each segment stands at one place in the bytes that were read.
-pub fn hop_stands()
-    ensures { HopStands }
-{}
-
-/// A hop of a path with lawful lengths is one of the hops of its segment.
-pub fn in_its_segment()
-    ensures { LiesInItsSegment }
 {}

@@ -22,7 +22,7 @@ mod writing;
 pub use fault::{NoRoom, PathEnd, PathFault};
 pub use fields::{Hop, Info};
 pub use in_place::{set_cursor, set_seg_id};
-pub use laws::{hop_stands, in_its_segment, info_stands, lawful};
+pub use laws::lawful;
 pub use meta::{Meta, check_path, read_meta};
 pub use moves::advance;
 pub use path::Path;

@@ -1,7 +1,6 @@
 use crate::{
-    Hop, Info, Meta, NoRoom, PathEnd, PathFault, advance, check_path, hop_stands, in_its_segment,
-    info_stands, lawful, read_hop, read_info, read_meta, read_path, set_cursor, set_seg_id,
-    write_path,
+    Hop, Info, Meta, NoRoom, PathEnd, PathFault, advance, check_path, lawful, read_hop, read_info,
+    read_meta, read_path, set_cursor, set_seg_id, write_path,
 };
 use std::test::Fail;
 
@@ -79,9 +78,6 @@ fn reads_one_field(rt: HostRuntime) {
         read_hop(&PATH, 24),
         hop(1, 2, [0xc0, 0xc1, 0xc2, 0xc3, 0xc4, 0xc5])
     );
-    info_stands();
-    hop_stands();
-    in_its_segment();
 }
 
 #[test]
