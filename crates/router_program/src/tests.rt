@@ -111,10 +111,10 @@ fn drops_what_is_faulty(rt: HostRuntime) {
     let alloc = rt.alloc();
     let border = border(&rt);
     for (at, digits, want) in CHANGED {
-        let (front, rest) = (
-            &DATAGRAM.as_bytes()[..at],
-            &DATAGRAM.as_bytes()[at + digits.len()..],
-        );
+        let datagram = DATAGRAM.as_bytes();
+        let front = datagram.get(..at).expect(&rt, "front");
+        let behind = at.saturating_add(digits.len());
+        let rest = datagram.get(behind..).expect(&rt, "rest");
         let mut line = Vec::new(alloc);
         line.extend_from_slice(front).expect(&rt, "line");
         line.extend_from_slice(digits.as_bytes())
@@ -128,7 +128,7 @@ fn drops_what_is_faulty(rt: HostRuntime) {
     }
     // its first 11 and 12 bytes
     for len in [22, 24] {
-        let mut reader = &DATAGRAM.as_bytes()[..len];
+        let mut reader = DATAGRAM.as_bytes().get(..len).expect(&rt, "beginning");
         let mut writer = Vec::new(alloc);
         let result = route_lines(alloc, &border, 1, LAST_SECOND, &mut reader, &mut writer);
         assert_eq!(rt; result, Ok(()), "{len} digits");
