@@ -1,12 +1,12 @@
 -- The next hop of a path is at the next place of its segments.
-use Rattle.std.proofs.Common.{◌≡◌, ◌≤◌, ◌<◌, ℕ, ◌+◌, ◌-◌, true, List, length, slice_index, Some, None, inl, inr, ap, sym, ◌∙◌, arith}
-use Rattle.std.proofs.lemmas.Bool.{cases_lt, lt-ltb, le-ltb, cond-true, cond-false}
+use Rattle.std.proofs.Common.{◌≡◌, ◌≤◌, ◌<◌, ℕ, ◌+◌, ◌-◌, true, nat_eq, nat_lt, ◌≢◌, List, length, slice_index, Some, None, inl, inr, ap, sym, ◌∙◌, arith}
+use Rattle.std.proofs.lemmas.Bool.{cases_lt, lt-ltb, le-ltb, cond-true, cond-false, cases_eq, eq-eqb, ne_eqb}
 use Rattle.scion_packet.specs.Lengths.{are_lengths, first_hop, hop_count, segment_count, segment_of}
 use Rattle.scion_packet.specs.Path.{Place, Segment, hops_in, place_at}
-use Rattle.scion_packet.specs.Places.{next}
+use Rattle.scion_packet.specs.Places.{is_followed, is_last_of_segment, next}
 use Rattle.path_fields.specs.Path.{place, segments}
 use Rattle.path_fields.specs.declared.path.Path.{Path}
-use Rattle.path_fields.proofs.SegmentLemmas.{HasSizes, count_cases, in_first, in_second, in_third, path_sizes}
+use Rattle.path_fields.proofs.SegmentLemmas.{HasSizes, count_cases, in_current_segment, in_first, in_second, in_third, path_sizes}
 
 inside : (ss : List Segment) (k position : ℕ) → position + 1 < hops_in ss k → next ss (place_at k position) ≡ Some (place_at k (position + 1))
 inside ss k position lt = cond-true _ _ _ (lt-ltb _ _ lt)
@@ -107,3 +107,21 @@ advanced p info more info-is =
 pub ended : (p : Path) → hop_count p.lengths ≤ p.current_hop + 1 → next (segments p) (place p) ≡ None
 ended p last =
     ap (λ (at : Place). next (segments p) at) (here p) ∙ last_hop (segments p) p.lengths p.current_hop (path_sizes p) p.lengths_are_lawful p.current_hop_is_there last
+
+-- the current hop is the last of its segment where its number is
+pub last_is : (p : Path) (end : ℕ) → (p.current_info < 3 → end ≡ first_hop p.lengths p.current_info + slice_index p.lengths p.current_info)
+    → nat_eq (p.current_hop + 1) end ≡ is_last_of_segment (segments p) (place p)
+last_is p end ends =
+    let its = in_current_segment p in
+    let end-is = ends its.few in
+    let position = p.current_hop - first_hop p.lengths p.current_info in
+    let size = hops_in (segments p) p.current_info in
+    elim (cases_eq (p.current_hop + 1) end) [
+      | inl same ↦ eq-eqb _ _ same ∙ sym (eq-eqb (position + 1) size (omega (arith, its.size, its.behind, same, end-is)))
+      | inr other ↦
+          let different : position + 1 ≢ size = omega (arith, its.size, its.behind, other, end-is) in
+          ne_eqb _ _ other ∙ sym (ne_eqb (position + 1) size different)
+    ]
+
+pub followed_is : (p : Path) → nat_lt (p.current_info + 1) (segment_count p.lengths) ≡ is_followed (segments p) (place p)
+followed_is p = ap (λ (n : ℕ). nat_lt (p.current_info + 1) n) (sym (path_sizes p).count)

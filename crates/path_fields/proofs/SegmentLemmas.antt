@@ -252,6 +252,26 @@ hops_in_is ss lengths (suc zero) sizes few = sizes.second
 hops_in_is ss lengths (suc (suc zero)) sizes few = sizes.third
 hops_in_is ss lengths (suc (suc (suc k))) sizes few = absurd (omega arith)
 
+-- the current hop is one of the hops of the current segment
+pub record InCurrentSegment (p : Path) : Type 0 where
+  pub few : p.current_info < 3
+  pub behind : first_hop p.lengths p.current_info ≤ p.current_hop
+  pub inside : p.current_hop < first_hop p.lengths p.current_info + slice_index p.lengths p.current_info
+  pub size : hops_in (segments p) p.current_info ≡ slice_index p.lengths p.current_info
+
+pub in_current_segment : (p : Path) → InCurrentSegment p
+in_current_segment p =
+    let its = its_segment p in
+    let sizes = path_sizes p in
+    let info-is = p.current_info_is_its in
+    let info-lt : p.current_info < 3 = omega (arith, its.there, info-is, sizes.count, (few_segments p).1) in
+    record {
+      few = info-lt;
+      behind = rw info-is its.behind;
+      inside = rw info-is its.inside;
+      size = hops_in_is (segments p) p.lengths p.current_info sizes info-lt;
+    }
+
 -- ---- a path is lawful
 
 bit-lt : (b : Bool) → bit b < 2
@@ -304,24 +324,19 @@ each_length lengths n (suc (suc (suc j))) lawful n-is below =
 
 pub lawful : (p : Path) → IsPath (fields_of p)
 lawful p =
-    let its = its_segment p in
+    let its = in_current_segment p in
     let sizes = path_sizes p in
     let few = few_segments p in
     let some = some_hops p.lengths p.lengths_are_lawful in
-    let info-is = p.current_info_is_its in
-    let info-lt : p.current_info < 3 = omega (arith, its.there, info-is, sizes.count, few.1) in
-    let behind : first_hop p.lengths p.current_info ≤ p.current_hop = rw info-is its.behind in
-    let within : p.current_hop < first_hop p.lengths p.current_info + slice_index p.lengths p.current_info = rw info-is its.inside in
-    let size = hops_in_is (segments p) p.lengths p.current_info sizes info-lt in
     let hop-lt : hop_number (segments p) (place p) < 64 = omega (arith, number_is p, p.current_hop_is_there, some.1) in
     record {
       meta = (
-        (omega arith, (hop-lt, tt)),
+        (omega (arith, its.few), (hop-lt, tt)),
         ((p.reserved_fits, (omega (arith, sizes.first, p.lengths_fit.0), (omega (arith, sizes.second, p.lengths_fit.1), (omega (arith, sizes.third, p.lengths_fit.2), tt)))), tt),
       );
       segments = are_segments 0 p.lengths p.infos.items p.hops.items (λ j from below. each_length p.lengths (length p.hops.items) j p.lengths_are_lawful p.has_hops (omega (arith, below, p.has_infos)));
       some = few.0;
       few = few.1;
       hops = omega (arith, all_hops (segments p) p.lengths sizes few.1, some.1);
-      inside = omega (arith, size, within, behind);
+      inside = omega (arith, its.size, its.inside, its.behind);
     }

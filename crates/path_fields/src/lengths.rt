@@ -1,6 +1,6 @@
 //! What the three segment lengths of a path say.
 
-ghost use Rattle.std.specs.Prelude.{◌≡◌, ◌<◌, ◌≤◌};
+ghost use Rattle.std.specs.Prelude.{◌≡◌, ◌+◌, ◌<◌, ◌≤◌, slice_index};
 ghost use Rattle.scion_packet.specs.Lengths.{are_lengths, first_hop, hop_count, segment_count, segment_of};
 
 /// Whether a path may have these segment lengths: at least one hop, only zeros after a zero length,
@@ -55,5 +55,16 @@ pub(crate) fn first_hop(lengths: &[u8; 3], segment: usize) -> usize
         0 => 0,
         1 => usize::from(lengths[0]),
         _ => usize::from(lengths[0]) + usize::from(lengths[1]),
+    }
+}
+
+/// The number behind that of the last hop of a segment.
+pub(crate) fn end_of(lengths: &[u8; 3], segment: u8) -> usize
+    ensures { segment < 3 → result ≡ first_hop lengths.now segment + slice_index lengths.now segment }
+{
+    match segment {
+        0 => usize::from(lengths[0]),
+        1 => usize::from(lengths[0]) + usize::from(lengths[1]),
+        _ => hop_count(lengths),
     }
 }

@@ -3,6 +3,7 @@ ghost use Rattle.arrayvec.specs.ArrayVec.{array_vec_len};
 ghost use Rattle.scion_packet.specs.Lengths.{are_lengths, hop_count, segment_count, segment_of};
 
 use crate::fields::{Hop, Info};
+use crate::lengths;
 use arrayvec::ArrayVec;
 
 /// A path of one to three segments and at most 64 hops, and the cursor's place on it.
@@ -25,4 +26,23 @@ pub struct Path {
     pub ghost has_hops: { array_vec_len hops ≡ hop_count lengths },
     pub ghost current_hop_is_there: { current_hop < hop_count lengths },
     pub ghost current_info_is_its: { current_info ≡ segment_of lengths current_hop },
+}
+
+impl Path {
+    ghost use Rattle.scion_packet.specs.Places.{is_followed, is_last_of_segment};
+    ghost use Rattle.path_fields.specs.Path.{place, segments};
+
+    /// Whether the current hop is the last of its segment.
+    pub fn is_last_of_segment(&self) -> bool
+        ensures { result ≡ is_last_of_segment (segments self.now) (place self.now) }
+    {
+        usize::from(self.current_hop) + 1 == lengths::end_of(&self.lengths, self.current_info)
+    }
+
+    /// Whether another segment follows the current one.
+    pub fn is_followed(&self) -> bool
+        ensures { result ≡ is_followed (segments self.now) (place self.now) }
+    {
+        usize::from(self.current_info) + 1 < lengths::segment_count(&self.lengths)
+    }
 }
