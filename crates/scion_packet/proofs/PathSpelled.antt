@@ -183,6 +183,14 @@ read_spelled path p a b c base info-is hop-is reserved-is a-is b-is c-is meta sp
           (omega (arith, base-is, infos_len p.segments)) (omega (arith, whole, hops_len p.segments spelled.lawful));
     }
 
+-- the lengths are those of the segments
+pub sized_of : (path : List ℕ) → IsBytes path → path_fault path ≡ None → Sized (lengths_of path) (path_of path).segments
+sized_of path are none =
+    let passes = passes_tests path none in
+    let ss = segments_at (lengths_of path) path in
+    let spelled = segments_spelled path (meta_field path 12 6) (meta_field path 6 6) (meta_field path 0 6) are passes.lengths passes.whole passes.clear in
+    subst (λ (ls : List ℕ). Sized ls ss) spelled.are_sizes (sizes_are ss spelled.some spelled.few spelled.lawful)
+
 -- the number of the current hop, from its place
 pub current_number : (path : List ℕ) → IsBytes path → path_fault path ≡ None → hop_number (path_of path).segments (path_of path).place ≡ current_hop path
 current_number path are none =

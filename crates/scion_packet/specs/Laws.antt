@@ -2,8 +2,8 @@
 use Rattle.std.specs.Prelude.{◌≡◌, ◌<◌, ℕ, ◌+◌, List, ◌++◌, ◌≤◌, ◌==◌, drop, length, None, slice_index, take}
 use Rattle.field_rows.specs.Place.{IsBytes}
 use Rattle.scion_packet.specs.Header.{HeaderFields, SpellsHeader, front_end, header_end, header_fault, header_of}
-use Rattle.scion_packet.specs.Lengths.{first_hop, hop_count, hop_place, info_place, segment_count}
-use Rattle.scion_packet.specs.Path.{PathFields, SpellsPath, current_hop, current_info, hop_at, hop_number, info_at, lengths_of, path_fault, path_of, path_text, place_at}
+use Rattle.scion_packet.specs.Lengths.{first_hop, hop_count, hop_place, info_place, path_len, segment_count}
+use Rattle.scion_packet.specs.Path.{PathFields, SpellsPath, count_hops, current_hop, current_info, hop_at, hop_number, hops_in, info_at, lengths_of, path_fault, path_of, path_text, place_at}
 use Rattle.scion_packet.specs.Places.{hop_there, info_there, is_last_of_path}
 use Rattle.scion_packet.specs.Packet.{Packet, Spells, first_fault, packet_of, spelling}
 
@@ -39,6 +39,21 @@ pub record FieldsStand (path : List ℕ) : Type 0 where
   pub info : (k i : ℕ) → k < segment_count (lengths_of path) → info_there (path_of path).segments (place_at k i) ≡ info_at path (info_place k)
   pub hop : (k i : ℕ) → k < segment_count (lengths_of path) → i < slice_index (lengths_of path) k
       → hop_there (path_of path).segments (place_at k i) ≡ hop_at path (hop_place (lengths_of path) (first_hop (lengths_of path) k + i))
+  pub count : length (path_of path).segments ≡ segment_count (lengths_of path)
+  pub hops : (k : ℕ) → k < segment_count (lengths_of path) → hops_in (path_of path).segments k ≡ slice_index (lengths_of path) k
+  pub number : (k i : ℕ) → k < segment_count (lengths_of path)
+      → hop_number (path_of path).segments (place_at k i) ≡ first_hop (lengths_of path) k + i
+  -- segment behind segment, each of at least one hop, and at most 64 hops in all
+  pub some : (k : ℕ) → k < segment_count (lengths_of path) → 1 ≤ slice_index (lengths_of path) k
+  pub follows : (k : ℕ) → k + 1 < segment_count (lengths_of path)
+      → first_hop (lengths_of path) (k + 1) ≡ first_hop (lengths_of path) k + slice_index (lengths_of path) k
+  pub within : (k i : ℕ) → k < segment_count (lengths_of path) → i < slice_index (lengths_of path) k
+      → first_hop (lengths_of path) k + i < hop_count (lengths_of path)
+  pub few_hops : hop_count (lengths_of path) ≤ 64
+  pub all_hops : hop_count (lengths_of path) ≡ count_hops (path_of path).segments
+  pub whole : length path ≡ path_len (lengths_of path)
+  pub begins : first_hop (lengths_of path) (current_info path) ≤ current_hop path
+  pub ends : current_hop path < first_hop (lengths_of path) (current_info path) + slice_index (lengths_of path) (current_info path)
   pub current_info_field : info_there (path_of path).segments (path_of path).place ≡ info_at path (info_place (current_info path))
   pub current_hop_field : hop_there (path_of path).segments (path_of path).place ≡ hop_at path (hop_place (lengths_of path) (current_hop path))
   pub there : current_info path < length (path_of path).segments

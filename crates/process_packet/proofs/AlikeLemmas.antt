@@ -1,0 +1,72 @@
+-- A segment identifier set: what stays, and what is read then.
+use Rattle.std.proofs.Common.{◌≡◌, ◌≢◌, ◌<◌, ◌+◌, ℕ, zero, suc, List, [], ◌∷◌, length, take, refl, sym, ap, ◌∙◌, arith, slice_index_or}
+use Rattle.path_fields.specs.InPlace.{with_segment_id}
+use Rattle.scion_packet.specs.Path.{HopField, InfoField, Place, Segment, count_hops, hop_number, hops_in, place_at}
+use Rattle.scion_packet.specs.Places.{hop_there, info_there, no_hop, no_segment}
+use Rattle.process_packet.specs.Sight.{IsAlike, IsWhole}
+
+-- an info field with another identifier
+abbrev pub with_id_of : ℕ → InfoField → InfoField
+with_id_of id i = record i { segment_id = id }
+
+len_set : (ss : List Segment) (k id : ℕ) → length (with_segment_id ss k id) ≡ length ss
+len_set [] k id = refl
+len_set (s ∷ ss) zero id = refl
+len_set (s ∷ ss) (suc k) id = ap suc (len_set ss k id)
+
+total_set : (ss : List Segment) (k id : ℕ) → count_hops (with_segment_id ss k id) ≡ count_hops ss
+total_set [] k id = refl
+total_set (s ∷ ss) zero id = refl
+total_set (s ∷ ss) (suc k) id = let rest = total_set ss k id in omega (arith, rest)
+
+hops_set : (ss : List Segment) (k id j : ℕ) → hops_in (with_segment_id ss k id) j ≡ hops_in ss j
+hops_set [] k id j = refl
+hops_set (s ∷ ss) zero id zero = refl
+hops_set (s ∷ ss) zero id (suc j) = refl
+hops_set (s ∷ ss) (suc k) id zero = refl
+hops_set (s ∷ ss) (suc k) id (suc j) = hops_set ss k id j
+
+before_set : (ss : List Segment) (k id j : ℕ) → count_hops (take j (with_segment_id ss k id)) ≡ count_hops (take j ss)
+before_set [] k id j = refl
+before_set (s ∷ ss) k id zero = refl
+before_set (s ∷ ss) zero id (suc j) = refl
+before_set (s ∷ ss) (suc k) id (suc j) = let rest = before_set ss k id j in omega (arith, rest)
+
+hop_set : (ss : List Segment) (k id j i : ℕ) → hop_there (with_segment_id ss k id) (place_at j i) ≡ hop_there ss (place_at j i)
+hop_set [] k id j i = refl
+hop_set (s ∷ ss) zero id zero i = refl
+hop_set (s ∷ ss) zero id (suc j) i = refl
+hop_set (s ∷ ss) (suc k) id zero i = refl
+hop_set (s ∷ ss) (suc k) id (suc j) i = hop_set ss k id j i
+
+info_other : (ss : List Segment) (k id j i : ℕ) → j ≢ k → info_there (with_segment_id ss k id) (place_at j i) ≡ info_there ss (place_at j i)
+info_other [] k id j i other = refl
+info_other (s ∷ ss) zero id zero i other = absurd (other refl)
+info_other (s ∷ ss) zero id (suc j) i other = refl
+info_other (s ∷ ss) (suc k) id zero i other = refl
+info_other (s ∷ ss) (suc k) id (suc j) i other = info_other ss k id j i (λ same. other (ap suc same))
+
+pub info_set : (ss : List Segment) (k id i : ℕ) → k < length ss → info_there (with_segment_id ss k id) (place_at k i) ≡ with_id_of id (info_there ss (place_at k i))
+info_set [] k id i there = absurd (omega arith)
+info_set (s ∷ ss) zero id i there = refl
+info_set (s ∷ ss) (suc k) id i there = info_set ss k id i (omega arith)
+
+pub alike_set : (ss : List Segment) (k id : ℕ) → IsAlike k ss (with_segment_id ss k id)
+alike_set ss k id = record {
+  count = len_set ss k id;
+  total = total_set ss k id;
+  hops = hops_set ss k id;
+  number = λ at. ap (λ (n : ℕ). n + at.position) (before_set ss k id at.segment);
+  hop = λ at. hop_set ss k id at.segment at.position;
+  info = λ at other. info_other ss k id at.segment at.position other;
+}
+
+pub alike_same : (ss : List Segment) (k : ℕ) → IsAlike k ss ss
+alike_same ss k = record { count = refl; total = refl; hops = λ j. refl; number = λ at. refl; hop = λ at. refl; info = λ at other. refl }
+
+pub whole_alike : (k : ℕ) (old new : List Segment) → IsAlike k old new → IsWhole old → IsWhole new
+whole_alike k old new alike whole = record {
+  some = λ j below. omega (arith, whole.some j (omega (arith, below, alike.count)), alike.hops j);
+  segments = omega (arith, whole.segments, alike.count);
+  hops = omega (arith, whole.hops, alike.total);
+}

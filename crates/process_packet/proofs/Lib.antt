@@ -1,0 +1,4 @@
+pub mod SpotLemmas
+pub mod ArrivingLemmas
+pub mod AlikeLemmas
+pub mod TurningLemmas

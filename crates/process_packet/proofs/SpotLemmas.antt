@@ -1,0 +1,109 @@
+-- What is read at a hop's offsets stands at the hop's place.
+use Rattle.std.proofs.Common.{◌≡◌, ◌≢◌, ◌<◌, ◌≤◌, ℕ, ◌+◌, ◌-◌, ◌*◌, List, length, slice_index, sym, ap, subst, ◌∙◌, arith}
+use Rattle.path_fields.specs.Fields.{hop_field, info_field}
+use Rattle.path_fields.specs.declared.meta.Meta.{Meta}
+use Rattle.scion_packet.specs.Laws.{FieldsStand}
+use Rattle.scion_packet.specs.Lengths.{first_hop, hop_place, hops_place, info_place, segment_count}
+use Rattle.scion_packet.specs.Path.{Segment, hop_at, hops_in, info_at, lengths_of, path_of, place_at}
+use Rattle.scion_packet.proofs.Offsets.{fields_stand}
+use Rattle.process_packet.specs.Spot.{IsMetaOf, IsSpot, Lies, LiesOn}
+use Rattle.process_packet.specs.declared.spot.Spot.{Spot}
+
+-- What was read of the hop with number n, of segment k.
+pub record IsRead (v : Spot) (path lengths : List ℕ) (k n : ℕ) : Type 0 where
+  pub there : k < segment_count lengths
+  pub begins : first_hop lengths k ≤ n
+  pub ends : n < first_hop lengths k + slice_index lengths k
+  pub segment : v.segment ≡ k
+  pub position : v.position ≡ n - first_hop lengths k
+  pub hops : v.hops ≡ slice_index lengths k
+  pub number : v.number ≡ n
+  pub info : info_field v.info ≡ info_at path (info_place k)
+  pub hop : hop_field v.hop ≡ hop_at path (hop_place lengths n)
+
+stands : (v : Spot) (path : List ℕ) (k n : ℕ) → FieldsStand path → IsRead v path (lengths_of path) k n → IsSpot v (path_of path).segments (place_at k (n - first_hop (lengths_of path) k))
+stands v path k n stand read =
+    let first = first_hop (lengths_of path) k in
+    let i = n - first in
+    let same : first + i ≡ n = omega (arith, read.begins) in
+    let inside : i < slice_index (lengths_of path) k = omega (arith, read.begins, read.ends) in
+    let hops = stand.hops k read.there in
+    record {
+      place = record {
+        segment = read.segment;
+        position = read.position;
+        hops = read.hops ∙ sym hops;
+        number = read.number ∙ sym same ∙ sym (stand.number k i read.there);
+        there = omega (arith, read.there, stand.count);
+        inside = omega (arith, inside, hops);
+      };
+      info = read.info ∙ sym (stand.info k i read.there);
+      hop = read.hop ∙ ap (λ (j : ℕ). hop_at path (hop_place (lengths_of path) j)) (sym same) ∙ sym (stand.hop k i read.there inside);
+    }
+
+pub spot_stands : (v : Spot) (m : Meta) (path : List ℕ) (k n : ℕ) → IsMetaOf m path → IsRead v path m.lengths k n
+    → IsSpot v (path_of path).segments (place_at k (n - first_hop m.lengths k))
+spot_stands v m path k n meta read =
+    let P : List ℕ → Type 0 = λ ls. IsRead v path ls k n → IsSpot v (path_of path).segments (place_at k (n - first_hop ls k)) in
+    subst P (sym meta.lengths) (stands v path k n (fields_stand path meta.are meta.lawful)) read
+
+-- ---- numbers
+
+pub record IsSmall (lengths : List ℕ) (k n : ℕ) : Type 0 where
+  pub segment : k < 3
+  pub hops : slice_index lengths k ≤ 64
+  pub number : n < 64
+
+small_by : (path : List ℕ) (k n : ℕ) → FieldsStand path → k < segment_count (lengths_of path) → first_hop (lengths_of path) k ≤ n
+    → n < first_hop (lengths_of path) k + slice_index (lengths_of path) k → IsSmall (lengths_of path) k n
+small_by path k n stand there begins ends =
+    let below = stand.within k (n - first_hop (lengths_of path) k) there (omega (arith, begins, ends)) in
+    let last = stand.within k (slice_index (lengths_of path) k - 1) there (omega (arith, begins, ends)) in
+    record {
+      segment = omega (arith, there, stand.count, stand.few);
+      hops = omega (arith, last, stand.few_hops);
+      number = omega (arith, below, begins, stand.few_hops);
+    }
+
+pub small : (m : Meta) (path : List ℕ) (k n : ℕ) → IsMetaOf m path → k < segment_count m.lengths → first_hop m.lengths k ≤ n
+    → n < first_hop m.lengths k + slice_index m.lengths k → IsSmall m.lengths k n
+small m path k n meta =
+    let P : List ℕ → Type 0 = λ ls. k < segment_count ls → first_hop ls k ≤ n → n < first_hop ls k + slice_index ls k → IsSmall ls k n in
+    subst P (sym meta.lengths) (small_by path k n (fields_stand path meta.are meta.lawful))
+
+-- ---- the last hop of the segment before
+
+-- segment j is the one before, and n the number of the first hop behind it
+pub record HasBefore (lengths : List ℕ) (ss : List Segment) (j n : ℕ) : Type 0 where
+  pub some : 1 ≤ n
+  pub there : j < segment_count lengths
+  pub begins : first_hop lengths j ≤ n - 1
+  pub ends : n - 1 < first_hop lengths j + slice_index lengths j
+  pub position : n - 1 - first_hop lengths j ≡ hops_in ss j - 1
+
+has_before_by : (v : Spot) (path : List ℕ) (j : ℕ) → FieldsStand path → LiesOn v (path_of path).segments → v.position ≡ 0 → v.segment ≡ j + 1
+    → HasBefore (lengths_of path) (path_of path).segments j v.number
+has_before_by v path j stand is first later =
+    let lengths = lengths_of path in
+    let there : j + 1 < segment_count lengths = omega (arith, is.there, later, stand.count) in
+    let own : v.segment < segment_count lengths = omega (arith, is.there, stand.count) in
+    let at : v.number ≡ first_hop lengths v.segment + v.position = is.number ∙ stand.number v.segment v.position own in
+    let from : first_hop lengths v.segment ≡ first_hop lengths (j + 1) = ap (first_hop lengths) later in
+    let follows = stand.follows j there in
+    let some = stand.some j (omega (arith, there)) in
+    let hops = stand.hops j (omega (arith, there)) in
+    let number : v.number ≡ first_hop lengths j + slice_index lengths j = omega (arith, at, from, follows, first) in
+    record {
+      some = omega (arith, number, some);
+      there = omega (arith, there);
+      begins = omega (arith, number, some);
+      ends = omega (arith, number, some);
+      position = omega (arith, number, some, hops);
+    }
+
+pub has_before : (v : Spot) (m : Meta) (path : List ℕ) → IsMetaOf m path → LiesOn v (path_of path).segments → v.position ≡ 0 → v.segment ≢ 0
+    → HasBefore m.lengths (path_of path).segments (v.segment - 1) v.number
+has_before v m path meta is first other =
+    let P : List ℕ → Type 0 = λ ls. HasBefore ls (path_of path).segments (v.segment - 1) v.number in
+    let later : v.segment ≡ v.segment - 1 + 1 = omega (arith, other) in
+    subst P (sym meta.lengths) (has_before_by v path (v.segment - 1) (fields_stand path meta.are meta.lawful) is first later)

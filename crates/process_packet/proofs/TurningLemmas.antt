@@ -1,0 +1,65 @@
+-- The sight with its segment identifier chained shows the packet with its segment identifier chained.
+use Rattle.std.proofs.Common.{◌≡◌, ◌&&◌, not, Bool, true, false, ℕ, refl, sym, ap, ap₂, ◌∙◌, arith, if◌then◌else◌}
+use Rattle.hop_check.specs.Mac.{chain}
+use Rattle.path_fields.specs.Fields.{hop_field, info_field}
+use Rattle.path_fields.specs.InPlace.{with_segment_id}
+use Rattle.scion_header.specs.Header.{header_fields}
+use Rattle.scion_packet.specs.Path.{HopField, InfoField, Segment, place_at}
+use Rattle.process_packet.specs.Sight.{IsAlike, Sees}
+use Rattle.process_packet.specs.Spot.{IsSpot}
+use Rattle.process_packet.specs.Standing.{Standing, chained, chained_id, hop, info, is_along, is_external, turned_back}
+use Rattle.process_packet.specs.declared.sight.Sight.{Sight}
+use Rattle.process_packet.proofs.AlikeLemmas.{alike_set, info_set, whole_alike, with_id_of}
+
+-- Two sights that differ in the identifier at most.
+pub record IsSameBut (v w : Sight) : Type 0 where
+  pub link : w.link ≡ v.link
+  pub source : w.source ≡ v.source
+  pub moment : w.moment ≡ v.moment
+  pub header : w.header ≡ v.header
+  pub payload : w.payload ≡ v.payload
+  pub segments : w.segments ≡ v.segments
+  pub switched : w.switched ≡ v.switched
+  pub segment : w.spot.segment ≡ v.spot.segment
+  pub position : w.spot.position ≡ v.spot.position
+  pub hops : w.spot.hops ≡ v.spot.hops
+  pub number : w.spot.number ≡ v.spot.number
+  pub hop : w.spot.hop ≡ v.spot.hop
+
+pub sees_chained : (v w : Sight) (s : Standing) (id : ℕ) → Sees v s → IsSameBut v w → id ≡ chain (info_field v.spot.info).segment_id (hop_field v.spot.hop).mac
+    → info_field w.spot.info ≡ with_id_of id (info_field v.spot.info) → Sees w (chained s)
+sees_chained v w s id sees same id-is info-is =
+    let ss = s.path.segments in
+    let at = s.path.place in
+    let k = at.segment in
+    let ts = with_segment_id ss k (chained_id s) in
+    let alike : IsAlike k ss ts = alike_set ss k (chained_id s) in
+    let named : id ≡ chained_id s = id-is ∙ ap₂ (λ (i : InfoField) (h : HopField). chain i.segment_id h.mac) sees.spot.info sees.spot.hop in
+    record {
+      link = same.link ∙ sees.link;
+      source = same.source ∙ sees.source;
+      moment = same.moment ∙ sees.moment;
+      header = ap header_fields same.header ∙ sees.header;
+      payload = same.payload ∙ sees.payload;
+      count = same.segments ∙ sees.count ∙ sym alike.count;
+      spot = record {
+        place = record {
+          segment = same.segment ∙ sees.spot.place.segment;
+          position = same.position ∙ sees.spot.place.position;
+          hops = same.hops ∙ sees.spot.place.hops ∙ sym (alike.hops k);
+          number = same.number ∙ sees.spot.place.number ∙ sym (alike.number at);
+          there = omega (arith, sees.spot.place.there, alike.count);
+          inside = omega (arith, sees.spot.place.inside, alike.hops k);
+        };
+        info = info-is ∙ ap₂ with_id_of named sees.spot.info ∙ sym (info_set ss k (chained_id s) at.position sees.spot.place.there);
+        hop = ap hop_field same.hop ∙ sees.spot.hop ∙ sym (alike.hop at);
+      };
+      switched = same.switched ∙ sees.switched;
+      whole = whole_alike k ss ts alike sees.whole;
+    }
+
+pub turned_is : (s : Standing) → (is_external s && not (is_along s)) ≡ true → turned_back s ≡ chained s
+turned_is s test = ap (λ (b : Bool). if b then chained s else s) test
+
+pub turned_not : (s : Standing) → (is_external s && not (is_along s)) ≡ false → turned_back s ≡ s
+turned_not s test = ap (λ (b : Bool). if b then chained s else s) test

@@ -1,0 +1,12 @@
+pub mod Cause
+pub mod Totals
+pub mod Underlay
+pub mod Neighbours
+pub mod Network
+pub mod Request
+pub mod Standing
+pub mod Rows
+pub mod Decide
+pub mod Spot
+pub mod Sight
+pub mod Exit

@@ -1,0 +1,191 @@
+-- The rows of the decision table. A row ends the decision, or lets the packet go on, changed or not.
+use Rattle.std.specs.Prelude.{ℕ, Bool, true, false, not, ◌&&◌, ◌||◌, ◌==◌, nat_lt, List, [], ◌∷◌, length, if◌then◌else◌, Option, Some, None, is_some, option_map}
+use Rattle.field_rows.specs.Place.{number_at}
+use Rattle.scion_packet.specs.Fault.{Fault, TooShort, WrongVersion, WrongPathType, WrongLength, WrongPath, PeeringSegment}
+use Rattle.scion_packet.specs.Header.{HeaderFields, HostAddress, header_fault, host_code}
+use Rattle.scion_packet.specs.Packet.{Packet, path_bytes}
+use Rattle.scion_packet.specs.Path.{path_fault}
+use Rattle.segment_switch.specs.Pairs.{is_pair}
+use Rattle.segment_switch.specs.declared.kind.LinkKind.{LinkKind}
+use Rattle.process_packet.specs.declared.cause.Cause.{Cause}
+use Rattle.process_packet.specs.declared.cause.Cause.TheVariants as cause
+use Rattle.process_packet.specs.declared.decision.Problem.{Problem}
+use Rattle.process_packet.specs.declared.underlay.Ip.TheVariants.{V4, V6}
+use Rattle.process_packet.specs.declared.underlay.Underlay.{Underlay}
+use Rattle.process_packet.specs.Neighbours.{service_at, sibling_at}
+use Rattle.process_packet.specs.Network.{Network, own_link, sibling, service, interface_kind, is_local, is_owner, is_remote}
+use Rattle.process_packet.specs.Standing.{Standing, packet, arrival_kind, is_external, is_expired, is_authentic, is_along, ingress, egress, entry, ingress_alert, egress_alert, is_first_of_path, is_last_of_segment, is_last_of_path, is_followed, next_place, hop_pointer, info_pointer, chained, turned_back, changed_over, with_place}
+use Rattle.process_packet.specs.Request.{is_request}
+
+-- what becomes of a packet; a packet that is sent stands as it leaves
+pub data Verdict : Type 0 where
+  Sent : ℕ → Option Underlay → Packet → Verdict
+  Answered : Problem → Verdict
+  Dropped : Cause → Verdict
+
+pub data Turn : Type 0 where
+  GoesOn : Standing → Turn
+  Ends : Verdict → Turn
+
+abbrev pub Row : Type 0
+Row = Standing → Turn
+
+-- a row that ends the decision where its test applies
+abbrev pub ends_where : Bool → Verdict → Row
+ends_where true v s = Ends v
+ends_where false v s = GoesOn s
+
+-- rows in order: the first that ends the decision decides
+abbrev pub then_rows : Turn → List Row → Turn
+then_rows (Ends v) rows = Ends v
+then_rows (GoesOn s) [] = GoesOn s
+then_rows (GoesOn s) (r ∷ rows) = then_rows (r s) rows
+
+abbrev pub problem : ℕ → ℕ → ℕ → Verdict
+problem kind code pointer = Answered (record { kind = kind; code = code; pointer = pointer })
+
+-- SCMP type 4: a field of the packet is wrong
+abbrev pub parameter_problem : ℕ → ℕ → Verdict
+parameter_problem code pointer = problem 4 code pointer
+
+-- SCMP type 131, with the interface that it is asked of
+abbrev pub traceroute_reply : ℕ → Verdict
+traceroute_reply interface = problem 131 0 interface
+
+-- ---- the datagram
+
+abbrev pub too_long : Row
+too_long s = ends_where (nat_lt 9216 (length s.bytes)) (Dropped cause.TooLong) s
+
+abbrev pub cause_of : Fault → Cause
+cause_of TooShort = cause.Short
+cause_of WrongVersion = cause.Version
+cause_of WrongPathType = cause.PathType
+cause_of WrongLength = cause.Header
+cause_of WrongPath = cause.Path
+cause_of PeeringSegment = cause.Peering
+
+abbrev pub faulty : Option Fault → Row
+faulty None s = GoesOn s
+faulty (Some f) s = Ends (Dropped (cause_of f))
+
+abbrev pub faulty_header : Row
+faulty_header s = faulty (header_fault s.bytes) s
+
+abbrev pub faulty_path : Row
+faulty_path s = faulty (path_fault (path_bytes s.bytes)) s
+
+-- ---- the hop, and how the packet came
+
+abbrev pub expired : Row
+expired s = ends_where (is_expired s) (parameter_problem 52 (hop_pointer s)) s
+
+abbrev pub wrong_ingress : Row
+wrong_ingress s =
+    ends_where (is_external s && not (ingress s == s.link)) (parameter_problem (if is_along s then 49 else 50) (hop_pointer s)) s
+
+abbrev pub wrong_payload_length : Row
+wrong_payload_length s = ends_where (not (s.header.payload_length == length s.payload)) (parameter_problem 19 0) s
+
+-- from outside by the router at the other end of the link; from inside where the path begins, or by the router that
+-- owns the interface of entry
+abbrev pub came_lawfully : Standing → Bool
+came_lawfully s =
+    if is_external s then is_remote (own_link s.network s.link) s.source
+    else is_first_of_path s.path.place || is_owner (sibling s.network (entry s)) s.source
+
+abbrev pub wrong_underlay_source : Row
+wrong_underlay_source s = ends_where (not (came_lawfully s)) (Dropped cause.UnderlaySource) s
+
+-- a packet from outside comes from another AS; one that begins its path inside comes from this one
+abbrev pub is_source_lawful : Standing → Bool
+is_source_lawful s =
+    if is_external s then not (is_local s.network s.header.source)
+    else not (is_first_of_path s.path.place) || is_local s.network s.header.source
+
+abbrev pub wrong_source : Row
+wrong_source s = ends_where (not (is_source_lawful s)) (parameter_problem 33 20) s
+
+-- a packet from outside ends here exactly at its path's last hop; one from inside goes to another AS
+abbrev pub is_destination_lawful : Standing → Bool
+is_destination_lawful s =
+    let local = is_local s.network s.header.destination in
+    if is_external s then (if is_last_of_path s then local else not local) else not local
+
+abbrev pub wrong_destination : Row
+wrong_destination s = ends_where (not (is_destination_lawful s)) (parameter_problem 34 12) s
+
+abbrev pub turn_back_segment_id : Row
+turn_back_segment_id s = GoesOn (turned_back s)
+
+abbrev pub wrong_mac : Row
+wrong_mac s = ends_where (not (is_authentic s)) (parameter_problem 51 (hop_pointer s)) s
+
+abbrev pub ingress_request : Row
+ingress_request s =
+    ends_where (is_external s && ingress_alert s && is_request s.header.next_header s.payload) (traceroute_reply (ingress s)) s
+
+-- ---- delivery
+
+abbrev pub to_service : Packet → Option Underlay → Verdict
+to_service p None = problem 1 0 0
+to_service p (Some at) = Sent 0 (Some at) p
+
+-- a host of kind 0 with 4 or 16 bytes is an IP address, one of kind 1 with 4 bytes a service; no other kind is known
+abbrev pub delivered : Network → Packet → Verdict
+delivered n p =
+    let host = p.header.destination in
+    if host.kind == 0 && host_code host == 0 then Sent 0 (Some (record { ip = V4 host.host; port = n.host_port })) p
+    else if host.kind == 0 && host_code host == 3 then Sent 0 (Some (record { ip = V6 host.host; port = n.host_port })) p
+    else if host.kind == 1 && host_code host == 0 then to_service p (option_map service_at (service n (number_at host.host 0 2)))
+    else parameter_problem 21 9
+
+abbrev pub delivery : Row
+delivery s = ends_where (is_external s && is_local s.network s.header.destination) (delivered s.network (packet s)) s
+
+-- ---- leaving
+
+-- at a segment's last hop, if another segment follows: its first hop is looked at as the one before was
+abbrev pub switch : Row
+switch s =
+    if is_last_of_segment s && is_followed s
+    then then_rows (GoesOn (changed_over s)) (expired ∷ wrong_mac ∷ [])
+    else GoesOn s
+
+abbrev pub unknown_egress : Row
+unknown_egress s =
+    ends_where (not (is_some (interface_kind s.network (egress s)))) (parameter_problem (if is_along s then 50 else 49) (hop_pointer s)) s
+
+abbrev pub known_pair : Bool → Option LinkKind → Option LinkKind → Bool
+known_pair switched from None = false
+known_pair switched from (Some to) = is_pair switched from to
+
+abbrev pub is_pair_lawful : Standing → Bool
+is_pair_lawful s = known_pair s.switched (arrival_kind s) (interface_kind s.network (egress s))
+
+abbrev pub wrong_pair : Row
+wrong_pair s =
+    ends_where (not (is_pair_lawful s)) (if s.switched then parameter_problem 53 (info_pointer s) else parameter_problem 48 (hop_pointer s)) s
+
+abbrev pub egress_request : Row
+egress_request s =
+    ends_where (is_some (own_link s.network (egress s)) && egress_alert s && is_request s.header.next_header s.payload)
+    (traceroute_reply (egress s)) s
+
+-- out by an own link, at the next hop
+abbrev pub sent_out : Standing → ℕ → Verdict
+sent_out s link =
+    if is_last_of_path s then Dropped cause.PathEnd
+    else Sent link None (packet (with_place s (next_place s.path.segments s.path.place)))
+
+-- to the router of this AS that has the egress interface, as the packet stands
+abbrev pub sent_on : Packet → Option Underlay → Verdict
+sent_on p None = Dropped cause.PathEnd
+sent_on p (Some at) = Sent 0 (Some at) p
+
+-- along, the identifier is chained for the next hop
+abbrev pub leave : Row
+leave s =
+    if is_some (own_link s.network (egress s))
+    then Ends (sent_out (if is_along s then chained s else s) (egress s))
+    else Ends (sent_on (packet s) (option_map sibling_at (sibling s.network (egress s))))

@@ -1,0 +1,15 @@
+-- Addresses of the underlay that are the same.
+use Rattle.std.specs.Prelude.{Bool, false, ◌&&◌, ◌==◌}
+use Rattle.std.specs.Str.{bytes_eq}
+use Rattle.process_packet.specs.declared.underlay.Ip.{Ip}
+use Rattle.process_packet.specs.declared.underlay.Ip.TheVariants.{V4, V6}
+use Rattle.process_packet.specs.declared.underlay.Underlay.{Underlay}
+
+abbrev pub same_ip : Ip → Ip → Bool
+same_ip (V4 a) (V4 b) = bytes_eq a b
+same_ip (V4 a) (V6 b) = false
+same_ip (V6 a) (V4 b) = false
+same_ip (V6 a) (V6 b) = bytes_eq a b
+
+abbrev pub same_underlay : Underlay → Underlay → Bool
+same_underlay a b = a.port == b.port && same_ip a.ip b.ip

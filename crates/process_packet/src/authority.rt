@@ -1,0 +1,63 @@
+//! The rows that look at what the hop field is authorised for.
+
+ghost use Rattle.std.specs.Prelude.{◌≡◌, [], ◌∷◌, None, List};
+ghost use Rattle.scion_packet.specs.Path.{Segment};
+ghost use Rattle.process_packet.specs.Network.{network};
+ghost use Rattle.process_packet.specs.Rows as row;
+ghost use Rattle.process_packet.specs.Sight.{Says, Sees, with_id};
+ghost use Rattle.process_packet.specs.Standing.{Standing, turned_back};
+
+use crate::config::Config;
+use crate::refusal::{Refusal, parameter_problem, traceroute_reply};
+use crate::request::is_request;
+use crate::sight::Sight;
+use hop_check::{chain, verify};
+
+impl Sight {
+    /// From outside against the direction of construction, the segment's identifier is turned back to
+    /// that of the current hop.
+    pub(crate) fn turn_back_segment_id(&mut self)
+        ensures sees { (s : Standing) → Sees self.old s → Sees self.new (turned_back s) }
+        ensures turned { (s : Standing) → Sees self.old s → self.old.turned ≡ None → self.old.entered ≡ s.path.place.segment
+            → (turned_back s).path.segments ≡ with_id self.new.turned self.new.entered s.path.segments }
+        ensures place { (self.new.spot.segment ≡ self.old.spot.segment) × (self.new.spot.position ≡ self.old.spot.position)
+            × (self.new.spot.hops ≡ self.old.spot.hops) × (self.new.spot.number ≡ self.old.spot.number) }
+        ensures entered { self.new.entered ≡ self.old.entered }
+        ensures segments { self.new.segments ≡ self.old.segments }
+    {
+        if self.is_external() && !self.spot.info.along {
+            let segment_id = chain(self.spot.info.segment_id, &self.spot.hop.mac);
+            self.spot.info.segment_id = segment_id;
+            self.turned = Some(segment_id);
+        }
+    }
+
+    /// It doesn't carry the MAC that the AS's key gives for it.
+    pub(crate) fn wrong_mac(&self, config: &Config) -> Result<(), Refusal>
+        ensures { (s : Standing) → Sees self.now s → network config.now ≡ s.network → Says (row.wrong_mac s) s result }
+    {
+        if !verify(&config.key, &self.spot.info, &self.spot.hop) {
+            return Err(parameter_problem(51, self.hop_pointer()));
+        }
+        Ok(())
+    }
+
+    /// It asks the router at its ingress interface, which is this one.
+    fn ingress_request(&self, payload: &[u8]) -> Result<(), Refusal>
+        ensures { (s : Standing) → Sees self.now s → payload.now ≡ s.payload → Says (row.ingress_request s) s result }
+    {
+        if self.is_external() && self.ingress_alert() && is_request(self.header.next_header, payload) {
+            return Err(traceroute_reply(self.ingress()));
+        }
+        Ok(())
+    }
+
+    /// Both rows, in the table's order.
+    pub(crate) fn is_authorised(&self, config: &Config, payload: &[u8]) -> Result<(), Refusal>
+        ensures { (s : Standing) → Sees self.now s → network config.now ≡ s.network → payload.now ≡ s.payload
+            → Says (row.then_rows (row.GoesOn s) (row.wrong_mac ∷ row.ingress_request ∷ [])) s result }
+    {
+        self.wrong_mac(config)?;
+        self.ingress_request(payload)
+    }
+}

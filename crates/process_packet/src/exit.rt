@@ -1,0 +1,36 @@
+//! The ways out of the AS.
+
+use crate::underlay::Underlay;
+use segment_switch::LinkKind;
+
+/// The way out of the AS by an interface, and what the AS behind it is.
+#[derive(Clone, Copy, Debug, PartialEq, Eq)]
+pub(crate) enum Exit {
+    /// A link of this router.
+    Own(LinkKind),
+    /// An interface of the router at this internal address.
+    Beyond(LinkKind, Underlay),
+}
+
+impl Exit {
+    ghost use Rattle.std.specs.Prelude.{◌≡◌};
+    ghost use Rattle.process_packet.specs.Exit.{exit_kind, is_own};
+
+    pub(crate) fn kind(&self) -> LinkKind
+        ensures { result ≡ exit_kind self.now }
+    {
+        match self {
+            Exit::Own(kind) => *kind,
+            Exit::Beyond(kind, _) => *kind,
+        }
+    }
+
+    pub(crate) fn is_own(&self) -> bool
+        ensures { result ≡ is_own self.now }
+    {
+        match self {
+            Exit::Own(_) => true,
+            Exit::Beyond(..) => false,
+        }
+    }
+}

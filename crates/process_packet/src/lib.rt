@@ -1,0 +1,28 @@
+//! The decision of a SCION border router: what is done with a datagram that arrived, and with which
+//! bytes it leaves.
+#![tactic(auto)]
+
+mod arriving;
+mod authority;
+mod cause;
+mod config;
+mod decision;
+mod exit;
+mod leaving;
+mod lookup;
+mod neighbours;
+mod refusal;
+mod request;
+mod sight;
+mod spot;
+#[cfg(test)]
+mod tests;
+mod totals;
+mod underlay;
+
+pub use cause::Cause;
+pub use config::Config;
+pub use decision::{Decision, Problem};
+pub use neighbours::{Bands, Link, Service, Sibling};
+pub use totals::Totals;
+pub use underlay::{Ip, Underlay};

@@ -1,0 +1,113 @@
+//! Look-ups in the configuration.
+
+ghost use Rattle.std.specs.Prelude.{◌≡◌, ◌==◌, ◌||◌, is_some, map, option_map};
+ghost use Rattle.std.specs.List.{list_any};
+ghost use Rattle.process_packet.specs.Neighbours.{are_two, is_banded, link_bands, link_kind, service_at};
+ghost use Rattle.process_packet.specs.Exit.{exit_of};
+ghost use Rattle.process_packet.specs.Network.{has_link, is_local, is_owner, is_remote, network, own_link, service, sibling};
+ghost use Rattle.scion_header.specs.Address.{host_address};
+
+use crate::config::Config;
+use crate::exit::Exit;
+use crate::neighbours::{Link, Service, Sibling};
+use crate::underlay::Underlay;
+use scion_header::Address;
+use segment_switch::LinkKind;
+
+/// Whether one of the links has two bands.
+fn some_are_two(links: &[Link]) -> bool
+    ensures { result ≡ list_any are_two (map link_bands links.now) }
+{
+    links.iter().map(|link| link.bands).any(|bands| bands.are_two())
+}
+
+impl Config {
+    /// Whether the number is that of a link of this router or, as 0, of the internal network.
+    pub fn has_link(&self, link: u16) -> bool
+        ensures { result ≡ has_link (network self.now) link }
+    {
+        link == 0 || self.own_link(link).is_some()
+    }
+
+    /// Whether some link, or the internal network, has two bands.
+    pub fn banded(&self) -> bool
+        ensures { result ≡ is_banded self.now.internal_bands self.now.links.items }
+    {
+        self.internal_bands.are_two() || some_are_two(self.links.as_slice())
+    }
+
+    /// The link of this router with a number.
+    fn own_link(&self, id: u16) -> Option<Link>
+        ensures { result ≡ own_link (network self.now) id }
+    {
+        self.links.iter().copied().find(|link| link.id == id)
+    }
+
+    /// The interface of another router of this AS with a number.
+    fn sibling(&self, id: u16) -> Option<Sibling>
+        ensures { result ≡ sibling (network self.now) id }
+    {
+        self.siblings.iter().copied().find(|sibling| sibling.id == id)
+    }
+
+    /// The service with a number.
+    fn service(&self, number: u16) -> Option<Service>
+        ensures { result ≡ service (network self.now) number }
+    {
+        self.services.iter().copied().find(|service| service.number == number)
+    }
+
+    /// What the AS at the end of this router's link is.
+    pub(crate) fn link_kind(&self, id: u16) -> Option<LinkKind>
+        ensures { result ≡ option_map link_kind (own_link (network self.now) id) }
+    {
+        self.own_link(id).map(|link| link.kind)
+    }
+
+    /// The way out by an interface of this AS.
+    pub(crate) fn exit(&self, id: u16) -> Option<Exit>
+        ensures { result ≡ exit_of (network self.now) id }
+    {
+        match self.own_link(id) {
+            Some(link) => Some(Exit::Own(link.kind)),
+            None => match self.sibling(id) {
+                Some(sibling) => Some(Exit::Beyond(sibling.kind, sibling.at)),
+                None => None,
+            },
+        }
+    }
+
+    /// Where a service of this AS is.
+    pub(crate) fn service_at(&self, number: u16) -> Option<Underlay>
+        ensures { result ≡ option_map service_at (service (network self.now) number) }
+    {
+        self.service(number).map(|service| service.at)
+    }
+
+    /// Whether the datagram came from the other end of this router's link.
+    pub(crate) fn is_remote(&self, link: u16, source: &Underlay) -> bool
+        ensures { result ≡ is_remote (own_link (network self.now) link) source.now }
+    {
+        match self.own_link(link) {
+            Some(link) => source.is_same(&link.remote),
+            None => false,
+        }
+    }
+
+    /// Whether the datagram came from the router of this AS that owns the interface.
+    pub(crate) fn is_owner(&self, interface: u16, source: &Underlay) -> bool
+        ensures { result ≡ is_owner (sibling (network self.now) interface) source.now }
+    {
+        match self.sibling(interface) {
+            Some(sibling) => source.ip.is_same(&sibling.at.ip),
+            None => false,
+        }
+    }
+
+    /// Whether the address is one of this AS.
+    pub(crate) fn is_local(&self, address: &Address) -> bool
+        ensures { result ≡ is_local (network self.now) (host_address address.now) }
+    {
+        address.isd == self.isd && address.autonomous_system == self.autonomous_system
+    }
+}

@@ -1,0 +1,59 @@
+//! What a border router is told of the links, routers and services around it.
+
+use crate::underlay::Underlay;
+use segment_switch::LinkKind;
+
+/// How many bands a link has: packets of the high band overtake those of the other one.
+#[derive(Clone, Copy, Debug, PartialEq, Eq)]
+pub enum Bands {
+    One,
+    Two,
+}
+
+impl Bands {
+    ghost use Rattle.std.specs.Prelude.{◌≡◌};
+    ghost use Rattle.process_packet.specs.Neighbours.{are_two};
+
+    /// Whether they are two.
+    pub(crate) fn are_two(&self) -> bool
+        ensures { result ≡ are_two self.now }
+    {
+        match self {
+            Bands::One => false,
+            Bands::Two => true,
+        }
+    }
+}
+
+/// A link of this router to another AS.
+#[derive(Clone, Copy, Debug, PartialEq, Eq)]
+pub struct Link {
+    /// The number of its interface, at least 1.
+    pub id: u16,
+    /// What the AS at its other end is.
+    pub kind: LinkKind,
+    /// The address and port of this router on the link.
+    pub local: Underlay,
+    /// The address and port of the neighbour.
+    pub remote: Underlay,
+    pub bands: Bands,
+}
+
+/// An interface of another router of this AS.
+#[derive(Clone, Copy, Debug, PartialEq, Eq)]
+pub struct Sibling {
+    /// The number of the interface, at least 1.
+    pub id: u16,
+    /// What the AS behind the interface is.
+    pub kind: LinkKind,
+    /// The internal address and port of the router that owns it.
+    pub at: Underlay,
+}
+
+/// Where a service of this AS is.
+#[derive(Clone, Copy, Debug, PartialEq, Eq)]
+pub struct Service {
+    /// Its number, at most 32767.
+    pub number: u16,
+    pub at: Underlay,
+}
