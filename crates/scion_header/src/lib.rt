@@ -7,6 +7,7 @@
 #![tactic(auto)]
 
 mod address;
+mod ends;
 mod fault;
 mod header;
 mod host;
@@ -17,9 +18,10 @@ mod tests;
 mod writing;
 
 pub use address::Address;
+pub use ends::HeaderEnds;
 pub use fault::{HeaderFault, NoRoom};
 pub use header::Header;
 pub use host::Host;
 pub use laws::lawful;
-pub use reading::read_header;
+pub use reading::{check_header, read_header};
 pub use writing::write_header;
