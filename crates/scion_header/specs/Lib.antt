@@ -2,3 +2,4 @@ pub mod Host
 pub mod Address
 pub mod Header
 pub mod Fault
+pub mod Upper

@@ -7,6 +7,8 @@
 #![tactic(auto)]
 
 mod address;
+mod ends;
+mod extensions;
 mod fault;
 mod header;
 mod host;
@@ -14,12 +16,16 @@ mod laws;
 mod reading;
 #[cfg(test)]
 mod tests;
+mod upper;
 mod writing;
 
 pub use address::Address;
+pub use ends::HeaderEnds;
+pub use extensions::{upper_layer, upper_place};
 pub use fault::{HeaderFault, NoRoom};
 pub use header::Header;
 pub use host::Host;
 pub use laws::lawful;
-pub use reading::read_header;
+pub use reading::{check_header, read_header};
+pub use upper::{Upper, UpperPlace};
 pub use writing::write_header;

@@ -6,6 +6,7 @@ ghost use Rattle.scion_header.specs.Header.{header_fields};
 ghost use Rattle.scion_header.specs.Host.{length_code};
 
 use crate::address::Address;
+use crate::ends::HeaderEnds;
 use crate::fault::HeaderFault;
 use crate::header::Header;
 use crate::host::host_at;
@@ -35,11 +36,17 @@ fn address_at(bytes: &[u8], domain: usize, host: usize, bits: u8) -> Address
     }
 }
 
-/// The header of a datagram that passed the tests, whose source host begins at this place.
-fn header_at(bytes: &[u8], source_host: usize) -> Header
+/// Where the source host begins, by byte 9 of the datagram.
+fn source_host(kinds: u8) -> usize
+    ensures { result ≡ 28 + host_len (kinds / 16 % 4) }
+{
+    28 + host_len(kinds / 16 % 4)
+}
+
+/// The header of a datagram that passed the tests.
+fn header_at(bytes: &[u8]) -> Header
     requires whole { front_end bytes.now ≤ length bytes.now }
     requires covers { front_end bytes.now ≤ header_end bytes.now }
-    requires place { source_host ≡ 28 + host_len (host_kinds bytes.now / 16 % 4) }
     ensures { header_fields result ≡ header_of bytes.now }
 {
     let first = u32_at(bytes, 0);
@@ -52,16 +59,20 @@ fn header_at(bytes: &[u8], source_host: usize) -> Header
         payload_length: u16_at(bytes, 6),
         reserved: u16_at(bytes, 10),
         destination: address_at(bytes, 12, 28, kinds / 16),
-        source: address_at(bytes, 20, source_host, kinds % 16),
+        source: address_at(bytes, 20, source_host(kinds), kinds % 16),
     }
 }
 
-/// The header of a datagram, where all its tests pass; else the fault of the first that fails: the
-/// length of the common header, the version, the path type, that the header covers its addresses,
-/// and that the datagram is as long as its header says.
-pub fn read_header(bytes: &[u8]) -> Result<Header, HeaderFault>
-    ensures header { IfOk result (λ h. header_fields h ≡ header_of bytes.now) }
+/// Where the parts of a datagram's header end, where all its tests pass; else the fault of the first
+/// that fails: the length of the common header, the version, the path type, that the header covers its
+/// addresses, and that the datagram is as long as its header says. No address is looked at.
+pub fn check_header(bytes: &[u8]) -> Result<HeaderEnds, HeaderFault>
     ensures fault { MatchResult result (λ _. header_fault bytes.now ≡ None) (λ e. header_fault bytes.now ≡ Some (fault_of e)) }
+    ensures addresses { IfOk result (λ ends. ends.addresses ≡ front_end bytes.now) }
+    ensures header { IfOk result (λ ends. ends.header ≡ header_end bytes.now) }
+    // what the tests show
+    ensures covers { IfOk result (λ ends. ends.addresses ≤ ends.header) }
+    ensures whole { IfOk result (λ ends. ends.header ≤ length bytes.now) }
 {
     if bytes.len() < 12 {
         return Err(HeaderFault::Short);
@@ -73,14 +84,23 @@ pub fn read_header(bytes: &[u8]) -> Result<Header, HeaderFault>
         return Err(HeaderFault::PathType);
     }
     let kinds = bytes[9];
-    let source_host = 28 + host_len(kinds / 16 % 4);
-    let front = source_host + host_len(kinds % 4);
-    let whole = 4 * usize::from(bytes[5]);
-    if whole < front {
+    let addresses = source_host(kinds) + host_len(kinds % 4);
+    let header = 4 * usize::from(bytes[5]);
+    if header < addresses {
         return Err(HeaderFault::Header);
     }
-    if bytes.len() < whole {
+    if bytes.len() < header {
         return Err(HeaderFault::Short);
     }
-    Ok(header_at(bytes, source_host))
+    Ok(HeaderEnds { addresses, header })
+}
+
+/// The header of a datagram, where all its tests pass; else the fault of the first that fails, as
+/// `check_header` tells it.
+pub fn read_header(bytes: &[u8]) -> Result<Header, HeaderFault>
+    ensures header { IfOk result (λ h. header_fields h ≡ header_of bytes.now) }
+    ensures fault { MatchResult result (λ _. header_fault bytes.now ≡ None) (λ e. header_fault bytes.now ≡ Some (fault_of e)) }
+{
+    check_header(bytes)?;
+    Ok(header_at(bytes))
 }

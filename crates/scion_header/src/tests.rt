@@ -1,4 +1,7 @@
-use crate::{Address, Header, HeaderFault, Host, NoRoom, lawful, read_header, write_header};
+use crate::{
+    Address, Header, HeaderEnds, HeaderFault, Host, NoRoom, Upper, UpperPlace, check_header,
+    lawful, read_header, upper_layer, upper_place, write_header,
+};
 
 /// A datagram from 1-ff00:0:111, 10.1.0.5 to 1-ff00:0:112, 10.2.0.7: one segment of three hops, 8
 /// bytes of UDP.
@@ -20,18 +23,28 @@ fn address(number: u16, host: [u8; 4]) -> Address {
     }
 }
 
-#[test]
-fn reads_and_writes_a_datagram(rt: HostRuntime) {
-    let header = Header {
+/// The header of the datagram, with another protocol behind it.
+fn header(next_header: u8) -> Header {
+    Header {
         traffic_class: 0,
         flow_id: 1,
-        next_header: 17,
+        next_header,
         header_length: 21,
         payload_length: 8,
         reserved: 0,
         destination: address(0x112, [10, 2, 0, 7]),
         source: address(0x111, [10, 1, 0, 5]),
+    }
+}
+
+#[test]
+fn reads_and_writes_a_datagram(rt: HostRuntime) {
+    let header = header(17);
+    let ends = HeaderEnds {
+        addresses: 36,
+        header: 84,
     };
+    assert_eq!(rt; check_header(&DATAGRAM), Ok(ends));
     assert_eq!(rt; read_header(&DATAGRAM), Ok(header));
     assert_eq!(rt; header.front_len(), 36);
     assert_eq!(rt; header.source.host.length_code(), 0);
@@ -53,6 +66,11 @@ fn refuses_what_is_no_header(rt: HostRuntime) {
             Err(HeaderFault::Short),
             "{len} bytes"
         );
+        assert_eq!(rt;
+            check_header(&DATAGRAM[..len]),
+            Err(HeaderFault::Short),
+            "{len} bytes"
+        );
     }
     let changes = [
         (0, 0x10, HeaderFault::Version),
@@ -64,5 +82,102 @@ fn refuses_what_is_no_header(rt: HostRuntime) {
         let mut datagram = DATAGRAM;
         datagram[at] = byte;
         assert_eq!(rt; read_header(&datagram), Err(fault), "byte {at} is {byte}");
+        assert_eq!(rt; check_header(&datagram), Err(fault), "byte {at} is {byte}");
+    }
+}
+
+#[test]
+fn finds_the_upper_layer(rt: HostRuntime) {
+    // the protocol behind the header, what stands there, the upper layer's protocol and place if there
+    // is one, and what it is
+    let layers = [
+        (17, b"".as_slice(), Some((17, 0)), Upper::Other),
+        (202, b"".as_slice(), Some((202, 0)), Upper::Cut),
+        (202, b"\x82".as_slice(), Some((202, 0)), Upper::Scmp(130)),
+        // behind one extension
+        (
+            200,
+            b"\xca\x00\x00\x00\x04\x33\x00\x00".as_slice(),
+            Some((202, 4)),
+            Upper::Scmp(4),
+        ),
+        (
+            200,
+            b"\xca\x00\x00\x00\x80\x00\x00\x00".as_slice(),
+            Some((202, 4)),
+            Upper::Scmp(128),
+        ),
+        (
+            201,
+            b"\x11\x01\x00\x00\x00\x00\x00\x00".as_slice(),
+            Some((17, 8)),
+            Upper::Other,
+        ),
+        (
+            200,
+            b"\xca\x00\x00\x00".as_slice(),
+            Some((202, 4)),
+            Upper::Cut,
+        ),
+        // behind both
+        (
+            200,
+            b"\xc9\x00\x00\x00\xca\x01\x00\x00\x00\x00\x00\x00\x82".as_slice(),
+            Some((202, 12)),
+            Upper::Scmp(130),
+        ),
+        // extensions that may not be there are not followed, whole or cut
+        (
+            200,
+            b"\xc8\x00\x00\x00\x04\x33\x00\x00".as_slice(),
+            Some((200, 4)),
+            Upper::Other,
+        ),
+        (
+            200,
+            b"\xc8\x00\x00\x00".as_slice(),
+            Some((200, 4)),
+            Upper::Other,
+        ),
+        (
+            201,
+            b"\xc8\x00\x00\x00\xca\x00\x00\x00".as_slice(),
+            Some((200, 4)),
+            Upper::Other,
+        ),
+        (
+            201,
+            b"\xc9\x00\x00\x00\xca".as_slice(),
+            Some((201, 4)),
+            Upper::Other,
+        ),
+        // extensions that are not wholly there
+        (200, b"".as_slice(), None, Upper::Cut),
+        (200, b"\xca".as_slice(), None, Upper::Cut),
+        (
+            201,
+            b"\xca\x01\x00\x00\x00\x00\x00".as_slice(),
+            None,
+            Upper::Cut,
+        ),
+        (
+            200,
+            b"\xc9\x00\x00\x00\xca\x00\x00".as_slice(),
+            None,
+            Upper::Cut,
+        ),
+    ];
+    for (next_header, bytes, place, upper) in layers {
+        let place = place.map(|(protocol, at)| UpperPlace { protocol, at });
+        assert_eq!(rt;
+            upper_place(next_header, bytes),
+            place,
+            "{next_header} {bytes:?}"
+        );
+        assert_eq!(rt;
+            upper_layer(&header(next_header), bytes),
+            upper,
+            "{next_header} {bytes:?}"
+        );
     }
 }

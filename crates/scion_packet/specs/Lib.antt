@@ -3,6 +3,7 @@ pub mod Header
 pub mod Lengths
 pub mod Path
 pub mod Places
+pub mod Extensions
 pub mod Packet
 pub mod Laws
 pub mod Example

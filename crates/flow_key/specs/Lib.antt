@@ -1,0 +1,3 @@
+pub mod Flow
+pub mod Hash
+pub mod Key
