@@ -1,9 +1,12 @@
 -- A segment identifier set: what stays, and what is read then.
-use Rattle.std.proofs.Common.{◌≡◌, ◌≢◌, ◌<◌, ◌+◌, ℕ, zero, suc, List, [], ◌∷◌, length, take, refl, sym, ap, ◌∙◌, arith, slice_index_or}
+use Rattle.std.proofs.Common.{◌≡◌, ◌≢◌, ◌<◌, ◌+◌, ℕ, zero, suc, List, [], ◌∷◌, length, take, refl, sym, ap, ◌∙◌, arith}
+use Rattle.std.proofs.lemmas.List.Sums.{sum_by-cons}
 use Rattle.path_fields.specs.InPlace.{with_segment_id}
-use Rattle.scion_packet.specs.Path.{HopField, InfoField, Place, Segment, count_hops, hop_number, hops_in, place_at}
-use Rattle.scion_packet.specs.Places.{hop_there, info_there, no_hop, no_segment}
+use Rattle.scion_packet.specs.Path.{InfoField, Place, Segment, count_hops, hops_in, place_at}
+use Rattle.scion_packet.specs.Places.{hop_there, info_there}
 use Rattle.process_packet.specs.Sight.{IsAlike, IsWhole}
+use Rattle.process_packet.specs.Spot.{IsSpot}
+use Rattle.process_packet.specs.declared.spot.Spot.{Spot}
 
 -- an info field with another identifier
 abbrev pub with_id_of : ℕ → InfoField → InfoField
@@ -17,7 +20,9 @@ len_set (s ∷ ss) (suc k) id = ap suc (len_set ss k id)
 total_set : (ss : List Segment) (k id : ℕ) → count_hops (with_segment_id ss k id) ≡ count_hops ss
 total_set [] k id = refl
 total_set (s ∷ ss) zero id = refl
-total_set (s ∷ ss) (suc k) id = let rest = total_set ss k id in omega (arith, rest)
+total_set (s ∷ ss) (suc k) id =
+    sum_by-cons (λ (t : Segment). length t.hops) s (with_segment_id ss k id) ∙ ap (λ (n : ℕ). length s.hops + n) (total_set ss k id)
+    ∙ sym (sum_by-cons (λ (t : Segment). length t.hops) s ss)
 
 hops_set : (ss : List Segment) (k id j : ℕ) → hops_in (with_segment_id ss k id) j ≡ hops_in ss j
 hops_set [] k id j = refl
@@ -30,7 +35,9 @@ before_set : (ss : List Segment) (k id j : ℕ) → count_hops (take j (with_seg
 before_set [] k id j = refl
 before_set (s ∷ ss) k id zero = refl
 before_set (s ∷ ss) zero id (suc j) = refl
-before_set (s ∷ ss) (suc k) id (suc j) = let rest = before_set ss k id j in omega (arith, rest)
+before_set (s ∷ ss) (suc k) id (suc j) =
+    sum_by-cons (λ (t : Segment). length t.hops) s (take j (with_segment_id ss k id)) ∙ ap (λ (n : ℕ). length s.hops + n) (before_set ss k id j)
+    ∙ sym (sum_by-cons (λ (t : Segment). length t.hops) s (take j ss))
 
 hop_set : (ss : List Segment) (k id j i : ℕ) → hop_there (with_segment_id ss k id) (place_at j i) ≡ hop_there ss (place_at j i)
 hop_set [] k id j i = refl
@@ -69,4 +76,19 @@ whole_alike k old new alike whole = record {
   some = λ j below. omega (arith, whole.some j (omega (arith, below, alike.count)), alike.hops j);
   segments = omega (arith, whole.segments, alike.count);
   hops = omega (arith, whole.hops, alike.total);
+}
+
+-- what stands at a place of another segment stays
+pub spot_alike : (v : Spot) (k : ℕ) (old new : List Segment) (at : Place) → IsSpot v old at → IsAlike k old new → at.segment ≢ k → IsSpot v new at
+spot_alike v k old new at is alike other = record {
+  place = record {
+    segment = is.place.segment;
+    position = is.place.position;
+    hops = is.place.hops ∙ sym (alike.hops at.segment);
+    number = is.place.number ∙ sym (alike.number at);
+    there = omega (arith, is.place.there, alike.count);
+    inside = omega (arith, is.place.inside, alike.hops at.segment);
+  };
+  info = is.info ∙ sym (alike.info at other);
+  hop = is.hop ∙ sym (alike.hop at);
 }

@@ -1,13 +1,11 @@
 -- The interface by which a packet entered the AS.
-use Rattle.std.proofs.Common.{◌≡◌, ◌≢◌, ◌&&◌, ◌==◌, Bool, true, false, ℕ, ◌-◌, List, refl, sym, ap, ap₂, ◌∙◌, if◌then◌else◌, inl, inr}
-use Rattle.std.proofs.lemmas.Bool.{and_from, cases_eq, cond-false, cond-true, eq-eqb, ne_eqb}
+use Rattle.std.proofs.Common.{◌≡◌, ◌≢◌, ◌==◌, true, ℕ, ◌-◌, List, sym, ap, ap₂, ◌∙◌}
+use Rattle.std.proofs.lemmas.Bool.{and_from, cond-false, cond-true, eq-eqb, ne_eqb}
 use Rattle.path_fields.specs.Fields.{hop_field, info_field}
-use Rattle.scion_packet.specs.Path.{HopField, InfoField, Place, Segment, hops_in, path_of, place_at}
+use Rattle.scion_packet.specs.Path.{Place, Segment, hops_in, place_at}
 use Rattle.scion_packet.specs.Places.{hop_there, info_there}
-use Rattle.process_packet.specs.Sight.{Sees}
 use Rattle.process_packet.specs.Spot.{IsSpot}
 use Rattle.process_packet.specs.Standing.{Standing, entry, entry_place, ingress, ingress_of, is_first_of_path}
-use Rattle.process_packet.specs.declared.sight.Sight.{Sight}
 use Rattle.process_packet.specs.declared.spot.Spot.{Spot}
 
 entered_at : (ss : List Segment) (at at' : Place) → at' ≡ at → ingress_of (info_there ss at') (hop_there ss at') ≡ ingress_of (info_there ss at) (hop_there ss at)

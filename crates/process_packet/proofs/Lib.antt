@@ -2,3 +2,4 @@ pub mod SpotLemmas
 pub mod ArrivingLemmas
 pub mod AlikeLemmas
 pub mod TurningLemmas
+pub mod SwitchLemmas

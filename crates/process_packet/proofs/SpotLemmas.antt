@@ -1,12 +1,12 @@
 -- What is read at a hop's offsets stands at the hop's place.
-use Rattle.std.proofs.Common.{◌≡◌, ◌≢◌, ◌<◌, ◌≤◌, ℕ, ◌+◌, ◌-◌, ◌*◌, List, length, slice_index, sym, ap, subst, ◌∙◌, arith}
+use Rattle.std.proofs.Common.{◌≡◌, ◌≢◌, ◌<◌, ◌≤◌, ℕ, ◌+◌, ◌-◌, List, length, slice_index, sym, ap, subst, ◌∙◌, arith}
 use Rattle.path_fields.specs.Fields.{hop_field, info_field}
 use Rattle.path_fields.specs.declared.meta.Meta.{Meta}
 use Rattle.scion_packet.specs.Laws.{FieldsStand}
-use Rattle.scion_packet.specs.Lengths.{first_hop, hop_place, hops_place, info_place, segment_count}
+use Rattle.scion_packet.specs.Lengths.{first_hop, hop_place, info_place, segment_count}
 use Rattle.scion_packet.specs.Path.{Segment, hop_at, hops_in, info_at, lengths_of, path_of, place_at}
 use Rattle.scion_packet.proofs.Offsets.{fields_stand}
-use Rattle.process_packet.specs.Spot.{IsMetaOf, IsSpot, Lies, LiesOn}
+use Rattle.process_packet.specs.Spot.{IsMetaOf, IsSpot, LiesOn}
 use Rattle.process_packet.specs.declared.spot.Spot.{Spot}
 
 -- What was read of the hop with number n, of segment k.
@@ -107,3 +107,34 @@ has_before v m path meta is first other =
     let P : List ℕ → Type 0 = λ ls. HasBefore ls (path_of path).segments (v.segment - 1) v.number in
     let later : v.segment ≡ v.segment - 1 + 1 = omega (arith, other) in
     subst P (sym meta.lengths) (has_before_by v path (v.segment - 1) (fields_stand path meta.are meta.lawful) is first later)
+
+-- ---- the first hop of the segment behind
+
+pub record HasNext (lengths : List ℕ) (k n : ℕ) : Type 0 where
+  pub there : k < segment_count lengths
+  pub begins : first_hop lengths k ≤ n
+  pub ends : n < first_hop lengths k + slice_index lengths k
+  pub first : n - first_hop lengths k ≡ 0
+
+has_next_by : (v : Spot) (path : List ℕ) → FieldsStand path → LiesOn v (path_of path).segments → v.position + 1 ≡ v.hops → v.segment + 1 < length (path_of path).segments
+    → HasNext (lengths_of path) (v.segment + 1) (v.number + 1)
+has_next_by v path stand is last followed =
+    let lengths = lengths_of path in
+    let own : v.segment < segment_count lengths = omega (arith, is.there, stand.count) in
+    let there : v.segment + 1 < segment_count lengths = omega (arith, followed, stand.count) in
+    let at : v.number ≡ first_hop lengths v.segment + v.position = is.number ∙ stand.number v.segment v.position own in
+    let hops : v.hops ≡ slice_index lengths v.segment = is.hops ∙ stand.hops v.segment own in
+    let follows = stand.follows v.segment there in
+    let some = stand.some (v.segment + 1) there in
+    record {
+      there = there;
+      begins = omega (arith, at, hops, last, follows);
+      ends = omega (arith, at, hops, last, follows, some);
+      first = omega (arith, at, hops, last, follows);
+    }
+
+pub has_next : (v : Spot) (m : Meta) (path : List ℕ) → IsMetaOf m path → LiesOn v (path_of path).segments → v.position + 1 ≡ v.hops
+    → v.segment + 1 < length (path_of path).segments → HasNext m.lengths (v.segment + 1) (v.number + 1)
+has_next v m path meta is last followed =
+    let P : List ℕ → Type 0 = λ ls. HasNext ls (v.segment + 1) (v.number + 1) in
+    subst P (sym meta.lengths) (has_next_by v path (fields_stand path meta.are meta.lawful) is last followed)

@@ -1,13 +1,13 @@
 -- The sight with its segment identifier chained shows the packet with its segment identifier chained.
-use Rattle.std.proofs.Common.{◌≡◌, ◌&&◌, not, Bool, true, false, ℕ, refl, sym, ap, ap₂, ◌∙◌, arith, if◌then◌else◌}
+use Rattle.std.proofs.Common.{◌≡◌, ◌&&◌, not, Bool, true, ℕ, sym, subst, ap, ap₂, ◌∙◌, arith, if◌then◌else◌}
+use Rattle.std.proofs.lemmas.Bool.{and_from}
 use Rattle.hop_check.specs.Mac.{chain}
 use Rattle.path_fields.specs.Fields.{hop_field, info_field}
 use Rattle.path_fields.specs.InPlace.{with_segment_id}
 use Rattle.scion_header.specs.Header.{header_fields}
-use Rattle.scion_packet.specs.Path.{HopField, InfoField, Segment, place_at}
+use Rattle.scion_packet.specs.Path.{HopField, InfoField}
 use Rattle.process_packet.specs.Sight.{IsAlike, Sees}
-use Rattle.process_packet.specs.Spot.{IsSpot}
-use Rattle.process_packet.specs.Standing.{Standing, chained, chained_id, hop, info, is_along, is_external, turned_back}
+use Rattle.process_packet.specs.Standing.{Standing, chained, chained_id, is_along, is_external, turned_back}
 use Rattle.process_packet.specs.declared.sight.Sight.{Sight}
 use Rattle.process_packet.proofs.AlikeLemmas.{alike_set, info_set, whole_alike, with_id_of}
 
@@ -58,8 +58,10 @@ sees_chained v w s id sees same id-is info-is =
       whole = whole_alike k ss ts alike sees.whole;
     }
 
-pub turned_is : (s : Standing) → (is_external s && not (is_along s)) ≡ true → turned_back s ≡ chained s
+turned_is : (s : Standing) → (is_external s && not (is_along s)) ≡ true → turned_back s ≡ chained s
 turned_is s test = ap (λ (b : Bool). if b then chained s else s) test
 
-pub turned_not : (s : Standing) → (is_external s && not (is_along s)) ≡ false → turned_back s ≡ s
-turned_not s test = ap (λ (b : Bool). if b then chained s else s) test
+pub sees_turned : (v w : Sight) (s : Standing) (id : ℕ) → Sees v s → IsSameBut v w → id ≡ chain (info_field v.spot.info).segment_id (hop_field v.spot.hop).mac
+    → info_field w.spot.info ≡ with_id_of id (info_field v.spot.info) → is_external s ≡ true → not (is_along s) ≡ true → Sees w (turned_back s)
+sees_turned v w s id sees same id-is info-is outside against =
+    subst (λ (t : Standing). Sees w t) (sym (turned_is s (and_from _ _ outside against))) (sees_chained v w s id sees same id-is info-is)

@@ -1,5 +1,5 @@
 -- The decision table, and what it gives for a datagram.
-use Rattle.std.specs.Prelude.{ℕ, List, [], ◌∷◌, Option}
+use Rattle.std.specs.Prelude.{ℕ, List, [], ◌∷◌}
 use Rattle.scion_packet.specs.Packet.{spelling}
 use Rattle.process_packet.specs.declared.cause.Cause.TheVariants as cause
 use Rattle.process_packet.specs.declared.decision.Decision.{Decision}

@@ -5,7 +5,6 @@ use Rattle.process_packet.specs.declared.exit.Exit.{Exit}
 use Rattle.process_packet.specs.declared.exit.Exit.TheVariants.{Own, Beyond}
 use Rattle.process_packet.specs.declared.neighbours.Link.{Link}
 use Rattle.process_packet.specs.declared.neighbours.Sibling.{Sibling}
-use Rattle.process_packet.specs.declared.underlay.Underlay.{Underlay}
 use Rattle.process_packet.specs.Network.{Network, own_link, sibling}
 
 abbrev pub exit_or : Option Link → Option Sibling → Option Exit

@@ -2,7 +2,7 @@
 use Rattle.std.specs.Prelude.{ℕ, Bool, true, false, not, ◌&&◌, ◌||◌, ◌==◌, nat_lt, List, [], ◌∷◌, length, if◌then◌else◌, Option, Some, None, is_some, option_map}
 use Rattle.field_rows.specs.Place.{number_at}
 use Rattle.scion_packet.specs.Fault.{Fault, TooShort, WrongVersion, WrongPathType, WrongLength, WrongPath, PeeringSegment}
-use Rattle.scion_packet.specs.Header.{HeaderFields, HostAddress, header_fault, host_code}
+use Rattle.scion_packet.specs.Header.{header_fault, host_code}
 use Rattle.scion_packet.specs.Packet.{Packet, path_bytes}
 use Rattle.scion_packet.specs.Path.{path_fault}
 use Rattle.segment_switch.specs.Pairs.{is_pair}

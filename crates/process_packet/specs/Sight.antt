@@ -1,8 +1,7 @@
 -- What the code holds of a standing packet, and what its rows say.
-use Rattle.std.specs.Prelude.{◌≡◌, ◌≢◌, ◌≤◌, ◌<◌, ℕ, false, List, length, Option, Some, None, Result, MatchResult}
+use Rattle.std.specs.Prelude.{◌≡◌, ◌≢◌, ◌≤◌, ◌<◌, ℕ, List, length, Option, Some, None, Result, MatchResult}
 use Rattle.path_fields.specs.InPlace.{with_segment_id}
 use Rattle.scion_header.specs.Header.{header_fields}
-use Rattle.scion_packet.specs.Packet.{Packet}
 use Rattle.scion_packet.specs.Path.{Place, Segment, count_hops, hop_number, hops_in}
 use Rattle.scion_packet.specs.Places.{hop_there, info_there}
 use Rattle.process_packet.specs.declared.refusal.Refusal.{Refusal}

@@ -1,5 +1,5 @@
 -- What the code holds of a hop of a path.
-use Rattle.std.specs.Prelude.{◌≡◌, ◌<◌, ◌≤◌, ℕ, List, None, length}
+use Rattle.std.specs.Prelude.{◌≡◌, ◌<◌, ℕ, List, None, length}
 use Rattle.field_rows.specs.Place.{IsBytes}
 use Rattle.path_fields.specs.Fields.{hop_field, info_field}
 use Rattle.path_fields.specs.declared.meta.Meta.{Meta}

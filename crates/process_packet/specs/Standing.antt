@@ -1,5 +1,5 @@
 -- A packet at a router: how it came, what it is, and how it stands there. The rows of the decision read it by these words.
-use Rattle.std.specs.Prelude.{ℕ, Bool, true, false, not, ◌&&◌, ◌+◌, ◌-◌, ◌*◌, ◌==◌, nat_lt, nat_le, List, length, slice_index, option_map, Option, None, if◌then◌else◌}
+use Rattle.std.specs.Prelude.{ℕ, Bool, true, false, not, ◌&&◌, ◌+◌, ◌-◌, ◌*◌, ◌==◌, List, length, option_map, Option, None, if◌then◌else◌}
 use Rattle.hop_check.specs.Expiry as expiry
 use Rattle.hop_check.specs.Mac as hop_mac
 use Rattle.path_fields.specs.InPlace.{with_segment_id}

@@ -9,7 +9,7 @@ ghost use Rattle.process_packet.specs.Standing.{Standing, turned_back};
 
 use crate::config::Config;
 use crate::refusal::{Refusal, parameter_problem, traceroute_reply};
-use crate::request::is_request;
+use crate::request::trace_request;
 use crate::sight::Sight;
 use hop_check::{chain, verify};
 
@@ -46,7 +46,7 @@ impl Sight {
     fn ingress_request(&self, payload: &[u8]) -> Result<(), Refusal>
         ensures { (s : Standing) → Sees self.now s → payload.now ≡ s.payload → Says (row.ingress_request s) s result }
     {
-        if self.is_external() && self.ingress_alert() && is_request(self.header.next_header, payload) {
+        if self.is_external() && self.ingress_alert() && trace_request(&self.header, payload).is_some() {
             return Err(traceroute_reply(self.ingress()));
         }
         Ok(())

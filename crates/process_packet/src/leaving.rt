@@ -15,7 +15,7 @@ use crate::config::Config;
 use crate::decision::Problem;
 use crate::exit::Exit;
 use crate::refusal::{Refusal, parameter_problem, traceroute_reply};
-use crate::request::is_request;
+use crate::request::trace_request;
 use crate::sight::Sight;
 use crate::spot::Spot;
 use crate::underlay::{Ip, Underlay};
@@ -76,6 +76,15 @@ impl Sight {
         self.switched = true;
     }
 
+    /// The rows that look at the first hop of a segment that the packet changed to.
+    fn is_good_hop(&self, config: &Config) -> Result<(), Refusal>
+        ensures { (s : Standing) → Sees self.now s → network config.now ≡ s.network
+            → Says (row.then_rows (row.GoesOn s) (row.expired ∷ row.wrong_mac ∷ [])) s result }
+    {
+        self.expired()?;
+        self.wrong_mac(config)
+    }
+
     /// At a segment's last hop, where another segment follows, the packet changes to its first hop,
     /// which must be within its time and authorised as the one before.
     pub(crate) fn switch(&mut self, config: &Config, path: &[u8], meta: &Meta) -> Result<(), Refusal>
@@ -91,8 +100,7 @@ impl Sight {
     {
         if self.is_last_of_segment() && self.is_followed() {
             self.change_over(path, meta);
-            self.expired()?;
-            self.wrong_mac(config)?;
+            return self.is_good_hop(config);
         }
         Ok(())
     }
@@ -144,7 +152,7 @@ impl Sight {
         ensures { (s : Standing) → Sees self.now s → Some exit.now ≡ exit_of s.network (egress s) → payload.now ≡ s.payload
             → Says (row.egress_request s) s result }
     {
-        if exit.is_own() && self.egress_alert() && is_request(self.header.next_header, payload) {
+        if exit.is_own() && self.egress_alert() && trace_request(&self.header, payload).is_some() {
             return Err(traceroute_reply(self.egress()));
         }
         Ok(())

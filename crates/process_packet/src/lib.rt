@@ -24,5 +24,6 @@ pub use cause::Cause;
 pub use config::Config;
 pub use decision::{Decision, Problem};
 pub use neighbours::{Bands, Link, Service, Sibling};
+pub use request::trace_request;
 pub use totals::Totals;
 pub use underlay::{Ip, Underlay};

@@ -30,7 +30,7 @@ pub(crate) struct Sight {
 }
 
 impl Sight {
-    ghost use Rattle.std.specs.Prelude.{◌≡◌};
+    ghost use Rattle.std.specs.Prelude.{◌≡◌, ◌+◌, ◌==◌, nat_lt};
     ghost use Rattle.process_packet.specs.Sight.{Sees};
     ghost use Rattle.process_packet.specs.Standing.{Standing, egress, egress_alert, hop_pointer, info_pointer, ingress, ingress_alert, is_external, is_first_of_path, is_last_of_path, is_last_of_segment, is_followed};
 
@@ -83,14 +83,16 @@ impl Sight {
     }
 
     pub(crate) fn is_last_of_segment(&self) -> bool
-        ensures { (s : Standing) → Sees self.now s → result ≡ is_last_of_segment s }
+        ensures value { result ≡ (self.now.spot.position + 1 == self.now.spot.hops) }
+        ensures sees { (s : Standing) → Sees self.now s → result ≡ is_last_of_segment s }
     {
         self.spot.position + 1 == self.spot.hops
     }
 
     /// Whether another segment follows the current one.
     pub(crate) fn is_followed(&self) -> bool
-        ensures { (s : Standing) → Sees self.now s → result ≡ is_followed s }
+        ensures value { result ≡ nat_lt (self.now.spot.segment + 1) self.now.segments }
+        ensures sees { (s : Standing) → Sees self.now s → result ≡ is_followed s }
     {
         self.spot.segment + 1 < self.segments
     }

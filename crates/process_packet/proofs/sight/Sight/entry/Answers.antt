@@ -1,6 +1,6 @@
-use Rattle.std.proofs.Common.{◌≡◌, sym, ap, ◌∙◌, arith}
+use Rattle.std.proofs.Common.{sym, ◌∙◌, arith}
 use Rattle.process_packet.proofs.ArrivingLemmas.{entered_before}
-use Rattle.process_packet.proofs.SpotLemmas.{HasBefore, has_before}
+use Rattle.process_packet.proofs.SpotLemmas.{has_before}
 use Rattle.process_packet.proofs.sight.Sight.entry.Goals as goal
 
 pub overflow_sub-self-2 : goal.overflow_sub-self-2

@@ -1,6 +1,6 @@
 use Rattle.std.proofs.Common.{refl, arith, ap, ◌∙◌, ◌+◌, ◌-◌, ◌*◌, ℕ}
 use Rattle.scion_packet.specs.Path.{hop_at}
-use Rattle.process_packet.proofs.SpotLemmas.{IsSmall, small, spot_stands}
+use Rattle.process_packet.proofs.SpotLemmas.{small, spot_stands}
 use Rattle.process_packet.proofs.spot.Spot.read.Goals as goal
 
 pub returns : goal.returns
