@@ -1,10 +1,10 @@
 -- A segment identifier set: what stays, and what is read then.
-use Rattle.std.proofs.Common.{◌≡◌, ◌≢◌, ◌<◌, ◌+◌, ℕ, zero, suc, List, [], ◌∷◌, length, take, refl, sym, ap, ◌∙◌, arith}
+use Rattle.std.proofs.Common.{◌≡◌, ◌≢◌, ◌<◌, ◌+◌, ℕ, zero, suc, List, [], ◌∷◌, length, take, refl, sym, ap, ◌∙◌, arith, Option, Some, None}
 use Rattle.std.proofs.lemmas.List.Sums.{sum_by-cons}
 use Rattle.path_fields.specs.InPlace.{with_segment_id}
 use Rattle.scion_packet.specs.Path.{InfoField, Place, Segment, count_hops, hops_in, place_at}
 use Rattle.scion_packet.specs.Places.{hop_there, info_there}
-use Rattle.process_packet.specs.Sight.{IsAlike, IsWhole}
+use Rattle.process_packet.specs.Sight.{IsAlike, IsWhole, with_id}
 use Rattle.process_packet.specs.Spot.{IsSpot}
 use Rattle.process_packet.specs.declared.spot.Spot.{Spot}
 
@@ -70,6 +70,10 @@ alike_set ss k id = record {
 
 pub alike_same : (ss : List Segment) (k : ℕ) → IsAlike k ss ss
 alike_same ss k = record { count = refl; total = refl; hops = λ j. refl; number = λ at. refl; hop = λ at. refl; info = λ at other. refl }
+
+pub alike_with : (id : Option ℕ) (k : ℕ) (ss : List Segment) → IsAlike k ss (with_id id k ss)
+alike_with None k ss = alike_same ss k
+alike_with (Some id) k ss = alike_set ss k id
 
 pub whole_alike : (k : ℕ) (old new : List Segment) → IsAlike k old new → IsWhole old → IsWhole new
 whole_alike k old new alike whole = record {

@@ -4,9 +4,13 @@ use Rattle.path_fields.specs.Fields.{hop_field, info_field}
 use Rattle.path_fields.specs.declared.meta.Meta.{Meta}
 use Rattle.scion_packet.specs.Laws.{FieldsStand}
 use Rattle.scion_packet.specs.Lengths.{first_hop, hop_place, info_place, segment_count}
-use Rattle.scion_packet.specs.Path.{Segment, hop_at, hops_in, info_at, lengths_of, path_of, place_at}
+use Rattle.scion_packet.specs.Path as packet
+use Rattle.scion_packet.specs.Path.{Place, Segment, hop_at, hops_in, info_at, lengths_of, path_of, place_at}
 use Rattle.scion_packet.proofs.Offsets.{fields_stand}
+use Rattle.process_packet.specs.Departure.{IsOnPath}
+use Rattle.process_packet.specs.Sight.{IsWhole}
 use Rattle.process_packet.specs.Spot.{IsMetaOf, IsSpot, LiesOn}
+use Rattle.process_packet.specs.declared.sight.Sight.{Sight}
 use Rattle.process_packet.specs.declared.spot.Spot.{Spot}
 
 -- What was read of the hop with number n, of segment k.
@@ -138,3 +142,54 @@ pub has_next : (v : Spot) (m : Meta) (path : List ℕ) → IsMetaOf m path → L
 has_next v m path meta is last followed =
     let P : List ℕ → Type 0 = λ ls. HasNext ls (v.segment + 1) (v.number + 1) in
     subst P (sym meta.lengths) (has_next_by v path (fields_stand path meta.are meta.lawful) is last followed)
+
+-- ---- a lawful path
+
+pub whole_path : (path : List ℕ) → FieldsStand path → IsWhole (path_of path).segments
+whole_path path stand = record {
+  some = λ k below. let there : k < segment_count (lengths_of path) = omega (arith, below, stand.count) in let some = stand.some k there in omega (arith, some, stand.hops k there);
+  segments = stand.few;
+  hops = omega (arith, stand.few_hops, stand.all_hops);
+}
+
+pub on_path : (v : Sight) (m : Meta) (path : List ℕ) → IsMetaOf m path → LiesOn v.spot (path_of path).segments → v.segments ≡ length (path_of path).segments → IsOnPath v
+on_path v m path meta lies count =
+    record { segments = (path_of path).segments; whole = whole_path path (fields_stand path meta.are meta.lawful); lies = lies; count = count }
+
+-- ---- the current hop
+
+pub record HasCurrent (m : Meta) : Type 0 where
+  pub there : m.current_info < segment_count m.lengths
+  pub begins : first_hop m.lengths m.current_info ≤ m.current_hop
+  pub ends : m.current_hop < first_hop m.lengths m.current_info + slice_index m.lengths m.current_info
+
+record Current (lengths : List ℕ) (k n : ℕ) : Type 0 where
+  there : k < segment_count lengths
+  begins : first_hop lengths k ≤ n
+  ends : n < first_hop lengths k + slice_index lengths k
+
+current_of : (path : List ℕ) → FieldsStand path → Current (lengths_of path) (packet.current_info path) (packet.current_hop path)
+current_of path stand = record { there = omega (arith, stand.there, stand.count); begins = stand.begins; ends = stand.ends }
+
+pub has_current : (m : Meta) (path : List ℕ) → IsMetaOf m path → HasCurrent m
+has_current m path meta =
+    let named : Current m.lengths m.current_info m.current_hop =
+    subst (λ (ls : List ℕ). Current ls m.current_info m.current_hop) (sym meta.lengths)
+    (subst (λ (k : ℕ). Current (lengths_of path) k m.current_hop) (sym meta.info)
+    (subst (λ (n : ℕ). Current (lengths_of path) (packet.current_info path) n) (sym meta.hop) (current_of path (fields_stand path meta.are meta.lawful)))) in
+    record { there = named.there; begins = named.begins; ends = named.ends }
+
+-- what is read at the cursor stands at the path's place
+pub first_spot : (v : Spot) (m : Meta) (path other : List ℕ) (k n : ℕ) → path ≡ other → IsMetaOf m other → k ≡ m.current_info → n ≡ m.current_hop
+    → IsSpot v (path_of path).segments (place_at k (n - first_hop m.lengths k)) → IsSpot v (path_of other).segments (path_of other).place
+first_spot v m path other k n same meta k-is n-is is =
+    let place : place_at k (n - first_hop m.lengths k) ≡ (path_of other).place =
+    ap (λ (j : ℕ). place_at j (n - first_hop m.lengths j)) (k-is ∙ meta.info)
+    ∙ ap (λ (h : ℕ). place_at (packet.current_info other) (h - first_hop m.lengths (packet.current_info other))) (n-is ∙ meta.hop)
+    ∙ ap (λ (ls : List ℕ). place_at (packet.current_info other) (packet.current_hop other - first_hop ls (packet.current_info other))) meta.lengths in
+    subst (λ (at : Place). IsSpot v (path_of other).segments at) place
+    (subst (λ (t : List ℕ). IsSpot v (path_of t).segments (place_at k (n - first_hop m.lengths k))) same is)
+
+pub count_of : (m : Meta) (path : List ℕ) (count : ℕ) → IsMetaOf m path → count ≡ segment_count m.lengths → count ≡ length (path_of path).segments
+count_of m path count meta is =
+    is ∙ ap segment_count meta.lengths ∙ sym (fields_stand path meta.are meta.lawful).count

@@ -10,3 +10,5 @@ pub mod Decide
 pub mod Spot
 pub mod Sight
 pub mod Exit
+pub mod Departure
+pub mod Front

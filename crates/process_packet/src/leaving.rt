@@ -1,18 +1,22 @@
 //! The rows by which a packet leaves.
 
-ghost use Rattle.std.specs.Prelude.{◌≡◌, ◌+◌, ◌<◌, ◌&&◌, [], ◌∷◌, Some, None, IfOk, MatchResult, length};
+ghost use Rattle.std.specs.Prelude.{◌≡◌, ◌+◌, ◌<◌, ◌==◌, ◌&&◌, not, nat_lt, false, [], ◌∷◌, Some, None, IfOk, MatchResult, length, if◌then◌else◌};
 ghost use Rattle.scion_packet.specs.Packet.{Packet};
 ghost use Rattle.scion_packet.specs.Path.{path_of};
+ghost use Rattle.process_packet.specs.Decide.{ends_as, verdict_of};
+ghost use Rattle.process_packet.specs.Departure.{Departs, IsNumberOf, IsOnPath, Keeps, Tells};
 ghost use Rattle.process_packet.specs.Exit.{exit_of};
 ghost use Rattle.process_packet.specs.Network.{is_local, network};
 ghost use Rattle.process_packet.specs.Rows as row;
 ghost use Rattle.process_packet.specs.Rows.{delivered, is_pair_lawful};
 ghost use Rattle.process_packet.specs.Sight.{IsAlike, Says, Sees, refused};
 ghost use Rattle.process_packet.specs.Spot.{IsMetaOf, LiesOn};
-ghost use Rattle.process_packet.specs.Standing.{Standing, changed_over, egress, is_external, is_followed, is_last_of_segment, past_switch};
+ghost use Rattle.process_packet.specs.Standing.{Standing, chained, chained_id, changed_over, egress, is_along, is_external, next_place, packet, past_switch};
 
+use crate::cause::Cause;
 use crate::config::Config;
 use crate::decision::Problem;
+use crate::departure::Departure;
 use crate::exit::Exit;
 use crate::refusal::{Refusal, parameter_problem, traceroute_reply};
 use crate::request::trace_request;
@@ -20,6 +24,7 @@ use crate::sight::Sight;
 use crate::spot::Spot;
 use crate::underlay::{Ip, Underlay};
 use field_rows::u16_at;
+use hop_check::chain;
 use path_fields::Meta;
 use scion_header::Host;
 use segment_switch::pair_ok;
@@ -69,6 +74,8 @@ impl Sight {
         requires followed { self.old.spot.segment + 1 < self.old.segments }
         ensures sees { (s : Standing) → Sees self.old s → IsAlike s.path.place.segment (path_of path.now).segments s.path.segments
             → Sees self.new (changed_over s) }
+        ensures spot { LiesOn self.new.spot (path_of path.now).segments }
+        ensures count { self.new.segments ≡ self.old.segments }
         ensures turned { self.new.turned ≡ self.old.turned }
         ensures entered { self.new.entered ≡ self.old.entered }
     {
@@ -95,6 +102,8 @@ impl Sight {
             → IsAlike s.path.place.segment (path_of path.now).segments s.path.segments → Says (row.switch s) (past_switch s) result }
         ensures sees { (s : Standing) → Sees self.old s → IsAlike s.path.place.segment (path_of path.now).segments s.path.segments
             → Sees self.new (past_switch s) }
+        ensures spot { LiesOn self.new.spot (path_of path.now).segments }
+        ensures count { self.new.segments ≡ self.old.segments }
         ensures turned { self.new.turned ≡ self.old.turned }
         ensures entered { self.new.entered ≡ self.old.entered }
     {
@@ -169,5 +178,121 @@ impl Sight {
         self.wrong_pair(config, &exit)?;
         self.egress_request(&exit, payload)?;
         Ok(exit)
+    }
+
+    /// As it stands.
+    fn as_it_stands(&self, link: u16, to: Option<Underlay>) -> Departure
+        requires on { IsOnPath self.now }
+        ensures { (s : Standing) (p : Packet) → Sees self.now s → Keeps self.now s p → Departs result (row.Sent link to (packet s)) p }
+    {
+        Departure {
+            link,
+            to,
+            entered: self.entered,
+            turned: self.turned,
+            left: self.spot.segment,
+            chained: None,
+            segment: self.spot.segment,
+            number: self.spot.number,
+        }
+    }
+
+    /// The segment and the number of the next hop, where there is one.
+    fn next_hop(&self) -> (usize, usize)
+        requires on { IsOnPath self.now }
+        requires more { (self.now.spot.position + 1 == self.now.spot.hops && not (nat_lt (self.now.spot.segment + 1) self.now.segments)) ≡ false }
+        ensures segment_fits { result.0 < 3 }
+        ensures number_fits { result.1 < 64 }
+        ensures next { (s : Standing) → Sees self.now s → IsNumberOf result.0 result.1 s.path.segments (next_place s.path.segments s.path.place) }
+    {
+        if self.is_last_of_segment() {
+            (self.spot.segment + 1, self.spot.number + 1)
+        } else {
+            (self.spot.segment, self.spot.number + 1)
+        }
+    }
+
+    /// The segment's identifier for the next hop, in the direction of construction.
+    fn chained_id(&self) -> Option<u16>
+        ensures { (s : Standing) → Sees self.now s → result ≡ (if is_along s then Some (chained_id s) else None) }
+    {
+        if self.spot.info.along {
+            Some(chain(self.spot.info.segment_id, &self.spot.hop.mac))
+        } else {
+            None
+        }
+    }
+
+    /// Out by an own link, at the next hop.
+    fn sent_out(&self) -> Result<Departure, Refusal>
+        requires on { IsOnPath self.now }
+        ensures { (s : Standing) (p : Packet) → Sees self.now s → Keeps self.now s p
+            → Tells (row.sent_out (if is_along s then chained s else s) (egress s)) p result }
+    {
+        if self.is_last_of_path() {
+            return Err(Refusal::Drop(Cause::PathEnd));
+        }
+        let (segment, number) = self.next_hop();
+        Ok(Departure {
+            link: self.egress(),
+            to: None,
+            entered: self.entered,
+            turned: self.turned,
+            left: self.spot.segment,
+            chained: self.chained_id(),
+            segment,
+            number,
+        })
+    }
+
+    /// By the way out.
+    fn leave(&self, exit: &Exit) -> Result<Departure, Refusal>
+        requires on { IsOnPath self.now }
+        ensures { (s : Standing) (p : Packet) → Sees self.now s → Keeps self.now s p → Some exit.now ≡ exit_of s.network (egress s)
+            → Tells (verdict_of (row.leave s)) p result }
+    {
+        match exit {
+            Exit::Own(_) => self.sent_out(),
+            Exit::Beyond(_, at) => Ok(self.as_it_stands(0, Some(*at))),
+        }
+    }
+
+    /// Out by the egress of the current hop, where that may be.
+    fn goes_by_its_exit(&self, config: &Config, payload: &[u8]) -> Result<Departure, Refusal>
+        requires on { IsOnPath self.now }
+        ensures { (s : Standing) (p : Packet) → Sees self.now s → network config.now ≡ s.network → payload.now ≡ s.payload → Keeps self.now s p
+            → Tells (ends_as s (row.unknown_egress ∷ row.wrong_pair ∷ row.egress_request ∷ row.leave ∷ [])) p result }
+    {
+        let exit = self.goes_out(config, payload)?;
+        self.leave(&exit)
+    }
+
+    /// Past the change of segments, and out.
+    fn goes_further(&mut self, config: &Config, path: &[u8], meta: &Meta, payload: &[u8]) -> Result<Departure, Refusal>
+        requires meta { IsMetaOf meta.now path.now }
+        requires spot { LiesOn self.old.spot (path_of path.now).segments }
+        requires count { self.old.segments ≡ length (path_of path.now).segments }
+        ensures { (s : Standing) (p : Packet) → Sees self.old s → network config.now ≡ s.network → payload.now ≡ s.payload → Keeps self.old s p
+            → IsAlike s.path.place.segment (path_of path.now).segments s.path.segments
+            → Tells (ends_as s (row.switch ∷ row.unknown_egress ∷ row.wrong_pair ∷ row.egress_request ∷ row.leave ∷ [])) p result }
+    {
+        self.switch(config, path, meta)?;
+        self.goes_by_its_exit(config, payload)
+    }
+
+    /// Delivered in this AS, or out of it.
+    pub(crate) fn goes(&mut self, config: &Config, path: &[u8], meta: &Meta, payload: &[u8]) -> Result<Departure, Refusal>
+        requires meta { IsMetaOf meta.now path.now }
+        requires spot { LiesOn self.old.spot (path_of path.now).segments }
+        requires count { self.old.segments ≡ length (path_of path.now).segments }
+        ensures { (s : Standing) (p : Packet) → Sees self.old s → network config.now ≡ s.network → payload.now ≡ s.payload → Keeps self.old s p
+            → IsAlike s.path.place.segment (path_of path.now).segments s.path.segments
+            → Tells (ends_as s (row.delivery ∷ row.switch ∷ row.unknown_egress ∷ row.wrong_pair ∷ row.egress_request ∷ row.leave ∷ [])) p result }
+    {
+        if !self.is_for_here(config) {
+            return self.goes_further(config, path, meta, payload);
+        }
+        let to = self.deliver(config)?;
+        Ok(self.as_it_stands(0, Some(to)))
     }
 }

@@ -6,7 +6,7 @@ ghost use Rattle.process_packet.specs.Rows.{cause_of};
 ghost use Rattle.scion_header.specs.Fault as header;
 
 use crate::cause::Cause;
-use crate::decision::Problem;
+use crate::decision::{Decision, Problem};
 use path_fields::PathFault;
 use scion_header::HeaderFault;
 
@@ -15,6 +15,22 @@ use scion_header::HeaderFault;
 pub(crate) enum Refusal {
     Answer(Problem),
     Drop(Cause),
+}
+
+impl Refusal {
+    ghost use Rattle.std.specs.Prelude.{◌≡◌};
+    ghost use Rattle.process_packet.specs.Decide.{decision_of};
+    ghost use Rattle.process_packet.specs.Sight.{refused};
+
+    /// The decision that it is.
+    pub(crate) fn decision(self) -> Decision
+        ensures { result ≡ decision_of (refused self) }
+    {
+        match self {
+            Refusal::Answer(problem) => Decision::Answer(problem),
+            Refusal::Drop(cause) => Decision::Drop(cause),
+        }
+    }
 }
 
 /// The cause for which a datagram with this fault of its header is dropped.

@@ -1,12 +1,13 @@
 //! A packet as the rows of the decision see it: what is looked at doesn't grow with the path.
 
-ghost use Rattle.std.specs.Prelude.{◌≤◌};
+ghost use Rattle.std.specs.Prelude.{◌<◌, ◌≤◌};
 
 use crate::spot::Spot;
 use crate::underlay::Underlay;
 use scion_header::Header;
 
 /// A packet at the router, as it stands.
+#[derive(Drop)]
 pub(crate) struct Sight {
     /// The link by which it came; 0 is the internal network.
     pub link: u16,
@@ -27,10 +28,11 @@ pub(crate) struct Sight {
     pub entered: usize,
     pub turned: Option<u16>,
     pub ghost few: { segments ≤ 3 },
+    pub ghost entered_fits: { entered < 3 },
 }
 
 impl Sight {
-    ghost use Rattle.std.specs.Prelude.{◌≡◌, ◌+◌, ◌==◌, nat_lt};
+    ghost use Rattle.std.specs.Prelude.{◌≡◌, ◌+◌, ◌==◌, ◌&&◌, not, nat_lt};
     ghost use Rattle.process_packet.specs.Sight.{Sees};
     ghost use Rattle.process_packet.specs.Standing.{Standing, egress, egress_alert, hop_pointer, info_pointer, ingress, ingress_alert, is_external, is_first_of_path, is_last_of_path, is_last_of_segment, is_followed};
 
@@ -98,7 +100,8 @@ impl Sight {
     }
 
     pub(crate) fn is_last_of_path(&self) -> bool
-        ensures { (s : Standing) → Sees self.now s → result ≡ is_last_of_path s }
+        ensures value { result ≡ (self.now.spot.position + 1 == self.now.spot.hops && not (nat_lt (self.now.spot.segment + 1) self.now.segments)) }
+        ensures sees { (s : Standing) → Sees self.now s → result ≡ is_last_of_path s }
     {
         self.is_last_of_segment() && !self.is_followed()
     }
