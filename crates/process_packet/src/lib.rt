@@ -2,6 +2,7 @@
 //! bytes it leaves.
 #![tactic(auto)]
 
+mod arrival;
 mod arriving;
 mod authority;
 mod cause;
@@ -23,6 +24,7 @@ mod tests;
 mod totals;
 mod underlay;
 
+pub use arrival::{Arrival, NoMemory, Routed};
 pub use cause::Cause;
 pub use config::Config;
 pub use decision::{Decision, Problem};
