@@ -22,7 +22,7 @@ hop_stands path lengths k i below inside =
     ap (λ (s : Segment). slice_index_or s.hops i no_hop) (segment_stands path lengths k i below)
     ∙ get_or-map-range_with_len (λ hop. hop_at path (hop_place lengths hop)) (first_hop lengths k) (slice_index lengths k) i (first_hop lengths k + i) no_hop inside refl
 
-hops_in_is : (ss : List Segment) (k : ℕ) → hops_in ss k ≡ length (slice_index_or ss k no_segment).hops
+pub hops_in_is : (ss : List Segment) (k : ℕ) → hops_in ss k ≡ length (slice_index_or ss k no_segment).hops
 hops_in_is [] k = refl
 hops_in_is (s ∷ ss) zero = refl
 hops_in_is (s ∷ ss) (suc k) = hops_in_is ss k
