@@ -1,5 +1,5 @@
 -- With one producer, no push is refused before as many as the capacity were accepted.
-use Rattle.std.proofs.Common.{◌≡◌, ℕ, ◌+◌, ◌<◌, ◌≤◌, eqb, eq-eqb, Bool, cond, List, [], ◌∷◌, ◌++◌, length, take, sym, refl, ap, ◌∙◌, length-append, arith}
+use Rattle.std.proofs.Common.{◌≡◌, ℕ, ◌<◌, ◌≤◌, List, [], ◌∷◌, ◌++◌, length, sym, refl, ap, ◌∙◌, length-append, arith}
 use Rattle.std.proofs.lemmas.List.{length-take-le}
 use Rattle.ruled_pipe.specs.declared.entry.Entry.{Entry}
 use Rattle.ruled_pipe.specs.declared.entry.Refusal.{Refusal}

@@ -1,7 +1,7 @@
 -- A pipe whose producers have all ended, and whose end marks were all taken, holds nothing.
-use Rattle.std.proofs.Common.{◌≡◌, ◌≢◌, ℕ, zero, suc, eqb, eq-eqb, ne_eqb, ◌+◌, ◌<◌, ◌≤◌, Bool, cond, List, [], ◌∷◌, ◌++◌, length, Some, slice_get, sym, refl, ap, ◌∙◌, subst, ◌⊎◌, inl, inr, ⊎_elim, lt_of_not-le, append-nil, length-append, arith}
+use Rattle.std.proofs.Common.{◌≡◌, ◌≢◌, ℕ, zero, suc, eq-eqb, ne_eqb, ◌+◌, ◌<◌, ◌≤◌, Bool, cond, List, [], ◌∷◌, ◌++◌, length, Some, slice_get, sym, refl, ap, ◌∙◌, subst, lt_of_not-le, append-nil, length-append, arith}
 use mathlib.Core.Logic.{dite}
-use native.Mathlib.Decide.{ℕ_discrete, dec_le}
+use native.Mathlib.Decide.{ℕ_discrete}
 use Rattle.ruled_pipe.specs.declared.entry.Entry.{Entry}
 use Rattle.ruled_pipe.specs.Rule.{of_producer}
 use Rattle.ruled_pipe.specs.Producer.{Sender}
@@ -47,6 +47,11 @@ sum_bump zero q k f g lt at else' = absurd (omega arith)
 sum_bump (suc n) q k f g lt at else' = dite (ℕ_discrete n q)
     (λ e. let rest = sum_same n f g (λ p l. else' p (λ x. omega arith)) in let here : f n ≡ k + g n = subst (λ (j : ℕ). f j ≡ k + g j) (sym e) at in omega arith)
     (λ ne. let rest = sum_bump n q k f g (omega arith) at else' in let here = else' n ne in omega arith)
+
+module _ {X : Type 0} where
+  pub no_entry : (xs : List X) → length xs ≡ 0 → xs ≡ []
+  no_entry [] none = refl
+  no_entry (x ∷ xs) none = absurd (omega arith)
 
 module _ {T : Type 0} where
   pub ends_append : (xs ys : List (Entry T)) → ends_in (xs ++ ys) ≡ ends_in xs + ends_in ys
@@ -119,10 +124,6 @@ module _ {T : Type 0} where
       let ones = sum_ones (length senders) in
       let parts = ends_append taken held in
       nothing n senders taken held whole marked (omega arith)
-
-  no_entry : (held : List (Entry T)) → length held ≡ 0 → held ≡ []
-  no_entry [] none = refl
-  no_entry (x ∷ xs) none = absurd (omega arith)
 
   -- a number for each producer, added up over the numbers and over the producers
   over_senders : (g : Sender T → ℕ) (f : ℕ → ℕ) (senders : List (Sender T)) → ((p : ℕ) (s : Sender T) → slice_get senders p ≡ Some s → f p ≡ g s) → sum_to (length senders) f ≡ sum_by g senders

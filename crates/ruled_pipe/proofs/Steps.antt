@@ -10,7 +10,7 @@ use Rattle.ruled_pipe.specs.declared.entry.Entry.{Entry}
 use Rattle.ruled_pipe.specs.declared.entry.Refusal.{Refusal}
 use Rattle.ruled_pipe.specs.declared.rule.Size.{Size}
 use Rattle.ruled_pipe.specs.declared.rule.View.{View}
-use Rattle.ruled_pipe.specs.Rule.{size_of, of_producer, producer, consumer, nobody, Piped, Placed, Ended}
+use Rattle.ruled_pipe.specs.Rule.{size_of, producer, consumer, nobody, Piped, Placed, Ended}
 use Rattle.ruled_pipe.specs.Producer.{WasFull, AllFull, refusal}
 use Rattle.ruled_pipe.proofs.Moves.{opens, adds, pushes, refused, takes, leaves, whole}
 

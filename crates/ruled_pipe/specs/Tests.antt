@@ -3,7 +3,7 @@ use Rattle.std.specs.Prelude.{◌≡◌, ℕ, List, [], ◌∷◌}
 use Rattle.ruled_pipe.specs.declared.entry.Entry.{Entry}
 use Rattle.ruled_pipe.specs.declared.entry.Load.TheVariants.{Payload, Marked}
 use Rattle.ruled_pipe.specs.declared.entry.Mark.TheVariants.{Close}
-use Rattle.ruled_pipe.specs.Producer.{Sender, entry, refusal}
+use Rattle.ruled_pipe.specs.Producer.{entry, refusal}
 use Rattle.ruled_pipe.specs.Gathered.{Views, IsWhole}
 
 -- At capacity 2, producer 0 had 10 and a closing mark accepted and 12 refused, behind one accepted offer; producer 1 had 11 accepted; all three were taken, in that order, and then a look found nothing; nothing is held

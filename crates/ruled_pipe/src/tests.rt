@@ -2,6 +2,7 @@ ghost use Rattle.std.specs.Prelude.{◌≡◌, ◌<◌, ◌≤◌, ◌∷◌, []
 ghost use Rattle.ruled_pipe.specs.Producer.{entry, new_sender, offered, refused};
 ghost use Rattle.ruled_pipe.specs.Consumer.{looked, new_taker, took};
 ghost use Rattle.ruled_pipe.specs.Pipe.{IsEndOf};
+ghost use Rattle.ruled_pipe.specs.Gathered.{IsSettled};
 ghost use Rattle.ruled_pipe.specs.Tests.{IsExample};
 
 use super::{Consumer, Entry, Full, Gathered, Load, Mark, Pipe, Producer};
@@ -147,6 +148,76 @@ fn example<R: Wait>(rt: &R, alloc: Global) -> Result<Option<Gathered<u32>>, Allo
 #[test]
 fn two_producers_at_a_full_pipe(rt: HostRuntime) -> Result<(), Fail> {
     assert!(rt; example(&rt, rt.alloc())?.is_some());
+    Ok(())
+}
+
+fn ends<R: Wait>(rt: &R, producer: &mut Producer<u32>) -> bool
+    ensures { result ≡ true → producer.new ≡ offered producer.old (entry producer.old.number (Load.Marked Mark.End)) }
+{
+    producer.mark(rt, Mark::End).is_ok()
+}
+
+fn gives_end<R: Wait>(rt: &R, consumer: &mut Consumer<u32>, producer: usize) -> bool
+    ensures { result ≡ true → consumer.new ≡ took consumer.old (entry producer (Load.Marked Mark.End)) }
+{
+    match consumer.take(rt) {
+        Some(
+            Entry {
+                from,
+                load: Load::Marked(Mark::End),
+            },
+        ) => from == producer,
+        _ => false,
+    }
+}
+
+// Both producers end, and all is taken.
+fn end_both<R: Wait>(
+    rt: &R,
+    first: &mut Producer<u32>,
+    second: &mut Producer<u32>,
+    consumer: &mut Consumer<u32>,
+) -> bool
+    ensures first { result ≡ true → first.new ≡ offered (offered first.old (entry first.old.number (Load.Payload 10))) (entry first.old.number (Load.Marked Mark.End)) }
+    ensures second { result ≡ true → second.new ≡ offered second.old (entry second.old.number (Load.Marked Mark.End)) }
+    ensures consumer { result ≡ true → consumer.new ≡ took (took (took consumer.old (entry 0 (Load.Payload 10))) (entry 0 (Load.Marked Mark.End))) (entry 1 (Load.Marked Mark.End)) }
+{
+    if !accepts(rt, first, 10) {
+        return false;
+    }
+    if !ends(rt, first) {
+        return false;
+    }
+    if !gives(rt, consumer, 0, 10) {
+        return false;
+    }
+    if !ends(rt, second) {
+        return false;
+    }
+    if !gives_end(rt, consumer, 0) {
+        return false;
+    }
+    gives_end(rt, consumer, 1)
+}
+
+// A pipe that is settled, until an answer is another than it should be.
+fn settled_example<R: Wait>(rt: &R, alloc: Global) -> Result<Option<Gathered<u32>>, AllocError>
+    ensures { IfOk result (λ o. IfSome o (λ g. IsSettled g.senders g.taker.taken)) }
+{
+    let Some((pipe, mut first, mut second, mut consumer)) = for_two(alloc)? else {
+        return Ok(None);
+    };
+    if !end_both(rt, &mut first, &mut second, &mut consumer) {
+        return Ok(None);
+    }
+    let gathered = gather_two(alloc, pipe, first, second, consumer)?;
+    gathered.settled();
+    Ok(Some(gathered))
+}
+
+#[test]
+fn ended_and_taken(rt: HostRuntime) -> Result<(), Fail> {
+    assert!(rt; settled_example(&rt, rt.alloc())?.is_some());
     Ok(())
 }
 

@@ -1,4 +1,4 @@
-use Rattle.std.proofs.Common.{◌≡◌, List, length, subst}
+use Rattle.std.proofs.Common.{◌≡◌, length, subst}
 use Rattle.ruled_pipe.specs.Gathered.{Views, IsSettled, EachEndsWithMark, ends_in}
 use Rattle.ruled_pipe.proofs.Drained.{drained, settles}
 use Rattle.ruled_pipe.proofs.gathered.Gathered.settled.Goals as goal

@@ -1,4 +1,3 @@
-use Rattle.std.proofs.Common.{List, ◌∙◌, sym, subst}
 use Rattle.ruled_pipe.proofs.Steps.{whole_from}
 use Rattle.ruled_pipe.proofs.Ends.{whole_of}
 use Rattle.ruled_pipe.specs.Rule.{known_by}
