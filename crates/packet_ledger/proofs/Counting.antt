@@ -1,8 +1,8 @@
 -- Counts, one by one.
-use Rattle.std.proofs.Common.{◌≡◌, ℕ, zero, suc, ◌+◌, ◌<◌, ◌≤◌, List, [], ◌∷◌, length, replicate, slice_index_or, sym, refl, ap, ◌∙◌, arith}
+use Rattle.std.proofs.Common.{◌≡◌, ℕ, zero, suc, ◌+◌, List, [], ◌∷◌, length, replicate, slice_index_or, sym, refl, ap, ◌∙◌, arith}
 use Rattle.std.proofs.lemmas.List.{ext_get_or}
 use Rattle.process_packet.specs.declared.totals.Totals.{Totals}
-use Rattle.packet_ledger.specs.Amounts.{count_at, nothing, add_each, plus, AtMost}
+use Rattle.packet_ledger.specs.Amounts.{count_at, nothing, add_each, plus}
 use Rattle.std.specs.Prelude.{Bool, true, false, MatchBool}
 
 zero_of : (n k : ℕ) → slice_index_or {A = ℕ} (replicate n 0) k 0 ≡ 0

@@ -1,5 +1,5 @@
 -- Counts, and their sums, count by count.
-use Rattle.std.specs.Prelude.{◌≡◌, ℕ, zero, suc, ◌+◌, ◌≤◌, List, [], ◌∷◌, replicate, slice_index_or}
+use Rattle.std.specs.Prelude.{ℕ, zero, suc, ◌+◌, ◌≤◌, List, [], ◌∷◌, replicate, slice_index_or}
 use Rattle.process_packet.specs.declared.totals.Totals.{Totals}
 
 -- the counts one by one: received, sent, answered, and then those dropped, cause by cause

@@ -1,5 +1,5 @@
 -- The rule of the tokens: the sums of the book are those of what all shares posted.
-use Rattle.std.specs.Prelude.{◌≡◌, ℕ, ◌+◌, ◌-◌, ◌≤◌, List, [], ◌∷◌, length, Bool, true, false}
+use Rattle.std.specs.Prelude.{◌≡◌, ℕ, ◌+◌, ◌-◌, ◌≤◌, List, [], ◌∷◌, length, true, false}
 use mathlib.Core.Option.{some}
 use lib.ListN.{get_elem?}
 use Rattle.atomic_table.specs.Seated.{TableId}
@@ -10,6 +10,11 @@ use Rattle.packet_ledger.specs.Amounts.{count_at, nothing, plus}
 -- the name of no table
 abbrev pub no_table : TableId
 no_table = record { words = 0; slots = 0; views_name = 0; atom = 0; block = 0; offset = 0; slot_names = [] }
+
+-- a book before a type stands for it: its name, and what is booked
+pub record Unnamed : Type 0 where
+  pub table : TableId
+  pub booked : Totals
 
 -- the book's token: its parts, what it knows as posted beside the shares, and its sums
 abbrev pub keeper : ℕ → Totals → Totals → View

@@ -14,7 +14,7 @@ use std::alloc::{AllocError, Global};
 use std::marker::Model;
 use std::sync::{Mutex, Wait};
 
-/// A new book that no type stands for yet. Contracts see its name.
+/// A new book that no type stands for yet. Contracts see its name, and what is booked.
 #[derive(Drop)]
 pub struct Blank {
     cell: Cell,
@@ -23,20 +23,22 @@ pub struct Blank {
 
 impl Model for Blank {
     ghost use Rattle.std.specs.Prelude.{◌≡◌};
-    ghost use Rattle.atomic_table.specs.Seated.{TableId};
     ghost use Rattle.crossbeam_utils.specs.Seq.{cell_view};
     ghost use Rattle.packet_ledger.specs.Amounts.{nothing};
-    ghost use Rattle.packet_ledger.specs.Tokens.{keeper};
+    ghost use Rattle.packet_ledger.specs.Tokens.{Unnamed, keeper};
 
-    ghost Value = { TableId };
+    ghost Value = { Unnamed };
 
-    ghost view = { λ b. b.cell.table.shared.table_id };
+    ghost view = { λ b. record { table = b.cell.table.shared.table_id; booked = (cell_view b.token).booked } };
 
     ghost invariant = { λ b. (b.token.table_id ≡ b.cell.table.shared.table_id) × (cell_view b.token ≡ keeper 65537 nothing nothing) };
 }
 
 impl Blank {
-    pub fn new(alloc: Global) -> Result<Blank, AllocError> {
+    /// Nothing is booked.
+    pub fn new(alloc: Global) -> Result<Blank, AllocError>
+        ensures { IfOk result (λ b. b.booked ≡ nothing) }
+    {
         let (cell, token) = Cell::ruled(alloc, [0])?;
         Ok(Blank { cell, token })
     }
@@ -58,7 +60,7 @@ impl<L: Ledger> Book<L> {
         blank: Blank,
         workers: usize,
     ) -> Result<(Book<L>, Vec<Share<L>>), AllocError>
-        requires name { blank ≡ L.table }
+        requires name { blank.table ≡ L.table }
         requires workers { (workers ≡ L.workers) × (workers ≤ 65536) }
         ensures count { IfOk result (λ r. length r.1.items ≡ workers) }
         ensures shares { IfOk result (λ r. All (λ s. s ≡ new_share) r.1.items) }

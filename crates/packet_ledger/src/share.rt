@@ -78,17 +78,17 @@ impl<L: Ledger> Share<L> {
     }
 
     /// What it counted since it was last posted.
-    pub fn counts(&self) -> Totals
-        ensures { result ≡ self.now.counts }
+    pub fn counts(&self) -> &Totals
+        ensures { result.now ≡ self.now.counts }
     {
-        self.counts
+        &self.counts
     }
 
     /// The sums of all that it ever posted.
-    pub fn posted(&self) -> Totals
-        ensures { result ≡ self.now.posted }
+    pub fn posted(&self) -> &Totals
+        ensures { result.now ≡ self.now.posted }
     {
-        self.posted
+        &self.posted
     }
 
     /// All that it ever counted as sent or answered.

@@ -23,7 +23,7 @@ fn two_shares<L: Ledger, R: Wait>(
     alloc: Global,
     blank: Blank,
 ) -> Result<Option<(Totals, Totals)>, AllocError>
-    requires name { blank ≡ L.table }
+    requires name { blank.table ≡ L.table }
     requires two { L.workers ≡ 2 }
 {
     let (book, mut shares) = Book::<L>::new(alloc, blank, 2)?;
@@ -37,7 +37,7 @@ fn two_shares<L: Ledger, R: Wait>(
     drop_one(&mut second, Cause::ProcessorFull);
     drop_one(&mut second, Cause::ProcessorFull);
     book.post(rt, &mut first);
-    let left = first.counts();
+    let left = *first.counts();
     shares.push(first)?;
     shares.push(second)?;
     Ok(Some((left, book.close(rt, shares))))
@@ -80,8 +80,8 @@ fn count_one<L: Ledger>(share: &mut Share<L>, kind: u32) {
         0 => share.received(1),
         1 => share.sent(),
         2 => share.answered(),
-        3 => share.fate(Cause::Short),
-        _ => share.fate(Cause::NoBuffer),
+        3 => drop_one(share, Cause::Short),
+        _ => drop_one(share, Cause::NoBuffer),
     }
 }
 
@@ -102,7 +102,7 @@ fn two_threads<L: Ledger + Send + Sync, R: Threads + Wait + Sync>(
     alloc: Global,
     blank: Blank,
 ) -> Result<Option<(Totals, u128, u128)>, AllocError>
-    requires name { blank ≡ L.table }
+    requires name { blank.table ≡ L.table }
     requires two { L.workers ≡ 2 }
 {
     let (book, mut shares) = Book::<L>::new(alloc, blank, 2)?;
@@ -146,7 +146,7 @@ fn post_twice<L: Ledger, R: Wait>(
     alloc: Global,
     blank: Blank,
 ) -> Result<Option<(Totals, Totals)>, AllocError>
-    requires name { blank ≡ L.table }
+    requires name { blank.table ≡ L.table }
     requires one { L.workers ≡ 1 }
 {
     let (book, mut shares) = Book::<L>::new(alloc, blank, 1)?;
@@ -158,7 +158,7 @@ fn post_twice<L: Ledger, R: Wait>(
     receive(&mut share, 2);
     book.post(rt, &mut share);
     receive(&mut share, 1);
-    let posted = share.posted();
+    let posted = *share.posted();
     shares.push(share)?;
     Ok(Some((posted, book.close(rt, shares))))
 }
@@ -175,7 +175,7 @@ fn posted_twice(rt: HostRuntime) -> Result<(), Fail> {
 
 // The totals of a book with no share.
 fn no_share<L: Ledger, R: Wait>(rt: &R, alloc: Global, blank: Blank) -> Result<Totals, AllocError>
-    requires name { blank ≡ L.table }
+    requires name { blank.table ≡ L.table }
     requires none { L.workers ≡ 0 }
 {
     let (book, shares) = Book::<L>::new(alloc, blank, 0)?;

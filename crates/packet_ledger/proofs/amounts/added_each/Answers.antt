@@ -1,4 +1,4 @@
-use Rattle.std.proofs.Common.{◌≡◌, ◌∙◌, sym, arith, length}
+use Rattle.std.proofs.Common.{◌∙◌, sym, arith}
 use Rattle.std.proofs.lemmas.List.{ext_get_or}
 use Rattle.packet_ledger.proofs.Counting.{each_at, length-add_each}
 use Rattle.packet_ledger.proofs.amounts.added_each.Goals as goal

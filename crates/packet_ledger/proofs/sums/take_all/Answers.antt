@@ -1,4 +1,4 @@
-use Rattle.std.proofs.Common.{◌≡◌, List, [], ◌∷◌, length, ap, ◌∙◌, sym, append_assoc, length-append, arith}
+use Rattle.std.proofs.Common.{[], ◌∷◌, length, ap, ◌∙◌, sym, append_assoc, length-append, arith}
 use Rattle.crossbeam_utils.specs.Seq.{cell_view}
 use Rattle.packet_ledger.specs.Amounts.{count_at, plus}
 use Rattle.packet_ledger.proofs.Counting.{plus_at}

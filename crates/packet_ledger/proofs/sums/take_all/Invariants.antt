@@ -1,7 +1,6 @@
-use Rattle.std.proofs.Common.{◌≡◌, ℕ, ◌+◌, ◌*◌, ◌≤◌, ◌++◌, length}
+use Rattle.std.proofs.Common.{◌≡◌, ℕ, ◌*◌, ◌≤◌, ◌++◌, length}
 use Rattle.std.specs.Vec.Iter.{into_iter_items, into_iter_len}
 use Rattle.crossbeam_utils.specs.Seq.{cell_view}
-use Rattle.packet_ledger.specs.declared.tokens.View.{View}
 use Rattle.packet_ledger.specs.Amounts.{count_at}
 use Rattle.packet_ledger.specs.Tokens.{gathered}
 use Rattle.packet_ledger.specs.Share.{counts_of, posted_by}

@@ -1,8 +1,7 @@
-use Rattle.std.proofs.Common.{◌≡◌, ℕ, ◌≤◌, length, rules, sym, subst}
+use Rattle.std.proofs.Common.{ℕ, rules, sym, subst}
 use Rattle.crossbeam_utils.specs.Seq.{cell_view}
 use Rattle.crossbeam_utils.specs.Register.{Forks}
 use Rattle.process_packet.specs.declared.totals.Totals.{Totals}
-use Rattle.packet_ledger.specs.Amounts.{count_at}
 use Rattle.packet_ledger.specs.Tokens.{Balanced, given, kept}
 use Rattle.packet_ledger.proofs.Moves.{gives}
 use Rattle.packet_ledger.proofs.tokens.give_as.Goals as goal

@@ -1,9 +1,9 @@
-use Rattle.std.proofs.Common.{◌≡◌, ◌-◌, suc, true, refl, subst, ap, ◌∙◌, arith}
+use Rattle.std.proofs.Common.{◌-◌, suc, subst, arith}
 use Rattle.std.specs.Prelude.{MatchBool}
 use Rattle.process_packet.specs.declared.totals.Totals.{Totals}
 use Rattle.process_packet.specs.Cause.{number_of}
 use Rattle.packet_ledger.specs.Amounts.{AtMost}
-use Rattle.packet_ledger.specs.Share.{Held, HasRoom, MayRaise}
+use Rattle.packet_ledger.specs.Share.{MayRaise}
 use Rattle.packet_ledger.proofs.Counting.{match_as}
 use Rattle.packet_ledger.proofs.share.Share.has_room.Goals as goal
 

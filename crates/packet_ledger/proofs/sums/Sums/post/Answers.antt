@@ -1,9 +1,8 @@
-use Rattle.std.proofs.Common.{◌≡◌, ℕ, ◌≤◌, ◌-◌, length, rules, sym, ap, ◌∙◌, subst, arith}
+use Rattle.std.proofs.Common.{◌≡◌, ◌-◌, length, rules, sym, ap, ◌∙◌, subst, arith}
 use Rattle.crossbeam_utils.specs.Seq.{cell_view}
 use Rattle.process_packet.specs.declared.totals.Totals.{Totals}
 use Rattle.packet_ledger.specs.Amounts.{AtMost, count_at, nothing, plus}
 use Rattle.packet_ledger.specs.Tokens.{holder, keeper}
-use Rattle.packet_ledger.specs.Share.{Held}
 use Rattle.packet_ledger.proofs.Counting.{nothing_at}
 use Rattle.packet_ledger.proofs.Moves.{posts, posted_fits}
 use Rattle.packet_ledger.proofs.sums.Sums.post.Goals as goal
