@@ -1,0 +1,143 @@
+-- Each step of a token keeps the rule.
+use Rattle.std.proofs.Common.{◌≡◌, ◌≢◌, ℕ, zero, suc, ◌+◌, ◌-◌, ◌≤◌, List, [], ◌∷◌, ◌++◌, length, set, true, false, true≢false, refl, sym, ap, ◌∙◌, subst, ⊎_elim, arith}
+use mathlib.Core.Option.{some, some-ne-none, some-injective}
+use lib.ListN.{get_elem?}
+use Rattle.crossbeam_utils.specs.Register.{Turns, Forks, Merges}
+use Rattle.atomic_table.proofs.Lists.{at_set, at_snoc, set_again}
+use Rattle.process_packet.specs.declared.totals.Totals.{Totals}
+use Rattle.packet_ledger.specs.declared.tokens.View.{View}
+use Rattle.packet_ledger.specs.Amounts.{count_at, nothing, plus, AtMost}
+use Rattle.packet_ledger.specs.Tokens.{keeper, holder, nobody, kept, given, joined, total, posted_at, Fits, Balanced, Audited}
+use Rattle.packet_ledger.proofs.Counting.{nothing_at, plus_at, length-add_each, plus_nothing, nothing_plus}
+
+off : {P : Type 0} → false ≡ true → P
+off e = absurd (true≢false (sym e))
+
+total_set : (f : View → ℕ) (views : List View) (by : ℕ) (v w : View) → get_elem? views by ≡ some v → total f (set views by w) + f v ≡ total f views + f w
+total_set f [] by v w at = absurd (some-ne-none v (sym at))
+total_set f (x ∷ xs) zero v w at = let e : f x ≡ f v = ap f (some-injective x v at) in omega arith
+total_set f (x ∷ xs) (suc by) v w at = let r = total_set f xs by v w at in omega arith
+
+total_new : (f : View → ℕ) (views : List View) (w : View) → total f (views ++ w ∷ []) ≡ total f views + f w
+total_new f [] w = omega arith
+total_new f (x ∷ xs) w = let r = total_new f xs w in omega arith
+
+-- where there are no parts, f of those without a part adds up to nothing
+total_none : (f : View → ℕ) (views : List View) → ((by : ℕ) (u : View) → get_elem? views by ≡ some u → u.parts ≡ 0 → f u ≡ 0) → total (λ (u : View). u.parts) views ≡ 0 → total f views ≡ 0
+total_none f [] idle none = refl
+total_none f (x ∷ xs) idle none =
+    let a = idle 0 x refl (omega arith) in
+    let r = total_none f xs (λ by u at. idle (suc by) u at) (omega arith) in omega arith
+
+all_set : (F : ℕ → View → Type 0) (views : List View) (by : ℕ) (w : View) → F by w → ((j : ℕ) (u : View) → j ≢ by → get_elem? views j ≡ some u → F j u) → (j : ℕ) (u : View) → get_elem? (set views by w) j ≡ some u → F j u
+all_set F views by w mine others j u e =
+    ⊎_elim
+    (λ (x : (j ≡ by) × (w ≡ u)). subst (λ (y : ℕ × View). F y.0 y.1) (λ i. (sym x.0 i, x.1 i)) mine)
+    (λ (x : (j ≢ by) × (get_elem? views j ≡ some u)). others j u x.0 x.1)
+    (at_set views by j w u e)
+
+pub begins : (words : List ℕ) → Balanced words (keeper 65537 nothing nothing ∷ [])
+begins words = record {
+  seat = 0;
+  whole = refl;
+  fits = one;
+}
+  where
+    one : (by : ℕ) (v : View) → get_elem? (keeper 65537 nothing nothing ∷ []) by ≡ some v → Fits 0 (posted_at (keeper 65537 nothing nothing ∷ [])) by v
+    one zero v e = subst (Fits 0 (posted_at (keeper 65537 nothing nothing ∷ [])) 0) (some-injective _ _ e)
+        ((λ _. (refl, λ i. let z = nothing_at i in omega arith)), (λ p. absurd (omega arith)), refl)
+    one (suc by) v e = absurd (some-ne-none v (sym e))
+
+-- the book's token gives parts away, with what it knew as posted and these counts
+pub gives : (by : ℕ) (v : View) (n : ℕ) (counts : Totals) → v.keeps ≡ true → n ≤ v.parts → (n ≡ 0 → (i : ℕ) → (count_at i v.posted ≡ 0) × (count_at i counts ≡ 0)) → length counts.dropped ≡ 18
+    → Forks Balanced by v (kept n counts v) (given n counts v)
+gives by v n counts keeps few none long words views h at =
+    let l = kept n counts v in let r = given n counts v in let vs = set views by l in
+    let mine = h.fits by v at in let seat = mine.0 keeps in
+    let sum : (i : ℕ) → posted_at (vs ++ r ∷ []) i ≡ posted_at views i + count_at i counts =
+    λ i.
+    let f : View → ℕ = λ u. count_at i u.posted in
+    let a = total_set f views by v l at in let b = total_new f vs r in let z = nothing_at i in let p = plus_at i v.posted counts in omega arith in
+    let F = Fits h.seat (posted_at (vs ++ r ∷ [])) in
+    let left : F by l = ((λ _. (seat.0, λ i. let b = seat.1 i in let p = plus_at i v.booked counts in let s = sum i in omega arith)), (λ _ i. nothing_at i), refl) in
+    let right : (j : ℕ) → F j r = λ j. ((λ e. off e), (λ e i. let o = none e i in let p = plus_at i v.posted counts in let a = o.0 in let b = o.1 in omega arith), length-add_each 18 v.posted.dropped counts.dropped mine.2 long) in
+    let others = all_set F views by l left (λ j u apart e. let was = h.fits j u e in ((λ k. absurd (apart ((was.0 k).0 ∙ sym seat.0))), was.1, was.2)) in record {
+      seat = h.seat;
+      whole = (
+          let f : View → ℕ = λ u. u.parts in
+          let a = total_set f views by v l at in let b = total_new f vs r in let w = h.whole in omega arith
+          );
+      fits = λ j u e. ⊎_elim (λ was. others j u was) (λ (same : r ≡ u). subst (F j) same (right j)) (at_snoc vs r u j e);
+    }
+
+-- a token takes another in
+pub takes : (by : ℕ) (v : View) (other : ℕ) (w : View) → Merges Balanced by v other w (joined v w) nobody
+takes by v other w words views h at apart there =
+    let both = joined v w in let vs = set views by both in let new = set vs other nobody in
+    let mine = h.fits by v at in
+    let theirs = ⊎_elim (λ (t : (other ≡ by) × (both ≡ w)). absurd (apart t.0)) (λ (t : (other ≢ by) × (get_elem? views other ≡ some w)). h.fits other w t.1) (at_set views by other both w there) in
+    let sum : (i : ℕ) → posted_at new i ≡ posted_at views i =
+    λ i.
+    let f : View → ℕ = λ u. count_at i u.posted in
+    let a = total_set f views by v both at in let b = total_set f vs other w nobody there in let z = nothing_at i in let p = plus_at i v.posted w.posted in omega arith in
+    let F = Fits h.seat (posted_at new) in
+    let one : F by both = (
+      (λ k. ((mine.0 k).0, λ i. (mine.0 k).1 i ∙ sym (sum i))),
+      (λ e i. let a = mine.1 (omega arith) i in let b = theirs.1 (omega arith) i in let p = plus_at i v.posted w.posted in omega arith),
+      length-add_each 18 v.posted.dropped w.posted.dropped mine.2 theirs.2,
+    ) in
+    let first = all_set F views by both one (λ j u _ e. let was = h.fits j u e in ((λ k. ((was.0 k).0, λ i. (was.0 k).1 i ∙ sym (sum i))), was.1, was.2)) in record {
+      seat = h.seat;
+      whole = (
+          let f : View → ℕ = λ u. u.parts in
+          let a = total_set f views by v both at in let b = total_set f vs other w nobody there in let s = h.whole in omega arith
+          );
+      fits = all_set F vs other nobody ((λ e. off e), (λ _ i. nothing_at i), refl) (λ j u _ e. first j u e);
+    }
+
+-- the book's token tells what it knows
+pub audits : (by : ℕ) (v : View) → v.keeps ≡ true → Turns Balanced by v (λ x. x) (λ v before after w. Audited v w)
+audits by v keeps words views h at =
+    let mine = h.fits by v at in let seat = mine.0 keeps in
+    let rest : (i : ℕ) → posted_at (set views by nobody) i + count_at i v.posted ≡ posted_at views i =
+    λ i.
+    let f : View → ℕ = λ u. count_at i u.posted in
+    let a = total_set f views by v nobody at in let z = nothing_at i in omega arith in
+    let idle : (i : ℕ) (j : ℕ) (u : View) → get_elem? (set views by nobody) j ≡ some u → u.parts ≡ 0 → count_at i u.posted ≡ 0 =
+    λ i. all_set (λ j u. u.parts ≡ 0 → count_at i u.posted ≡ 0) views by nobody (λ _. nothing_at i) (λ j u _ e p. (h.fits j u e).1 p i) in (
+      v,
+      subst (λ l. Balanced words l) (sym (set_again views by v at)) h,
+      (
+        refl,
+        (λ i. let r = rest i in let b = seat.1 i in omega arith),
+        (λ all i.
+            let f : View → ℕ = λ u. u.parts in
+            let a = total_set f views by v nobody at in let w = h.whole in
+            let none = total_none (λ u. count_at i u.posted) (set views by nobody) (idle i) (omega arith) in
+            let r = rest i in let b = seat.1 i in omega arith),
+        mine.2,
+      ),
+    )
+
+-- what a post leaves: the book's token with the counts booked, and the share's with them posted
+pub posts : (workers : ℕ) (totals posted counts zero' : Totals) (v0 v1 v2 v3 v4 w r : View) → workers ≤ 65536 → length totals.dropped ≡ 18 → length posted.dropped ≡ 18 → zero' ≡ nothing
+    → v0 ≡ keeper (65537 - workers) nothing totals → v1 ≡ kept 0 zero' v0 → w ≡ holder 1 posted → v2 ≡ joined v1 w → v3 ≡ v2 → v4 ≡ kept 1 counts v3 → r ≡ given 1 counts v3
+    → (v2 ≡ keeper (65538 - workers) posted totals) × (v4 ≡ keeper (65537 - workers) nothing (plus totals counts)) × (r ≡ holder 1 (plus posted counts))
+posts workers totals posted counts zero' v0 v1 v2 v3 v4 w r few longT longP isZero is0 is1 isW is2 is3 is4 isR =
+    let first : v1 ≡ keeper (65537 - workers) nothing totals =
+    is1 ∙ (λ i. kept 0 (isZero i) (is0 i)) ∙ (let b = plus_nothing totals longT in let n : (65537 - workers) - 0 ≡ 65537 - workers = omega arith in λ i. keeper (n i) nothing (b i)) in
+    let second : v2 ≡ keeper (65538 - workers) posted totals =
+    is2 ∙ (λ i. joined (first i) (isW i)) ∙ (let b = nothing_plus posted longP in let n : 65537 - workers + 1 ≡ 65538 - workers = omega arith in λ i. keeper (n i) (b i) totals) in
+    let third : v3 ≡ keeper (65538 - workers) posted totals = is3 ∙ second in (
+      second,
+      is4 ∙ ap (kept 1 counts) third ∙ (let n : 65538 - workers - 1 ≡ 65537 - workers = omega arith in λ i. keeper (n i) nothing (plus totals counts)),
+      isR ∙ ap (given 1 counts) third,
+    )
+
+-- what a share posted stays within the sums, since the book's token had taken it in
+pub posted_fits : (m n : ℕ) (totals posted counts sums posted' : Totals) (v : View) → v ≡ keeper n posted totals → ((i : ℕ) → count_at i v.posted ≤ count_at i v.booked)
+    → sums ≡ plus totals counts → AtMost m sums → posted' ≡ plus posted counts → AtMost m posted'
+posted_fits m n totals posted counts sums posted' v is within isSums most isPosted i =
+    let P : View → Type 0 = λ u. count_at i u.posted ≤ count_at i u.booked in
+    let a : count_at i posted ≤ count_at i totals = subst P is (within i) in
+    let b = plus_at i totals counts in let d = ap (count_at i) isSums in let e = most i in let f = plus_at i posted counts in let h = ap (count_at i) isPosted in omega arith

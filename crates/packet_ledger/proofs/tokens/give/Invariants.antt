@@ -1,0 +1,4 @@
+use Rattle.packet_ledger.proofs.tokens.give.Given as goal
+
+abbrev pub ghosts-give_as : goal.ghosts-give_as
+ghosts-give_as a = record { counts = a.counts.now; parts = a.parts }

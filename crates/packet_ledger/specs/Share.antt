@@ -1,0 +1,55 @@
+-- What contracts see of a share.
+use Rattle.std.specs.Prelude.{ℕ, ◌+◌, ◌-◌, ◌^◌, ◌<◌, ◌≤◌, List, fold, slice_set}
+use Rattle.process_packet.specs.declared.cause.Cause.{Cause}
+use Rattle.process_packet.specs.declared.totals.Totals.{Totals}
+use Rattle.process_packet.specs.Cause.{number_of}
+use Rattle.process_packet.specs.Totals.{dropped_for}
+use Rattle.packet_ledger.specs.Amounts.{count_at, nothing, plus}
+
+-- what it counted since it was posted, and the sums of all that it ever posted
+pub record Held : Type 0 where
+  pub counts : Totals
+  pub posted : Totals
+
+abbrev pub new_share : Held
+new_share = record { counts = nothing; posted = nothing }
+
+-- a share with these counts in place of its own
+abbrev pub counting : Held → Totals → Held
+counting s counts = record { counts = counts; posted = s.posted }
+
+abbrev pub with_received : ℕ → Totals → Totals
+with_received n t = record { received = t.received + n; sent = t.sent; answered = t.answered; dropped = t.dropped }
+
+abbrev pub with_sent : Totals → Totals
+with_sent t = record { received = t.received; sent = t.sent + 1; answered = t.answered; dropped = t.dropped }
+
+abbrev pub with_answered : Totals → Totals
+with_answered t = record { received = t.received; sent = t.sent; answered = t.answered + 1; dropped = t.dropped }
+
+-- one more drop of this cause
+abbrev pub with_fate : Cause → Totals → Totals
+with_fate cause t = record { received = t.received; sent = t.sent; answered = t.answered; dropped = slice_set t.dropped (number_of cause - 1) (dropped_for t cause + 1) }
+
+-- each count can still be raised
+abbrev pub HasRoom : Totals → Type 0
+HasRoom t = (i : ℕ) → count_at i t < 2 ^ 100
+
+-- so each call that raises a count by one may be made
+abbrev pub MayRaise : Totals → Type 0
+MayRaise t = (t.received + 1 ≤ 2 ^ 100) × (t.sent + 1 ≤ 2 ^ 100) × (t.answered + 1 ≤ 2 ^ 100) × ((cause : Cause) → dropped_for t cause + 1 ≤ 2 ^ 100)
+
+-- a share after its counts moved into the book
+abbrev pub emptied : Held → Held
+emptied s = record { counts = nothing; posted = plus s.posted s.counts }
+
+-- all that it ever counted as sent or answered
+abbrev pub forwarded : Held → ℕ
+forwarded s = s.posted.sent + s.posted.answered + (s.counts.sent + s.counts.answered)
+
+-- what all shares posted, and what they still hold
+abbrev pub posted_by : List Held → Totals
+posted_by shares = fold (λ (t : Totals) (s : Held). plus t s.posted) nothing shares
+
+abbrev pub counts_of : List Held → Totals
+counts_of shares = fold (λ (t : Totals) (s : Held). plus t s.counts) nothing shares

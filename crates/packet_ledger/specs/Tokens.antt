@@ -1,0 +1,73 @@
+-- The rule of the tokens: the sums of the book are those of what all shares posted.
+use Rattle.std.specs.Prelude.{◌≡◌, ℕ, ◌+◌, ◌-◌, ◌≤◌, List, [], ◌∷◌, length, true, false}
+use mathlib.Core.Option.{some}
+use lib.ListN.{get_elem?}
+use Rattle.atomic_table.specs.Seated.{TableId}
+use Rattle.process_packet.specs.declared.totals.Totals.{Totals}
+use Rattle.packet_ledger.specs.declared.tokens.View.{View}
+use Rattle.packet_ledger.specs.Amounts.{count_at, nothing, plus}
+
+-- the name of no table
+abbrev pub no_table : TableId
+no_table = record { words = 0; slots = 0; views_name = 0; atom = 0; block = 0; offset = 0; slot_names = [] }
+
+-- a book before a type stands for it: its name, and what is booked
+pub record Unnamed : Type 0 where
+  pub table : TableId
+  pub booked : Totals
+
+-- the book's token: its parts, what it knows as posted beside the shares, and its sums
+abbrev pub keeper : ℕ → Totals → Totals → View
+keeper parts posted booked = record { keeps = true; parts = parts; posted = posted; booked = booked }
+
+-- the token of a share, which posted so much
+abbrev pub holder : ℕ → Totals → View
+holder parts posted = record { keeps = false; parts = parts; posted = posted; booked = nothing }
+
+-- a spent token
+abbrev pub nobody : View
+nobody = holder 0 nothing
+
+-- the book's token after it gave parts away, with all that it knew as posted, and booked these counts with them
+abbrev pub kept : ℕ → Totals → View → View
+kept parts counts v = record { keeps = v.keeps; parts = v.parts - parts; posted = nothing; booked = plus v.booked counts }
+
+abbrev pub given : ℕ → Totals → View → View
+given parts counts v = holder parts (plus v.posted counts)
+
+-- a token with what another knew
+abbrev pub joined : View → View → View
+joined v w = record { keeps = v.keeps; parts = v.parts + w.parts; posted = plus v.posted w.posted; booked = v.booked }
+
+-- a token with so many parts more, and so much posted
+abbrev pub gathered : ℕ → Totals → View → View
+gathered parts posted v = record { keeps = v.keeps; parts = v.parts + parts; posted = posted; booked = v.booked }
+
+-- f of each, added up
+abbrev pub total : (View → ℕ) → List View → ℕ
+total f [] = 0
+total f (v ∷ vs) = f v + total f vs
+
+-- how much was posted in all, of the count at i
+abbrev pub posted_at : List View → ℕ → ℕ
+posted_at views i = total (λ (u : View). count_at i u.posted) views
+
+-- one token keeps the sums; a token without a part posted nothing
+abbrev pub Fits : ℕ → (ℕ → ℕ) → ℕ → View → Type 0
+Fits seat sum by v =
+    (v.keeps ≡ true → (by ≡ seat) × ((i : ℕ) → count_at i v.booked ≡ sum i))
+    × (v.parts ≡ 0 → (i : ℕ) → count_at i v.posted ≡ 0)
+    × (length v.posted.dropped ≡ 18)
+
+pub record Balanced (words : List ℕ) (views : List View) : Type 0 where
+  pub seat : ℕ
+  pub whole : total (λ (u : View). u.parts) views ≡ 65537
+  pub fits : (by : ℕ) (v : View) → get_elem? views by ≡ some v → Fits seat (posted_at views) by v
+
+-- what the book's token tells: it knows no more as posted than was booked, and with every part just that
+abbrev pub Audited : View → View → Type 0
+Audited v w =
+    (w ≡ v)
+    × ((i : ℕ) → count_at i v.posted ≤ count_at i v.booked)
+    × (v.parts ≡ 65537 → (i : ℕ) → count_at i v.posted ≡ count_at i v.booked)
+    × (length v.posted.dropped ≡ 18)

@@ -1,0 +1,67 @@
+//! Counts added up, count by count.
+
+ghost use Rattle.std.specs.Prelude.{◌≡◌, ◌^◌, ◌≤◌, ℕ, MatchBool, slice_index_or};
+ghost use Rattle.packet_ledger.specs.Amounts.{AtMost, add_each, nothing, plus};
+
+use process_packet::Totals;
+
+/// Up to this each sum of a book goes.
+pub const MOST: u128 = 1 << 126;
+
+/// No count of any kind.
+pub fn none() -> Totals
+    ensures { result ≡ nothing }
+{
+    Totals {
+        received: 0,
+        sent: 0,
+        answered: 0,
+        dropped: [0; 18],
+    }
+}
+
+pub fn added(a: &Totals, b: &Totals) -> Totals
+    requires a { AtMost (2 ^ 126) a.now }
+    requires b { AtMost (2 ^ 126) b.now }
+    ensures { result ≡ plus a.now b.now }
+{
+    Totals {
+        received: a.received + b.received,
+        sent: a.sent + b.sent,
+        answered: a.answered + b.answered,
+        dropped: added_each(&a.dropped, &b.dropped),
+    }
+}
+
+fn added_each(xs: &[u128; 18], ys: &[u128; 18]) -> [u128; 18]
+    requires xs { (k : ℕ) → slice_index_or xs.now k 0 ≤ 2 ^ 126 }
+    requires ys { (k : ℕ) → slice_index_or ys.now k 0 ≤ 2 ^ 126 }
+    ensures { result ≡ add_each xs.now ys.now }
+{
+    let mut sums = *xs;
+    for i in 0..18 {
+        sums[i] += ys[i];
+    }
+    sums
+}
+
+/// Whether no count is above `most`.
+pub fn at_most(counts: &Totals, most: u128) -> bool
+    ensures { MatchBool result (AtMost most counts.now) (AtMost most counts.now → ⊥) }
+{
+    if counts.received > most {
+        return false;
+    }
+    if counts.sent > most {
+        return false;
+    }
+    if counts.answered > most {
+        return false;
+    }
+    for i in 0..18 {
+        if counts.dropped[i] > most {
+            return false;
+        }
+    }
+    true
+}

@@ -1,0 +1,89 @@
+//! The book.
+
+ghost use Rattle.std.specs.Prelude.{◌≡◌, ◌≤◌, ◌⊎◌, All, IfOk, length};
+ghost use Rattle.crossbeam_utils.specs.Seq.{cell_view};
+ghost use Rattle.packet_ledger.specs.Amounts.{nothing, plus};
+ghost use Rattle.packet_ledger.specs.Tokens.{keeper};
+ghost use Rattle.packet_ledger.specs.Share.{counts_of, emptied, new_share, posted_by};
+
+use crate::share::Share;
+use crate::sums::{Sums, split_shares};
+use crate::tokens::{Cell, Ledger, Token};
+use process_packet::Totals;
+use std::alloc::{AllocError, Global};
+use std::marker::Model;
+use std::sync::{Mutex, Wait};
+
+/// A new book that no type stands for yet. Contracts see its name, and what is booked.
+#[derive(Drop)]
+pub struct Blank {
+    cell: Cell,
+    token: Token,
+}
+
+impl Model for Blank {
+    ghost use Rattle.std.specs.Prelude.{◌≡◌};
+    ghost use Rattle.crossbeam_utils.specs.Seq.{cell_view};
+    ghost use Rattle.packet_ledger.specs.Amounts.{nothing};
+    ghost use Rattle.packet_ledger.specs.Tokens.{Unnamed, keeper};
+
+    ghost Value = { Unnamed };
+
+    ghost view = { λ b. record { table = b.cell.table.shared.table_id; booked = (cell_view b.token).booked } };
+
+    ghost invariant = { λ b. (b.token.table_id ≡ b.cell.table.shared.table_id) × (cell_view b.token ≡ keeper 65537 nothing nothing) };
+}
+
+impl Blank {
+    /// Nothing is booked.
+    pub fn new(alloc: Global) -> Result<Blank, AllocError>
+        ensures { IfOk result (λ b. b.booked ≡ nothing) }
+    {
+        let (cell, token) = Cell::ruled(alloc, [0])?;
+        Ok(Blank { cell, token })
+    }
+}
+
+/// The book of all that the shares of `L` posted.
+#[derive(Drop)]
+pub struct Book<L: Ledger> {
+    cell: Cell,
+    sums: Mutex<Sums<L>>,
+    ghost named: { cell.table.shared.table_id ≡ L.table },
+}
+
+impl<L: Ledger> Book<L> {
+    /// A book with nothing posted, and its shares, one for each worker, with nothing counted: from 0 to
+    /// 65,536.
+    pub fn new(
+        alloc: Global,
+        blank: Blank,
+        workers: usize,
+    ) -> Result<(Book<L>, Vec<Share<L>>), AllocError>
+        requires name { blank.table ≡ L.table }
+        requires workers { (workers ≡ L.workers) × (workers ≤ 65536) }
+        ensures count { IfOk result (λ r. length r.1.items ≡ workers) }
+        ensures shares { IfOk result (λ r. All (λ s. s ≡ new_share) r.1.items) }
+    {
+        let Blank { cell, mut token } = blank;
+        let shares = split_shares(alloc, &cell, &mut token, workers)?;
+        let sums = Mutex::new(Sums::new(token));
+        Ok((Book { cell, sums }, shares))
+    }
+
+    /// Moves the share's counts into the book. Where a sum of the book would pass 2^126 nothing moves.
+    pub fn post<R: Wait>(&self, rt: &R, share: &mut Share<L>)
+        ensures { (share.new ≡ emptied share.old) ⊎ (share.new ≡ share.old) }
+    {
+        self.sums.lock(rt).post(rt, &self.cell, share);
+    }
+
+    /// The totals of all that was ever counted on the shares, which are all of this book: what they
+    /// posted, and what they still hold.
+    pub fn close<R: Wait>(&self, rt: &R, shares: Vec<Share<L>>) -> Totals
+        requires { length shares.items ≡ L.workers }
+        ensures { result ≡ plus (posted_by shares.items) (counts_of shares.items) }
+    {
+        self.sums.lock(rt).close(rt, &self.cell, shares)
+    }
+}

@@ -1,0 +1,100 @@
+//! A worker's own counts.
+
+ghost use Rattle.std.specs.Prelude.{◌≡◌, ◌+◌, ◌^◌, ◌≤◌, true, MatchBool};
+ghost use Rattle.process_packet.specs.Totals.{dropped_for};
+ghost use Rattle.packet_ledger.specs.Amounts.{nothing};
+ghost use Rattle.packet_ledger.specs.Share.{HasRoom, MayRaise, counting, forwarded, with_answered, with_fate, with_received, with_sent};
+
+use crate::amounts::at_most;
+use crate::tokens::{Ledger, Token};
+use process_packet::{Cause, Totals};
+use std::marker::{Model, PhantomData};
+
+/// Up to this each count of a share goes between two posts.
+pub const ROOM: u128 = 1 << 100;
+
+/// One worker's counts, and the sums of all that it ever posted into the book `L`.
+#[derive(Drop)]
+pub struct Share<L: Ledger> {
+    pub(crate) counts: Totals,
+    pub(crate) posted: Totals,
+    pub(crate) token: Token,
+    pub(crate) of: PhantomData<L>,
+}
+
+impl<L: Ledger> Model for Share<L> {
+    ghost use Rattle.std.specs.Prelude.{◌≡◌, ◌^◌, []};
+    ghost use Rattle.crossbeam_utils.specs.Seq.{cell_view};
+    ghost use Rattle.packet_ledger.specs.Amounts.{AtMost};
+    ghost use Rattle.packet_ledger.specs.Tokens.{holder};
+    ghost use Rattle.packet_ledger.specs.Share.{Held};
+
+    ghost Value = { Held };
+
+    ghost view = { λ s. record { counts = s.counts; posted = s.posted } };
+
+    ghost invariant = { λ s. (s.token.table_id ≡ L.table) × (s.token.me.1 ≡ []) × (cell_view s.token ≡ holder 1 s.posted) × AtMost (2 ^ 100) s.counts × AtMost (2 ^ 126) s.posted };
+}
+
+impl<L: Ledger> Share<L> {
+    /// Counts `n` more as received.
+    pub fn received(&mut self, n: u128)
+        requires { self.old.counts.received + n ≤ 2 ^ 100 }
+        ensures { self.new ≡ counting self.old (with_received n self.old.counts) }
+    {
+        self.counts.received += n;
+    }
+
+    /// Counts one more as sent.
+    pub fn sent(&mut self)
+        requires { self.old.counts.sent + 1 ≤ 2 ^ 100 }
+        ensures { self.new ≡ counting self.old (with_sent self.old.counts) }
+    {
+        self.counts.sent += 1;
+    }
+
+    /// Counts one more as answered.
+    pub fn answered(&mut self)
+        requires { self.old.counts.answered + 1 ≤ 2 ^ 100 }
+        ensures { self.new ≡ counting self.old (with_answered self.old.counts) }
+    {
+        self.counts.answered += 1;
+    }
+
+    /// Counts one more as dropped for a cause.
+    pub fn fate(&mut self, cause: Cause)
+        requires { dropped_for self.old.counts cause + 1 ≤ 2 ^ 100 }
+        ensures { self.new ≡ counting self.old (with_fate cause self.old.counts) }
+    {
+        self.counts.dropped[usize::from(cause.number()) - 1] += 1;
+    }
+
+    /// Whether each count can still be raised.
+    pub fn has_room(&self) -> bool
+        ensures room { MatchBool result (HasRoom self.now.counts) (HasRoom self.now.counts → ⊥) }
+        ensures each { result ≡ true → MayRaise self.now.counts }
+    {
+        at_most(&self.counts, ROOM - 1)
+    }
+
+    /// What it counted since it was last posted.
+    pub fn counts(&self) -> &Totals
+        ensures { result.now ≡ self.now.counts }
+    {
+        &self.counts
+    }
+
+    /// The sums of all that it ever posted.
+    pub fn posted(&self) -> &Totals
+        ensures { result.now ≡ self.now.posted }
+    {
+        &self.posted
+    }
+
+    /// All that it ever counted as sent or answered.
+    pub fn forwarded(&self) -> u128
+        ensures { result ≡ forwarded self.now }
+    {
+        self.posted.sent + self.posted.answered + (self.counts.sent + self.counts.answered)
+    }
+}

@@ -1,0 +1,6 @@
+pub mod Rule
+pub mod Producer
+pub mod Consumer
+pub mod Pipe
+pub mod Gathered
+pub mod Tests

@@ -1,0 +1,83 @@
+//! The consumer's end.
+
+ghost use Rattle.std.specs.Prelude.{◌≡◌, ◌<◌, ◌++◌, ◌∷◌, [], IfOk, IfSome, MatchOption, length};
+ghost use Rattle.std.specs.Arc.{arc_value};
+ghost use Rattle.crossbeam_queue.specs.Passes.{IsPassOf, ruled_capacity};
+ghost use Rattle.ruled_pipe.specs.Rule.{known_by, consumer, size_of};
+ghost use Rattle.ruled_pipe.specs.Consumer.{looked, new_taker, took};
+
+use crate::entry::Entry;
+use crate::notes::{Added, Notes};
+use crate::rule::{Queue, Seat, Takes};
+use std::alloc::{AllocError, Global};
+use std::marker::{Brand, Model};
+use std::sync::{Arc, Wait};
+
+/// The consumer's end of a pipe. Contracts see it as its pipe, how many producers the pipe has, its
+/// capacity, what it took, and for each empty look how much it had taken before.
+#[derive(Drop)]
+pub struct Consumer<T> {
+    pub(crate) queue: Arc<Queue<T>, Global>,
+    pub(crate) seat: Seat<T>,
+    pub(crate) looks: Notes<usize>,
+    pub(crate) producers: usize,
+}
+
+impl<T> Model for Consumer<T> {
+    ghost use Rattle.std.specs.Prelude.{◌≡◌, []};
+    ghost use Rattle.std.specs.Arc.{arc_value};
+    ghost use Rattle.crossbeam_queue.specs.Passes.{IsPassOf, ruled_capacity};
+    ghost use Rattle.ruled_pipe.specs.Rule.{known_by, consumer, size_of};
+    ghost use Rattle.ruled_pipe.specs.Consumer.{Taker};
+
+    ghost Value = { Taker T };
+
+    ghost view = { λ c. record { pipe = c.seat.table_id; producers = c.producers; capacity = ruled_capacity (arc_value c.queue); taken = (known_by c.seat).taken; looks = c.looks } };
+
+    ghost invariant = { λ c. IsPassOf (arc_value c.queue) c.seat × (known_by c.seat ≡ consumer c.producers (size_of (ruled_capacity (arc_value c.queue)) c.producers) (known_by c.seat).taken []) };
+}
+
+impl<T: Drop> Consumer<T> {
+    /// Takes the entry at the front. At `None` the queue was empty at one moment of the call, and the
+    /// look is noted. It takes no memory.
+    pub fn take<R: Wait>(&mut self, rt: &R) -> Option<Entry<T>>
+        ensures step { MatchOption result (self.new ≡ looked self.old) (λ e. self.new ≡ took self.old e) }
+        ensures below { IfSome result (λ e. e.from < self.old.producers) }
+    {
+        match self.queue.pop_as::<Takes, R>(rt, &mut self.seat) {
+            Some(entry) => Some(entry),
+            None => {
+                note_look::<T, Brand, R>(rt, &mut self.looks, &self.seat);
+                None
+            }
+        }
+    }
+}
+
+fn note_look<T, K: Added<usize>, R: Wait>(rt: &R, looks: &mut Notes<usize>, seat: &Seat<T>)
+    requires { K.added ≡ length (known_by seat.now).taken ∷ [] }
+    ensures { looks.new ≡ looks.old ++ length (known_by seat.now).taken ∷ [] }
+{
+    let _ = seat;
+    looks.append::<K, R>(rt);
+}
+
+// The consumer's end, of a seat that has made its producers.
+pub(crate) fn consumer_of<T: Drop>(
+    alloc: Global,
+    queue: &Arc<Queue<T>, Global>,
+    seat: Seat<T>,
+    producers: usize,
+) -> Result<Consumer<T>, AllocError>
+    requires { IsPassOf (arc_value queue.now) seat × (known_by seat ≡ consumer producers (size_of (ruled_capacity (arc_value queue.now)) producers) [] []) }
+    ensures { IfOk result (λ c. c ≡ new_taker (arc_value queue.now).table.shared.table_id producers (ruled_capacity (arc_value queue.now))) }
+{
+    let looks = Notes::new(alloc)?;
+    let queue = Arc::try_clone(queue)?;
+    Ok(Consumer {
+        queue,
+        seat,
+        looks,
+        producers,
+    })
+}
