@@ -1,5 +1,6 @@
 -- From the parts of a datagram to its packet.
-use Rattle.std.proofs.Common.{◌≡◌, ◌≤◌, ◌<◌, ◌+◌, ◌-◌, ◌*◌, ℕ, None, Some, Option, List, [], ◌∷◌, ◌++◌, length, take, drop, refl, sym, subst, ap, ap₂, ◌∙◌, arith, length-drop}
+use Rattle.std.proofs.Common.{◌≡◌, ◌≤◌, ◌<◌, ◌+◌, ◌-◌, ◌*◌, ℕ, Bool, None, Some, Option, List, [], ◌∷◌, ◌++◌, length, take, drop, refl, sym, subst, ap, ap₂, ◌∙◌, arith, length-drop}
+use Rattle.std.proofs.lemmas.Bool.Decides.{Decides-ltb}
 use Rattle.std.proofs.lemmas.List.{drop-drop, take_all}
 use Rattle.field_rows.specs.Place.{IsBytes, text_at}
 use Rattle.path_fields.specs.declared.meta.Meta.{Meta}
@@ -14,13 +15,14 @@ use Rattle.scion_packet.proofs.HeaderSpelled.{header_passes, header_spelled}
 use Rattle.scion_packet.proofs.Offsets.{fields_stand}
 use Rattle.scion_packet.proofs.PacketLaws.{part-are, pass_both, path_written_over}
 use Rattle.scion_packet.proofs.PathSpelled.{path_spelled}
-use Rattle.process_packet.specs.Decide.{decision_table, ends_as, moved_by, verdict}
+use Rattle.process_packet.specs.Decide.{decision_table, ends_as, moved_by, verdict, verdict_of}
 use Rattle.process_packet.specs.Departure.{Departs, moved_path}
 use Rattle.process_packet.specs.Network.{Network}
-use Rattle.process_packet.specs.Rows.{Verdict, GoesOn, Ends, Row, faulty, faulty_header, faulty_path, then_rows, too_long}
+use Rattle.process_packet.specs.Rows.{Verdict, Dropped, GoesOn, Ends, Row, ends_where, faulty, faulty_header, faulty_path, then_rows, too_long}
 use Rattle.process_packet.specs.Sight.{refused}
 use Rattle.process_packet.specs.Spot.{IsMetaOf}
 use Rattle.process_packet.specs.Standing.{Standing, arrives}
+use Rattle.process_packet.specs.declared.cause.Cause.TheVariants as cause
 use Rattle.process_packet.specs.declared.departure.Departure.{Departure}
 use Rattle.process_packet.specs.declared.refusal.Refusal.{Refusal}
 use Rattle.process_packet.specs.declared.refusal.Refusal.TheVariants.{Answer, Drop}
@@ -131,3 +133,10 @@ room_for bytes begin end k m begin-is end-is meta there =
     let stand = fields_stand (path_bytes bytes) meta.are meta.lawful in
     let room : HasRoom (path_bytes bytes) k = record { room = omega (arith, stand.whole, stand.count, there) } in
     (subst (λ (t : List ℕ). HasRoom t k) (sym (path_between bytes begin end begin-is end-is)) room).room
+
+pub too_long_dropped : (n : Network) (link : ℕ) (source : Underlay) (moment : ℕ) (bytes : List ℕ) → 9216 < length bytes
+    → verdict n link source moment bytes ≡ Dropped cause.TooLong
+unfolding verdict
+too_long_dropped n link source moment bytes long =
+    let s = arrives n link source moment bytes in
+    ap (λ (b : Bool). verdict_of (then_rows (ends_where b (Dropped cause.TooLong) s) (drop 1 decision_table))) ((Decides-ltb 9216 (length bytes)).1 long)

@@ -145,7 +145,7 @@ departs d v s p link to chained at verdict sees keeps by number is =
 last_alike : (k : ℕ) (old new : List Segment) (at : Place) → IsAlike k old new → places.is_last_of_segment new at ≡ places.is_last_of_segment old at
 last_alike k old new at alike = ap (λ (n : ℕ). at.position + 1 == n) (alike.hops at.segment)
 
-ends_alike : (k : ℕ) (old new : List Segment) (at : Place) → IsAlike k old new → places.is_last_of_path new at ≡ places.is_last_of_path old at
+pub ends_alike : (k : ℕ) (old new : List Segment) (at : Place) → IsAlike k old new → places.is_last_of_path new at ≡ places.is_last_of_path old at
 ends_alike k old new at alike =
     ap₂ (λ (a b : Bool). a && not b) (last_alike k old new at alike) (ap (λ (n : ℕ). nat_lt (at.segment + 1) n) alike.count)
 

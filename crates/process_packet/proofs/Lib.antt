@@ -6,3 +6,5 @@ pub mod SwitchLemmas
 pub mod LeavingLemmas
 pub mod RowLemmas
 pub mod FrontLemmas
+pub mod PassingLemmas
+pub mod LawLemmas

@@ -12,3 +12,5 @@ pub mod Sight
 pub mod Exit
 pub mod Departure
 pub mod Front
+pub mod Routed
+pub mod Laws

@@ -77,7 +77,12 @@ impl Sight {
     }
 
     /// It came from a router from which such a packet may not come.
-    fn wrong_underlay_source(&self, config: &Config, path: &[u8], meta: &Meta) -> Result<(), Refusal>
+    fn wrong_underlay_source(
+        &self,
+        config: &Config,
+        path: &[u8],
+        meta: &Meta,
+    ) -> Result<(), Refusal>
         requires meta { IsMetaOf meta.now path.now }
         requires spot { LiesOn self.now.spot (path_of path.now).segments }
         ensures { (s : Standing) → Sees self.now s → network config.now ≡ s.network

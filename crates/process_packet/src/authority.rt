@@ -46,7 +46,10 @@ impl Sight {
     fn ingress_request(&self, payload: &[u8]) -> Result<(), Refusal>
         ensures { (s : Standing) → Sees self.now s → payload.now ≡ s.payload → Says (row.ingress_request s) s result }
     {
-        if self.is_external() && self.ingress_alert() && trace_request(&self.header, payload).is_some() {
+        if self.is_external()
+            && self.ingress_alert()
+            && trace_request(&self.header, payload).is_some()
+        {
             return Err(traceroute_reply(self.ingress()));
         }
         Ok(())

@@ -1,10 +1,9 @@
 //! A datagram before its decision: what must be sound, and where its path lies.
 
-use path_fields::{Meta, check_path};
-use scion_header::{Header, read_header};
-
 use crate::cause::Cause;
 use crate::refusal::{Refusal, header_cause, path_cause};
+use path_fields::{Meta, check_path};
+use scion_header::{Header, read_header};
 
 /// The most bytes that a datagram has.
 pub(crate) const LONGEST: usize = 9216;

@@ -94,7 +94,12 @@ impl Sight {
 
     /// At a segment's last hop, where another segment follows, the packet changes to its first hop,
     /// which must be within its time and authorised as the one before.
-    pub(crate) fn switch(&mut self, config: &Config, path: &[u8], meta: &Meta) -> Result<(), Refusal>
+    pub(crate) fn switch(
+        &mut self,
+        config: &Config,
+        path: &[u8],
+        meta: &Meta,
+    ) -> Result<(), Refusal>
         requires meta { IsMetaOf meta.now path.now }
         requires spot { LiesOn self.old.spot (path_of path.now).segments }
         requires count { self.old.segments ≡ length (path_of path.now).segments }
@@ -268,7 +273,13 @@ impl Sight {
     }
 
     /// Past the change of segments, and out.
-    fn goes_further(&mut self, config: &Config, path: &[u8], meta: &Meta, payload: &[u8]) -> Result<Departure, Refusal>
+    fn goes_further(
+        &mut self,
+        config: &Config,
+        path: &[u8],
+        meta: &Meta,
+        payload: &[u8],
+    ) -> Result<Departure, Refusal>
         requires meta { IsMetaOf meta.now path.now }
         requires spot { LiesOn self.old.spot (path_of path.now).segments }
         requires count { self.old.segments ≡ length (path_of path.now).segments }
@@ -281,7 +292,13 @@ impl Sight {
     }
 
     /// Delivered in this AS, or out of it.
-    pub(crate) fn goes(&mut self, config: &Config, path: &[u8], meta: &Meta, payload: &[u8]) -> Result<Departure, Refusal>
+    pub(crate) fn goes(
+        &mut self,
+        config: &Config,
+        path: &[u8],
+        meta: &Meta,
+        payload: &[u8],
+    ) -> Result<Departure, Refusal>
         requires meta { IsMetaOf meta.now path.now }
         requires spot { LiesOn self.old.spot (path_of path.now).segments }
         requires count { self.old.segments ≡ length (path_of path.now).segments }

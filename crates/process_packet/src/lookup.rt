@@ -18,7 +18,10 @@ use segment_switch::LinkKind;
 fn some_are_two(links: &[Link]) -> bool
     ensures { result ≡ list_any are_two (map link_bands links.now) }
 {
-    links.iter().map(|link| link.bands).any(|bands| bands.are_two())
+    links
+        .iter()
+        .map(|link| link.bands)
+        .any(|bands| bands.are_two())
 }
 
 impl Config {
@@ -47,14 +50,20 @@ impl Config {
     fn sibling(&self, id: u16) -> Option<Sibling>
         ensures { result ≡ sibling (network self.now) id }
     {
-        self.siblings.iter().copied().find(|sibling| sibling.id == id)
+        self.siblings
+            .iter()
+            .copied()
+            .find(|sibling| sibling.id == id)
     }
 
     /// The service with a number.
     fn service(&self, number: u16) -> Option<Service>
         ensures { result ≡ service (network self.now) number }
     {
-        self.services.iter().copied().find(|service| service.number == number)
+        self.services
+            .iter()
+            .copied()
+            .find(|service| service.number == number)
     }
 
     /// What the AS at the end of this router's link is.

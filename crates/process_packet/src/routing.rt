@@ -40,7 +40,12 @@ fn sight_of(front: &Front, bytes: &[u8], link: u16, source: Underlay, now: u64) 
         header: front.header,
         payload: bytes.len() - front.path_end,
         segments: front.meta.segment_count(),
-        spot: Spot::read(path, &front.meta, segment, usize::from(front.meta.current_hop)),
+        spot: Spot::read(
+            path,
+            &front.meta,
+            segment,
+            usize::from(front.meta.current_hop),
+        ),
         switched: false,
         entered: segment,
         turned: None,

@@ -1,0 +1,10 @@
+use Rattle.std.proofs.Common.{ap, ◌∙◌, arith}
+use Rattle.process_packet.specs.Decide.{decision_of}
+use Rattle.process_packet.specs.Network.{network}
+use Rattle.process_packet.proofs.FrontLemmas.{too_long_dropped}
+use Rattle.process_packet.proofs.routed.route.Goals as goal
+
+pub returns-then-len-gt-LONGEST : goal.returns-then-len-gt-LONGEST
+returns-then-len-gt-LONGEST c =
+    let a = c.args.arrival.now in
+    ap decision_of (too_long_dropped (network c.args.config.now) a.link a.source a.now a.bytes.items (omega (arith, c.if-len-gt-LONGEST.true, c.len-len.ensures)))

@@ -1,0 +1,85 @@
+-- What the decision table says as a whole: packets keep to authorised paths.
+use Rattle.std.specs.Prelude.{◌≡◌, ◌⊎◌, ◌≤◌, ◌+◌, ◌&&◌, ℕ, Bool, true, false, List, Option, None, is_some, option_map}
+use Rattle.scion_packet.specs.Packet.{Packet, packet_of}
+use Rattle.process_packet.specs.declared.underlay.Underlay.{Underlay}
+use Rattle.process_packet.specs.Decide.{verdict}
+use Rattle.process_packet.specs.Neighbours.{sibling_at}
+use Rattle.process_packet.specs.Network.{Network, is_local, own_link, sibling}
+use Rattle.process_packet.specs.Rows.{Sent, is_pair_lawful}
+use Rattle.process_packet.specs.Sight.{with_id}
+use Rattle.process_packet.specs.Standing.{Standing, arrives, changed_over, egress, ingress, is_authentic, is_expired, is_external, is_followed, is_last_of_path, is_last_of_segment, turned_back}
+
+-- ---- what a packet had to show where it arrived
+
+-- The hop field at its cursor was within its time; it came by the link that the hop field names; and the hop field carried
+-- the MAC that the AS's key gives for the segment identifier of its place. From outside it claims no source in this AS.
+pub record IsAuthorised (s : Standing) : Type 0 where
+  pub unexpired : is_expired s ≡ false
+  pub by_its_link : is_external s ≡ true → ingress s ≡ s.link
+  pub authentic : is_authentic (turned_back s) ≡ true
+  pub from_elsewhere : is_external s ≡ true → is_local s.network s.header.source ≡ false
+
+-- ---- how it left
+
+-- It is for this AS: it came from another one, and its path ends here; it is delivered inside.
+pub record IsDelivered (s : Standing) (out : ℕ) : Type 0 where
+  pub came_in : is_external s ≡ true
+  pub is_for_us : is_local s.network s.header.destination ≡ true
+  pub at_its_end : is_last_of_path s ≡ true
+  pub inside : out ≡ 0
+
+-- It left the AS's router by the egress interface of its hop field: by this router's own link, or to the router that has
+-- the interface. The pair of links is lawful.
+pub record LeavesByItsEgress (s : Standing) (out : ℕ) (to : Option Underlay) : Type 0 where
+  pub for_others : is_local s.network s.header.destination ≡ false
+  pub pair : is_pair_lawful s ≡ true
+  pub own : is_some (own_link s.network (egress s)) ≡ true → (out ≡ egress s) × (to ≡ None)
+  pub other : is_some (own_link s.network (egress s)) ≡ false → (out ≡ 0) × (to ≡ option_map sibling_at (sibling s.network (egress s)))
+
+-- a segment ends here, and another one follows
+abbrev pub changes : Standing → Bool
+changes s = is_last_of_segment s && is_followed s
+
+-- on its segment
+pub record StaysOn (s : Standing) (out : ℕ) (to : Option Underlay) : Type 0 where
+  pub stays : changes s ≡ false
+  pub leaves : LeavesByItsEgress s out to
+
+-- or on the next one, whose first hop field was within its time and carried its MAC too
+pub record ChangesOver (s : Standing) (out : ℕ) (to : Option Underlay) : Type 0 where
+  pub changes : changes s ≡ true
+  pub unexpired : is_expired (changed_over s) ≡ false
+  pub authentic : is_authentic (changed_over s) ≡ true
+  pub leaves : LeavesByItsEgress (changed_over s) out to
+
+abbrev pub LeftLawfully : Standing → ℕ → Option Underlay → Type 0
+LeftLawfully s out to = IsDelivered s out ⊎ (StaysOn s out to ⊎ ChangesOver s out to)
+
+-- ---- the laws, for every configuration, link, source, moment and datagram
+
+abbrev pub OnlyAuthorised : Type 0
+OnlyAuthorised =
+    (n : Network) (link : ℕ) (source : Underlay) (moment : ℕ) (bytes : List ℕ) (out : ℕ) (to : Option Underlay) (p : Packet)
+    → verdict n link source moment bytes ≡ Sent out to p → IsAuthorised (arrives n link source moment bytes)
+
+abbrev pub OnlyLawfulWays : Type 0
+OnlyLawfulWays =
+    (n : Network) (link : ℕ) (source : Underlay) (moment : ℕ) (bytes : List ℕ) (out : ℕ) (to : Option Underlay) (p : Packet)
+    → verdict n link source moment bytes ≡ Sent out to p → LeftLawfully (turned_back (arrives n link source moment bytes)) out to
+
+-- The packet that leaves is the one that arrived, but for its place and the identifiers of at most two segments: the one by
+-- which it came, and that one or the next one.
+pub record IsMoved (p q : Packet) : Type 0 where
+  pub header : q.header ≡ p.header
+  pub payload : q.payload ≡ p.payload
+  pub reserved : q.path.reserved ≡ p.path.reserved
+  pub first : Option ℕ
+  pub second : Option ℕ
+  pub at : ℕ
+  pub near : at ≤ p.path.place.segment + 1
+  pub segments : q.path.segments ≡ with_id second at (with_id first p.path.place.segment p.path.segments)
+
+abbrev pub NothingElseChanges : Type 0
+NothingElseChanges =
+    (n : Network) (link : ℕ) (source : Underlay) (moment : ℕ) (bytes : List ℕ) (out : ℕ) (to : Option Underlay) (p : Packet)
+    → verdict n link source moment bytes ≡ Sent out to p → IsMoved (packet_of bytes) p

@@ -1,0 +1,23 @@
+//! What the decision table says as a whole: nothing here runs.
+
+ghost use Rattle.process_packet.specs.Laws.{NothingElseChanges, OnlyAuthorised, OnlyLawfulWays};
+
+/// A packet is sent only if the hop field at its cursor was within its time, named the link by which the
+/// packet came from outside, and carried the MAC that the AS's key gives for it. From outside it claims
+/// no source in this AS.
+pub fn only_authorised()
+    ensures { OnlyAuthorised }
+{}
+
+/// A packet that is sent is for this AS and delivered at its path's last hop; or it leaves by the very
+/// interface that its hop field names, over a lawful pair of links, on its segment or on the next one,
+/// whose first hop field was within its time and carried its MAC too.
+pub fn only_lawful_ways()
+    ensures { OnlyLawfulWays }
+{}
+
+/// What leaves differs from what arrived in the cursor and in the identifiers of at most two segments,
+/// and in nothing else.
+pub fn nothing_else_changes()
+    ensures { NothingElseChanges }
+{}
