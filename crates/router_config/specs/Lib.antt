@@ -1,0 +1,5 @@
+pub mod Pieces
+pub mod IsdAs
+pub mod Address
+pub mod Fault
+pub mod Entry

@@ -1,0 +1,21 @@
+//! Numbers in plain decimal digits.
+ghost use Rattle.std.specs.Prelude.{◌≡◌, ◌≢◌, ◌≤◌, ℕ, decimal, IfNone, IfSome};
+
+use itoa::Buffer;
+
+/// The number up to the limit that a text is, in decimal digits with no sign and no leading zero.
+pub fn read_decimal(text: &str, limit: u64) -> Option<u64>
+    ensures found { IfSome result (λ number. (number ≤ limit) × (text.now ≡ decimal number)) }
+    ensures none { IfNone result ((number : ℕ) → number ≤ limit → text.now ≢ decimal number) }
+{
+    let Ok(number) = text.parse::<u64>() else {
+        return None;
+    };
+    // The text is the one that the number prints as, so `+1` and `01` are refused.
+    let mut buffer = Buffer::new();
+    if number <= limit && buffer.format(number) == text {
+        Some(number)
+    } else {
+        None
+    }
+}
