@@ -1,8 +1,5 @@
-pub mod Link
-pub mod Routing
-pub mod Lines
+pub mod Arriving
 pub mod Answers
+pub mod Lines
 pub mod Engine
 pub mod Words
-pub mod IsdAs
-pub mod Config
