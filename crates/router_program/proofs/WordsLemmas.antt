@@ -18,7 +18,8 @@ use Rattle.clap.specs.declared.parser.matches.ArgMatches.TheViews.{out-SubComman
 use Rattle.std.specs.Box.{box_value}
 use Rattle.std.specs.Prelude.{Box}
 use Rattle.clap.proofs.WalkLemmas.{first_value-rows}
-use Rattle.router_program.specs.Words.{Asks, router, value_of}
+use Rattle.process_packet.specs.declared.underlay.Underlay.{Underlay}
+use Rattle.router_program.specs.Words.{Asks, from_of, router, value_of}
 
 abbrev pub Entered : Type 0
 Entered = Option (Text × List Row)
@@ -36,20 +37,25 @@ name_read None = refl
 name_read (Some b) = refl
 
 -- no words ask for what is missing, or for a number that the text is not
-pub no_config : (s : Entered) (config : Text) (link now : ℕ) → value_of (codes "config") s ≡ None → Asks s config link now → ⊥
-no_config s config link now gone asks = let there = asks.config_is in cc
+pub no_config : (s : Entered) (config : Text) (link now : ℕ) (from : Option Underlay) → value_of (codes "config") s ≡ None → Asks s config link now from → ⊥
+no_config s config link now from gone asks = let there = asks.config_is in cc
 
-pub no_link : (s : Entered) (config : Text) (link now : ℕ) → value_of (codes "link") s ≡ None → Asks s config link now → ⊥
-no_link s config link now gone asks = let there = asks.link_is in cc
+pub no_link : (s : Entered) (config : Text) (link now : ℕ) (from : Option Underlay) → value_of (codes "link") s ≡ None → Asks s config link now from → ⊥
+no_link s config link now from gone asks = let there = asks.link_is in cc
 
-pub no_now : (s : Entered) (config : Text) (link now : ℕ) → value_of (codes "now") s ≡ None → Asks s config link now → ⊥
-no_now s config link now gone asks = let there = asks.now_is in cc
+pub no_now : (s : Entered) (config : Text) (link now : ℕ) (from : Option Underlay) → value_of (codes "now") s ≡ None → Asks s config link now from → ⊥
+no_now s config link now from gone asks = let there = asks.now_is in cc
 
-pub other_link : (s : Entered) (config text : Text) (link now : ℕ) → value_of (codes "link") s ≡ Some text → ((n : ℕ) → n ≤ 65535 → text ≢ decimal n) → Asks s config link now → ⊥
-other_link s config text link now there other asks = let wanted = asks.link_is in let same : text ≡ decimal link = cc in other link asks.link_fits same
+pub other_link : (s : Entered) (config text : Text) (link now : ℕ) (from : Option Underlay) → value_of (codes "link") s ≡ Some text → ((n : ℕ) → n ≤ 65535 → text ≢ decimal n) → Asks s config link now from → ⊥
+other_link s config text link now from there other asks = let wanted = asks.link_is in let same : text ≡ decimal link = cc in other link asks.link_fits same
 
-pub other_now : (s : Entered) (config text : Text) (link now : ℕ) → value_of (codes "now") s ≡ Some text → ((n : ℕ) → n ≤ 1099511627775 → text ≢ decimal n) → Asks s config link now → ⊥
-other_now s config text link now there other asks = let wanted = asks.now_is in let same : text ≡ decimal now = cc in other now asks.now_fits same
+pub other_now : (s : Entered) (config text : Text) (link now : ℕ) (from : Option Underlay) → value_of (codes "now") s ≡ Some text → ((n : ℕ) → n ≤ 1099511627775 → text ≢ decimal n) → Asks s config link now from → ⊥
+other_now s config text link now from there other asks = let wanted = asks.now_is in let same : text ≡ decimal now = cc in other now asks.now_fits same
+
+pub other_from : (s : Entered) (config : Text) (link now : ℕ) (from : Option Underlay) (word : Option Text) → value_of (codes "from") s ≡ word → from_of word ≡ None
+    → Asks s config link now from → ⊥
+other_from s config link now from word there none asks =
+    let wanted = asks.from_is in let no-way : None ≡ Some from = sym (ap from_of there ∙ none) ∙ wanted in absurd cc
 
 -- ---- the parse of the words
 
@@ -76,5 +82,5 @@ words_taken a words is taken = ap (λ (b : App). fault_of b words) (sym is) ∙ 
 pub rows_found : (a : App) (words : List Text) (m : ArgMatches) → a ≡ router → HasMatchesOf a words m → subcommand_rows_of m ≡ subcommand_of router words
 rows_found a words m is found = (found (ap is_simple is ∙ simple)).1 ∙ ap (λ (b : App). subcommand_of b words) is
 
-pub asks_along : (s t : Entered) (config : Text) (link now : ℕ) → s ≡ t → Asks s config link now → Asks t config link now
-asks_along s t config link now same asks = let P : Entered → Type 0 = λ x. Asks x config link now in subst P same asks
+pub asks_along : (s t : Entered) (config : Text) (link now : ℕ) (from : Option Underlay) → s ≡ t → Asks s config link now from → Asks t config link now from
+asks_along s t config link now from same asks = let P : Entered → Type 0 = λ x. Asks x config link now from in subst P same asks

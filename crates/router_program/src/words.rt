@@ -1,16 +1,19 @@
 //! The command line.
-ghost use Rattle.std.specs.Prelude.{◌≡◌, ◌≢◌, ◌≤◌, ℕ, List, map, string_bytes, false, IfErr, IfNone, IfOk, IfSome};
+ghost use Rattle.std.specs.Prelude.{◌≡◌, ◌≢◌, ◌≤◌, ℕ, List, Option, map, option_map, string_bytes, false, IfErr, IfNone, IfOk, IfSome};
 ghost use Rattle.clap.specs.Simple.{app_of, subcommand_rows_of};
 ghost use Rattle.clap.specs.Values.{kind_of};
 ghost use Rattle.clap.specs.Walk.{rule_of};
 ghost use Rattle.clap.specs.declared.builder.command.Command.TheViews.{out-Command as fields_of};
 ghost use Rattle.clap.specs.declared.error.kind.ErrorKind.TheVariants.{OutOfMemory};
-ghost use Rattle.router_program.specs.Words.{Asks, Orders, route, router, wanted};
+ghost use Rattle.process_packet.specs.declared.underlay.Underlay.{Underlay as Address};
+ghost use Rattle.router_program.specs.Words.{Asks, Orders, from_of, offered, route, router, wanted};
 ghost use Rattle.router_program.specs.declared.words.WordsFault.TheVariants.{Memory, Told};
 
 use crate::decimal::read_decimal;
 use clap::error::ErrorKind;
 use clap::{Arg, ArgAction, ArgMatches, Command};
+use process_packet::Underlay;
+use router_config::read_underlay;
 use std::alloc::{AllocError, AllocFailed, Global};
 use thiserror::Error;
 
@@ -26,6 +29,8 @@ pub struct Order<'a> {
     pub link: u16,
     /// When they arrive, in seconds since 1970.
     pub now: u64,
+    /// The underlay's source of them, where one is named.
+    pub from: Option<Underlay>,
 }
 
 /// Why a command line gives no order.
@@ -80,6 +85,18 @@ fn wanted<'a>(alloc: Global, name: &'a str, value: &'a str, help: &'a str) -> Ar
         .action(ArgAction::Set)
 }
 
+/// The option `--name VALUE`, which may be there.
+fn offered<'a>(alloc: Global, name: &'a str, value: &'a str, help: &'a str) -> Arg<'a>
+    ensures rule { rule_of result ≡ offered name.now }
+    ensures own { result.global ≡ false }
+{
+    Arg::new(alloc, name)
+        .long(name)
+        .value_name(value)
+        .help(help)
+        .action(ArgAction::Set)
+}
+
 /// The words of `route`.
 fn route_grammar<'a>(alloc: Global) -> Result<Command<'a>, AllocError>
     ensures app { IfOk result (λ command. app_of command ≡ route) }
@@ -98,11 +115,18 @@ fn route_grammar<'a>(alloc: Global) -> Result<Command<'a>, AllocError>
         "The link on which the datagrams arrive; 0 is the internal network",
     );
     let now = wanted(alloc, "now", "S", "When they arrive, in seconds since 1970");
+    let from = offered(
+        alloc,
+        "from",
+        "ADDR",
+        "The underlay's source, as 1.2.3.4:5 or [a:b:c:d:e:f:0:1]:5; else the link's remote end",
+    );
     Command::new(alloc, "route")
         .about("Answers each line of hex on the standard input, a datagram, by one line")
         .arg(config)?
         .arg(link)?
-        .arg(now)
+        .arg(now)?
+        .arg(from)
 }
 
 /// The words that the program takes.
@@ -118,10 +142,25 @@ fn grammar<'a>(alloc: Global) -> Result<Command<'a>, AllocError>
         .subcommand(route)
 }
 
-/// The order that the parsed words give, if their numbers are plain decimals in range.
+/// The address that a word names, if it is one; no word names none.
+fn read_from(word: Option<&str>) -> Option<Option<Underlay>>
+    ensures { result ≡ from_of (option_map (λ text. text.now) word) }
+{
+    match word {
+        None => Some(None),
+        Some(text) => match read_underlay(text) {
+            Some(from) => Some(Some(from)),
+            None => None,
+        },
+    }
+}
+
+/// The order that the parsed words give, if their numbers are plain decimals in range and the source is
+/// an address.
 fn order_of<'a>(matches: &ArgMatches<'a>) -> Option<Order<'a>>
-    ensures found { IfSome result (λ order. Asks (subcommand_rows_of matches.now) order.config.now order.link order.now) }
-    ensures none { IfNone result ((config : List ℕ) (link now : ℕ) → ¬ Asks (subcommand_rows_of matches.now) config link now) }
+    ensures found { IfSome result (λ order. Asks (subcommand_rows_of matches.now) order.config.now order.link order.now order.from) }
+    ensures none { IfNone result ((config : List ℕ) (link now : ℕ) (from : Option Address)
+        → ¬ Asks (subcommand_rows_of matches.now) config link now from) }
 {
     let Some(("route", route)) = matches.subcommand() else {
         return None;
@@ -129,10 +168,12 @@ fn order_of<'a>(matches: &ArgMatches<'a>) -> Option<Order<'a>>
     let config = route.get_str("config")?;
     let link = read_decimal(route.get_str("link")?, u16::MAX.into())?;
     let now = read_decimal(route.get_str("now")?, LAST_SECOND)?;
+    let from = read_from(route.get_str("from"))?;
     Some(Order {
         config,
         link: link as u16,
         now,
+        from,
     })
 }
 
@@ -142,9 +183,9 @@ fn order_of<'a>(matches: &ArgMatches<'a>) -> Option<Order<'a>>
 /// digits with no sign and no leading zero.
 pub fn read_words<'a>(alloc: Global, words: &'a [String]) -> Result<Order<'a>, WordsFault>
     ensures order { IfOk result (λ order.
-        Orders (map string_bytes words.now) order.config.now order.link order.now) }
-    ensures fault { IfErr result (λ fault. (config : List ℕ) (link now : ℕ)
-        → Orders (map string_bytes words.now) config link now → fault ≡ Memory) }
+        Orders (map string_bytes words.now) order.config.now order.link order.now order.from) }
+    ensures fault { IfErr result (λ fault. (config : List ℕ) (link now : ℕ) (from : Option Address)
+        → Orders (map string_bytes words.now) config link now from → fault ≡ Memory) }
 {
     let mut command = grammar(alloc)?;
     let matches = match command.try_get_matches_from_mut(words) {
@@ -154,7 +195,7 @@ pub fn read_words<'a>(alloc: Global, words: &'a [String]) -> Result<Order<'a>, W
     match order_of(&matches) {
         Some(order) => Ok(order),
         None => {
-            let message = "N is a decimal number up to 65535, and S one up to 1099511627775";
+            let message = "N is a decimal number up to 65535, S one up to 1099511627775, and ADDR an address and port";
             match command.error(ErrorKind::ValueValidation, message) {
                 Ok(error) => Err(fault_of(error)),
                 Err(_) => Err(WordsFault::Memory),

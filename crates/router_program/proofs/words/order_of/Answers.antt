@@ -8,30 +8,30 @@ use Rattle.router_program.proofs.words.order_of.Goals as goal
 pub returns-in_err-config-clause-none : goal.returns-in_err-config-clause-none
 returns-in_err-config-clause-none c =
     let read = text_read _ (found_of c.in-Some-route-default.route.now) (codes "config") c.get_str.result c.in-Some-route-default.ensures.rows c.get_str.ensures in
-    rw c.from_residual.ensures (λ config link now asks. no_config _ config link now (rw c.in_err-config.was at read) asks)
+    rw c.from_residual.ensures (λ config link now from asks. no_config _ config link now from (rw c.in_err-config.was at read) asks)
 
 pub returns-in_err-get_str-clause-none : goal.returns-in_err-get_str-clause-none
 returns-in_err-get_str-clause-none c =
     let read = text_read _ (found_of c.in-Some-route-default.route.now) (codes "link") c.get_str-2.result c.in-Some-route-default.ensures.rows c.get_str-2.ensures in
-    rw c.from_residual-in_err-get_str.ensures (λ config link now asks. no_link _ config link now (rw c.in_err-get_str.was at read) asks)
+    rw c.from_residual-in_err-get_str.ensures (λ config link now from asks. no_link _ config link now from (rw c.in_err-get_str.was at read) asks)
 
 pub returns-in_err-link-clause-none : goal.returns-in_err-link-clause-none
 returns-in_err-link-clause-none c =
     let read = text_read _ (found_of c.in-Some-route-default.route.now) (codes "link") c.get_str-2.result c.in-Some-route-default.ensures.rows c.get_str-2.ensures in
     let limit : c.into.result ≡ 65535 = search rules in
     let other : (n : ℕ) → n ≤ 65535 → c.in_ok-get_str.field-0.now ≢ decimal n = rw (← limit) (rw c.in_err-link.was at c.read_decimal.ensures.none) in
-    rw c.from_residual-in_err-link.ensures (λ config link now asks. other_link _ config _ link now (rw c.in_ok-get_str.was at read) other asks)
+    rw c.from_residual-in_err-link.ensures (λ config link now from asks. other_link _ config _ link now from (rw c.in_ok-get_str.was at read) other asks)
 
 pub returns-in_err-get_str-2-clause-none : goal.returns-in_err-get_str-2-clause-none
 returns-in_err-get_str-2-clause-none c =
     let read = text_read _ (found_of c.in-Some-route-default.route.now) (codes "now") c.get_str-3.result c.in-Some-route-default.ensures.rows c.get_str-3.ensures in
-    rw c.from_residual-in_err-get_str-2.ensures (λ config link now asks. no_now _ config link now (rw c.in_err-get_str-2.was at read) asks)
+    rw c.from_residual-in_err-get_str-2.ensures (λ config link now from asks. no_now _ config link now from (rw c.in_err-get_str-2.was at read) asks)
 
 pub returns-in_err-now-clause-none : goal.returns-in_err-now-clause-none
 returns-in_err-now-clause-none c =
     let read = text_read _ (found_of c.in-Some-route-default.route.now) (codes "now") c.get_str-3.result c.in-Some-route-default.ensures.rows c.get_str-3.ensures in
     let other : (n : ℕ) → n ≤ 1099511627775 → c.in_ok-get_str-2.field-0.now ≢ decimal n = rw c.in_err-now.was at c.read_decimal-2.ensures.none in
-    rw c.from_residual-in_err-now.ensures (λ config link now asks. other_now _ config _ link now (rw c.in_ok-get_str-2.was at read) other asks)
+    rw c.from_residual-in_err-now.ensures (λ config link now from asks. other_now _ config _ link now from (rw c.in_ok-get_str-2.was at read) other asks)
 
 pub returns-clause-found : goal.returns-clause-found
 returns-clause-found c =
