@@ -1,20 +1,39 @@
 -- What is written for each line that is read.
 use Rattle.std.specs.Prelude.{ℕ, suc, List, [], ◌∷◌, ◌++◌, Option, Some, None, Result, Ok, Err, codes, decimal, option_map}
 use Rattle.hex.specs.Hex.{decode_of, encode_lower}
-use Rattle.router_program.specs.declared.border.Border.{Border}
-use Rattle.router_program.specs.declared.routing.Line.{Line}
-use Rattle.router_program.specs.declared.routing.Line.TheVariants.{Drop, Send, Later}
-use Rattle.router_program.specs.Routing.{line_for, bytes_after}
+use Rattle.process_packet.specs.Cause.{number_of}
+use Rattle.process_packet.specs.Decide.{decide, moved}
+use Rattle.process_packet.specs.Network.{network}
+use Rattle.process_packet.specs.declared.config.Config.{Config}
+use Rattle.process_packet.specs.declared.decision.Decision.{Decision}
+use Rattle.process_packet.specs.declared.decision.Decision.TheVariants.{Send, Answer, Drop}
+use Rattle.process_packet.specs.declared.decision.Problem.{Problem}
+use Rattle.process_packet.specs.declared.underlay.Underlay.{Underlay}
+use Rattle.router_config.specs.Printing.{underlay_text}
+use Rattle.router_program.specs.declared.arriving.Arriving.{Arriving}
 
--- the line for an answer, where these bytes leave
-abbrev pub text_for : Line → List ℕ → List ℕ
-text_for (Drop cause) bytes = codes "drop " ++ decimal cause ++ codes "\n"
-text_for (Send link) bytes = codes "send " ++ decimal link ++ codes " - " ++ encode_lower bytes ++ codes "\n"
-text_for Later bytes = codes "later\n"
+-- where a packet is sent, `-` where its link leads to one place alone
+abbrev pub to_text : Option Underlay → List ℕ
+to_text None = codes "-"
+to_text (Some to) = underlay_text to
 
--- the line for a datagram that arrived on a link at a second
-abbrev pub answer_for : Border → ℕ → ℕ → List ℕ → List ℕ
-answer_for border link now bytes = text_for (line_for border link now bytes) (bytes_after border link now bytes)
+-- the link, where the packet is sent there, and its bytes
+abbrev pub sent_text : ℕ → Option Underlay → List ℕ → List ℕ
+sent_text link to bytes = decimal link ++ (codes " " ++ (to_text to ++ (codes " " ++ encode_lower bytes)))
+
+abbrev pub problem_text : Problem → List ℕ
+problem_text p = decimal p.kind ++ (codes " " ++ (decimal p.code ++ (codes " " ++ decimal p.pointer)))
+
+-- the line for a decision, where these bytes leave
+abbrev pub text_for : Decision → List ℕ → List ℕ
+text_for (Send link to) bytes = codes "send " ++ (sent_text link to bytes ++ codes "\n")
+text_for (Answer problem) bytes = codes "problem " ++ (problem_text problem ++ codes "\n")
+text_for (Drop cause) bytes = codes "drop " ++ (decimal (number_of cause) ++ codes "\n")
+
+-- the line for a datagram that arrived so
+abbrev pub answer_for : Config → Arriving → List ℕ → List ℕ
+answer_for config a bytes =
+    text_for (decide (network config) a.link a.source a.moment bytes) (moved (network config) a.link a.source a.moment bytes)
 
 -- the bytes that a line of hex has, none where it is no hex
 abbrev pub decoded : {E : Type 0} → Result (List ℕ) E → Option (List ℕ)
@@ -25,8 +44,8 @@ abbrev pub bytes_of : List ℕ → Option (List ℕ)
 bytes_of line = decoded (decode_of line)
 
 -- the answer to a line, none where it is no hex
-abbrev pub answer_to : Border → ℕ → ℕ → List ℕ → Option (List ℕ)
-answer_to border link now line = option_map (answer_for border link now) (bytes_of line)
+abbrev pub answer_to : Config → Arriving → List ℕ → Option (List ℕ)
+answer_to config a line = option_map (answer_for config a) (bytes_of line)
 
 -- an answer and those after it
 abbrev pub answer_then : Option (List ℕ) → List ℕ → List ℕ

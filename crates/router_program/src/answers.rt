@@ -1,11 +1,11 @@
 //! The line that is written for each line that is read.
 ghost use Rattle.std.specs.Prelude.{◌≡◌, ◌++◌, ◌*◌, length, IfOk, OnOk, Ok, Some, None, codes, decimal, if◌then◌else◌};
 ghost use Rattle.hex.specs.Hex.{encode_lower};
-ghost use Rattle.router_program.specs.Answers.{answer_to, bytes_of, text_for, to_text};
+ghost use Rattle.router_program.specs.Answers.{answer_to, bytes_of, problem_text, sent_text, text_for, to_text};
 
 use crate::arriving::Arriving;
 use itoa::Buffer;
-use process_packet::{Config, Decision, Underlay, route_in_place};
+use process_packet::{Config, Decision, Problem, Underlay, route_in_place};
 use router_config::push_underlay;
 use std::alloc::AllocError;
 
@@ -53,4 +53,75 @@ fn push_sent(text: &mut Vec<u8>, link: u16, to: Option<Underlay>, bytes: &[u8]) 
     push_to(text, to)?;
     text.extend_from_slice(b" ")?;
     push_hex(text, bytes)
+}
+
+/// Adds what the sender would be told.
+fn push_problem(text: &mut Vec<u8>, problem: &Problem) -> Result<(), AllocError>
+    ensures { OnOk result (text.new.items ≡ text.old.items ++ problem_text problem.now) }
+{
+    push_decimal(text, problem.kind.into())?;
+    text.extend_from_slice(b" ")?;
+    push_decimal(text, problem.code.into())?;
+    text.extend_from_slice(b" ")?;
+    push_decimal(text, problem.pointer)
+}
+
+/// Replaces the text with the line for a decision, where these bytes leave.
+fn write_answer(decision: Decision, bytes: &[u8], text: &mut Vec<u8>) -> Result<(), AllocError>
+    ensures { OnOk result (text.new.items ≡ text_for decision bytes.now) }
+{
+    text.clear();
+    match decision {
+        Decision::Send { link, to } => {
+            text.extend_from_slice(b"send ")?;
+            push_sent(text, link, to, bytes)?;
+        }
+        Decision::Answer(problem) => {
+            text.extend_from_slice(b"problem ")?;
+            push_problem(text, &problem)?;
+        }
+        Decision::Drop(cause) => {
+            text.extend_from_slice(b"drop ")?;
+            push_decimal(text, cause.number().into())?;
+        }
+    }
+    text.extend_from_slice(b"\n")
+}
+
+/// Replaces the bytes with those that a line of hex has; false where the line is no hex.
+fn read_hex(line: &[u8], bytes: &mut Vec<u8>) -> Result<bool, AllocError>
+    ensures { IfOk result (λ is_hex. bytes_of line.now ≡ (if is_hex then Some bytes.new.items else None)) }
+{
+    bytes.clear();
+    bytes.resize(line.len() / 2, 0)?;
+    match hex::decode_to_slice(line, bytes.as_mut_slice()) {
+        Ok(()) => Ok(true),
+        Err(_) => Ok(false),
+    }
+}
+
+/// Replaces the text with the answer to a line, by way of the datagram's bytes; false where the
+/// line is no hex.
+pub fn answer_line(
+    config: &Config,
+    arriving: &Arriving,
+    line: &[u8],
+    bytes: &mut Vec<u8>,
+    text: &mut Vec<u8>,
+) -> Result<bool, AllocError>
+    ensures { IfOk result (λ is_hex.
+        answer_to config.now arriving.now line.now ≡ (if is_hex then Some text.new.items else None)) }
+{
+    if !read_hex(line, bytes)? {
+        return Ok(false);
+    }
+    let decision = route_in_place(
+        config,
+        arriving.link,
+        arriving.source,
+        arriving.moment,
+        bytes.as_mut_slice(),
+    );
+    write_answer(decision, bytes.as_slice(), text)?;
+    Ok(true)
 }

@@ -1,5 +1,8 @@
 //! How the datagrams of an order arrive.
 
+ghost use Rattle.std.specs.Prelude.{◌≡◌};
+ghost use Rattle.router_program.specs.Arriving.{usual_source};
+
 use process_packet::{Config, Underlay};
 
 /// How datagrams arrive.
@@ -12,9 +15,6 @@ pub struct Arriving {
     /// The moment, in seconds since 1970.
     pub moment: u64,
 }
-
-ghost use Rattle.std.specs.Prelude.{◌≡◌};
-ghost use Rattle.router_program.specs.Arriving.{usual_source};
 
 /// The source of what arrives on a link, where none is named: the router at its other end, and of what
 /// comes from inside this router's own internal address. There is none where there is no such link.

@@ -8,8 +8,9 @@ ghost use Rattle.router_program.specs.Engine.{Wrote};
 ghost use Rattle.router_program.specs.declared.fault.LinesFault.TheVariants as faults;
 
 use crate::answers::answer_line;
-use crate::border::Border;
+use crate::arriving::Arriving;
 use crate::fault::LinesFault;
+use process_packet::Config;
 use std::alloc::Global;
 use std::io::{self, BufRead, Write};
 
@@ -54,22 +55,20 @@ fn read_line<R: BufRead>(reader: &mut R, line: &mut Vec<u8>) -> io::Result<bool>
     Ok(true)
 }
 
-/// Answers each datagram that is read as a line of hex, which arrived on the link (0 is the
-/// internal network) at the second `now` since 1970, by a line of its own, before it reads the
-/// next one.
+/// Answers each datagram that is read as a line of hex, which arrived so, by a line of its own, before it
+/// reads the next one.
 ///
 /// It stops at a line that is no hex, at a failure of the reader or the writer, and where no
 /// memory is left; the answers to the lines before then stand written.
 pub fn route_lines<R: BufRead, W: Write>(
     alloc: Global,
-    border: &Border,
-    link: u16,
-    now: u64,
+    config: &Config,
+    arriving: &Arriving,
     reader: &mut R,
     writer: &mut W,
 ) -> Result<(), LinesFault>
     ensures { IfSome (R.remaining reader.old) (λ input.
-        Wrote (answer_to border.now link now) result input (W.contents writer.old) (W.contents writer.new)) }
+        Wrote (answer_to config.now arriving.now) result input (W.contents writer.old) (W.contents writer.new)) }
 {
     let mut line = Vec::new(alloc);
     let mut bytes = Vec::new(alloc);
@@ -81,7 +80,7 @@ pub fn route_lines<R: BufRead, W: Write>(
             Err(error) if is_memory(&error) => return Err(LinesFault::Memory),
             Err(_) => return Err(LinesFault::Input),
         }
-        match answer_line(border, link, now, line.as_slice(), &mut bytes, &mut text) {
+        match answer_line(config, arriving, line.as_slice(), &mut bytes, &mut text) {
             Ok(true) => {}
             Ok(false) => return Err(LinesFault::Line(number)),
             Err(_) => return Err(LinesFault::Memory),

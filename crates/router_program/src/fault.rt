@@ -2,8 +2,8 @@
 ghost use Rattle.std.specs.Prelude.{◌≡◌};
 ghost use Rattle.router_program.specs.declared.fault.LinesFault.TheVariants.{Memory};
 
-use crate::config::ConfigFault;
 use crate::words::WordsFault;
+use router_config::ConfigFault;
 use std::alloc::{AllocError, AllocFailed};
 use std::io;
 use thiserror::Error;

@@ -1,25 +1,21 @@
-//! A SCION border router: `router route --config FILE --link N --now S` answers datagrams, one a
-//! line in hex.
+//! A SCION border router: `router route --config FILE --link N --now S [--from ADDR]` answers
+//! datagrams, one a line in hex.
 #![tactic(auto)]
 
 mod answers;
-mod border;
-mod config;
+mod arriving;
 mod decimal;
 mod engine;
 mod fault;
-mod isd_as;
-mod link;
-mod routing;
-mod sight;
 #[cfg(test)]
 mod tests;
 mod words;
 
-use crate::config::read_border;
+use crate::arriving::{Arriving, usual_source};
 use crate::engine::route_lines;
 use crate::fault::Fault;
 use crate::words::{Order, read_words};
+use router_config::read_config;
 use std::io::BufReader;
 use std::process::ExitCode;
 use std::rt::{Env, Files};
@@ -38,17 +34,21 @@ fn words_of<R: Env + AllocGlobal>(rt: &R) -> Result<Vec<String>, Fault> {
 fn route<R: Files + Input + Print + AllocGlobal>(rt: &R, order: Order<'_>) -> Result<(), Fault> {
     let alloc = rt.alloc();
     let text = fs::read_to_string(rt, order.config).map_err(Fault::of_file)?;
-    let border = read_border(alloc, text.as_str()).map_err(Fault::Config)?;
-    if !border.has_link(order.link) {
+    let config = read_config(alloc, text.as_str()).map_err(Fault::Config)?;
+    let Some(usual) = usual_source(&config, order.link) else {
         return Err(Fault::Link);
-    }
+    };
+    let arriving = Arriving {
+        link: order.link,
+        source: order.from.unwrap_or(usual),
+        moment: order.now,
+    };
     let mut reader = BufReader::new(alloc, rt.reader()).map_err(|_| Fault::Memory)?;
     let mut writer = io::writer(rt);
     route_lines(
         alloc,
-        &border,
-        order.link,
-        order.now,
+        &config,
+        &arriving,
         &mut reader,
         &mut writer,
     )
