@@ -1,6 +1,6 @@
 #!/usr/bin/env bash
-# Times items through the ruled pipe, and through plain Rust beside it. Each figure is the least of five
-# runs, which take turns. The last line is that of owned buffers from one thread to another: the pipe's
+# Times items through the ruled pipe, and through plain Rust beside it. Each figure is the median of
+# nine runs, which take turns. The last line is that of owned buffers from one thread to another: the pipe's
 # time over that of the faster of the two in plain Rust.
 set -eu
 cd "$(dirname "$0")/.."
@@ -10,17 +10,19 @@ mkdir -p bin
 PIPE=crates/joints_bench/out/joints_bench
 
 one_tenth() { echo "$(($1 / 10)).$(($1 % 10))"; }
+median() { sort -n | sed -n 5p; }
 
 printf '%-22s %10s %10s %10s\n' 'nanoseconds an item' pipe queue mpsc
 for kind in word buffer; do
   for producers in 1 2; do
-    pipe=999999999 queue=999999999 mpsc=999999999
-    for _ in 1 2 3 4 5; do
-      now=$("$PIPE" "$kind" "$producers"); pipe=$((now < pipe ? now : pipe))
-      now=$(bin/bench-plain queue "$kind" "$producers"); queue=$((now < queue ? now : queue))
-      now=$(bin/bench-plain mpsc "$kind" "$producers"); mpsc=$((now < mpsc ? now : mpsc))
+    pipes= queues= mpscs=
+    for _ in 1 2 3 4 5 6 7 8 9; do
+      pipes+="$("$PIPE" "$kind" "$producers")"$'\n'
+      queues+="$(bin/bench-plain queue "$kind" "$producers")"$'\n'
+      mpscs+="$(bin/bench-plain mpsc "$kind" "$producers")"$'\n'
     done
-    printf '%-22s %10s %10s %10s\n' "$kind, $producers producer(s)" "$(one_tenth $pipe)" "$(one_tenth $queue)" "$(one_tenth $mpsc)"
+    pipe=$(printf %s "$pipes" | median) queue=$(printf %s "$queues" | median) mpsc=$(printf %s "$mpscs" | median)
+    printf '%-22s %10s %10s %10s\n' "$kind, $producers producer(s)" "$(one_tenth "$pipe")" "$(one_tenth "$queue")" "$(one_tenth "$mpsc")"
     if [ "$kind" = buffer ] && [ "$producers" = 1 ]; then
       best=$((queue < mpsc ? queue : mpsc))
       ratio=$((pipe * 100 / best))
