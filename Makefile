@@ -29,3 +29,10 @@ clean:
 	rm -rf bin crates/*/out
 
 FORCE:
+
+.PHONY: bench-joints
+
+# Nanoseconds of an item through a pipe between threads, beside plain Rust; it needs rustc too.
+bench-joints:
+	cd crates/joints_bench && $(RT) run
+	bench/joints.sh

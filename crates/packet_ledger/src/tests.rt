@@ -4,7 +4,7 @@ use super::{Blank, Book, Ledger, Share};
 use process_packet::{Cause, Totals};
 use std::alloc::{AllocError, Global};
 use std::marker::Brand;
-use std::sync::Wait;
+use std::sync::{Arc, Wait};
 use std::test::*;
 use std::thread;
 use std::thread::Threads;
@@ -97,11 +97,14 @@ fn work<L: Ledger, R: Wait>(rt: &R, book: &Book<L>, mut share: Share<L>, rounds:
 }
 
 // What two threads count and post beside each other: the totals, and what the shares say they forwarded.
-fn two_threads<L: Ledger + Send + Sync, R: Threads + Wait + Sync>(
-    rt: &R,
+fn two_threads<L, R>(
+    rt: R,
     alloc: Global,
     blank: Blank,
 ) -> Result<Option<(Totals, u128, u128)>, AllocError>
+where
+    L: Ledger + Send + Sync + 'static,
+    R: Threads + Wait + Copy + Send + 'static,
     requires name { blank.table ≡ L.table }
     requires two { L.workers ≡ 2 }
 {
@@ -112,22 +115,23 @@ fn two_threads<L: Ledger + Send + Sync, R: Threads + Wait + Sync>(
     let Some(second) = shares.pop() else {
         return Ok(None);
     };
-    let shared = &book;
-    let (first, second) = thread::join(
-        rt,
-        move || work(rt, shared, first, 4000),
-        move || work(rt, shared, second, 800),
-    );
+    let book = Arc::new(alloc, book)?;
+    let theirs = Arc::try_clone(&book)?;
+    let Ok(child) = thread::spawn(&rt, move || work(&rt, &*theirs, first, 4000)) else {
+        return Ok(None);
+    };
+    let second = work(&rt, &*book, second, 800);
+    let first = child.join(&rt);
     let forwarded = (first.forwarded(), second.forwarded());
     shares.push(first)?;
     shares.push(second)?;
-    Ok(Some((book.close(rt, shares), forwarded.0, forwarded.1)))
+    Ok(Some((book.close(&rt, shares), forwarded.0, forwarded.1)))
 }
 
 #[test]
 fn two_threads_closed(rt: HostRuntime) -> Result<(), Fail> {
     let blank = Blank::new(rt.alloc())?;
-    let answer = two_threads::<Brand, _>(&rt, rt.alloc(), blank)?;
+    let answer = two_threads::<Brand, _>(rt, rt.alloc(), blank)?;
     let (totals, first, second) = answer.expect(&rt, "two shares");
     let mut wanted = NOTHING;
     wanted.received = 960;

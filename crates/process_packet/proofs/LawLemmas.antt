@@ -1,25 +1,24 @@
 -- Row after row of what was sent: none of them refused.
-use Rattle.std.proofs.Common.{◌≡◌, ◌≤◌, ◌+◌, ℕ, Bool, true, false, not, ◌&&◌, ◌||◌, ◌==◌, nat_lt, ◌⊎◌, inl, inr, List, [], ◌∷◌, length, drop, Option, Some, None, if◌then◌else◌, refl, sym, ap, subst, ◌∙◌, arith}
+use Rattle.std.proofs.Common.{◌≡◌, ◌≤◌, ◌+◌, ℕ, Bool, true, false, not, ◌&&◌, ◌||◌, ◌==◌, nat_lt, inl, inr, List, [], ◌∷◌, length, drop, Option, Some, None, if◌then◌else◌, refl, sym, ap, subst, ◌∙◌, arith}
 use Rattle.std.specs.Prelude.{is_some, option_map}
 use Rattle.std.proofs.lemmas.Bool.Decides.{Decides-eqb}
-use Rattle.std.proofs.lemmas.Bool.{cases_Bool, cond-true, cond-false}
 use Rattle.field_rows.specs.Place.{number_at}
 use Rattle.scion_packet.specs.Header.{header_fault, host_code}
-use Rattle.scion_packet.specs.Packet.{Packet, packet_of, path_bytes}
+use Rattle.scion_packet.specs.Packet.{Packet, path_bytes}
 use Rattle.scion_packet.specs.Path.{Place, Segment, path_fault}
 use Rattle.process_packet.specs.declared.cause.Cause.TheVariants as cause
 use Rattle.process_packet.specs.declared.decision.Problem.{Problem}
 use Rattle.process_packet.specs.declared.underlay.Ip.TheVariants.{V4, V6}
 use Rattle.process_packet.specs.declared.underlay.Underlay.{Underlay}
 use Rattle.process_packet.specs.Decide.{decision_table, verdict}
-use Rattle.process_packet.specs.Laws.{ChangesOver, IsAuthorised, IsDelivered, IsMoved, LeavesByItsEgress, LeftLawfully, StaysOn, changes}
+use Rattle.process_packet.specs.Laws.{IsAuthorised, IsMoved, LeavesByItsEgress, LeftLawfully, changes}
 use Rattle.process_packet.specs.Neighbours.{service_at, sibling_at}
 use Rattle.process_packet.specs.Network.{Network, interface_kind, is_local, own_link, service, sibling}
 use Rattle.process_packet.specs.Request.{is_request}
-use Rattle.process_packet.specs.Rows.{Sent, Answered, Dropped, GoesOn, Ends, Row, came_lawfully, delivered, ends_where, expired, is_destination_lawful, is_pair_lawful, is_source_lawful, leave, sent_on, sent_out, then_rows, to_service, wrong_mac}
+use Rattle.process_packet.specs.Rows.{Sent, Answered, Dropped, GoesOn, Ends, Row, came_lawfully, delivered, ends_where, expired, is_destination_lawful, is_pair_lawful, is_source_lawful, sent_on, sent_out, then_rows, to_service, wrong_mac}
 use Rattle.process_packet.specs.Sight.{with_id}
 use Rattle.process_packet.specs.Standing.{Standing, arrives, chained, chained_id, changed_over, egress, egress_alert, hop_pointer, info_pointer, ingress, ingress_alert, is_along, is_authentic, is_expired, is_external, is_first_of_path, is_last_of_path, next_place, packet, turned_back, with_place}
-use Rattle.process_packet.proofs.PassingLemmas.{IsSame, Passed, Sends, and_not, answer_passed, answer_passed_within, answered_not_sent, both_true, drop_passed, dropped_not_sent, fault_passed, not_false, not_true, other_false, parameter, same_sent}
+use Rattle.process_packet.proofs.PassingLemmas.{Passed, Sends, and_not, answer_passed, answer_passed_within, answered_not_sent, both_true, drop_passed, dropped_not_sent, fault_passed, not_false, not_true, parameter, same_sent}
 use Rattle.process_packet.proofs.AlikeLemmas.{alike_set}
 use Rattle.process_packet.proofs.LeavingLemmas.{ends_alike}
 use Rattle.process_packet.proofs.TurningLemmas.{turned_stays}

@@ -1,21 +1,21 @@
 -- The packet as it leaves.
-use Rattle.std.proofs.Common.{◌≡◌, ◌<◌, ◌≤◌, ◌≢◌, ◌&&◌, ◌==◌, not, nat_lt, Bool, true, false, ℕ, zero, suc, ◌+◌, List, [], ◌∷◌, length, take, Option, Some, None, refl, sym, subst, ap, ap₂, ◌∙◌, arith, if◌then◌else◌, inl, inr}
-use Rattle.std.proofs.lemmas.Bool.{cases_Bool, cases_eq, cases_lt, cond-false, cond-true, eq-eqb, lt-ltb, le-ltb, ne_eqb}
+use Rattle.std.proofs.Common.{◌≡◌, ◌<◌, ◌≤◌, ◌≢◌, ◌&&◌, ◌==◌, not, nat_lt, Bool, true, false, ℕ, zero, suc, ◌+◌, List, [], ◌∷◌, length, take, Option, Some, None, refl, sym, ap, ap₂, ◌∙◌, arith, if◌then◌else◌}
+use Rattle.std.proofs.lemmas.Bool.{cond-false, cond-true, eq-eqb, ne_eqb}
 use Rattle.std.proofs.lemmas.Bool.Decides.{Decides-ltb}
 use Rattle.std.proofs.lemmas.List.Sums.{sum_by-cons}
 use Rattle.scion_packet.specs.Packet.{Packet}
-use Rattle.scion_packet.specs.Path.{PathFields, Place, Segment, count_hops, hop_number, hops_in, place_at}
+use Rattle.scion_packet.specs.Path.{Place, Segment, count_hops, hop_number, hops_in, place_at}
 use Rattle.scion_packet.specs.Places as places
 use Rattle.process_packet.specs.declared.cause.Cause.TheVariants as cause
 use Rattle.process_packet.specs.declared.departure.Departure.{Departure}
 use Rattle.process_packet.specs.declared.sight.Sight.{Sight}
 use Rattle.process_packet.specs.declared.spot.Spot.{Spot}
 use Rattle.process_packet.specs.declared.underlay.Underlay.{Underlay}
-use Rattle.process_packet.specs.Departure.{Departs, IsNumberOf, IsOnPath, Keeps, moved_path}
+use Rattle.process_packet.specs.Departure.{Departs, IsNumberOf, Keeps, moved_path}
 use Rattle.process_packet.specs.Rows.{Verdict, Sent, Dropped, sent_out}
 use Rattle.process_packet.specs.Sight.{IsAlike, IsWhole, Sees, with_id}
 use Rattle.process_packet.specs.Spot.{Lies}
-use Rattle.process_packet.specs.Standing.{Standing, chained, chained_id, is_last_of_path, next_place, next_segment, packet}
+use Rattle.process_packet.specs.Standing.{Standing, chained, chained_id, is_last_of_path, next_place, next_segment}
 use Rattle.process_packet.proofs.AlikeLemmas.{alike_same, alike_set, alike_with}
 
 -- ---- numbers of hops

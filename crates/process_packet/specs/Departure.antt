@@ -1,5 +1,5 @@
 -- How a packet leaves, as the code holds it.
-use Rattle.std.specs.Prelude.{◌≡◌, ◌<◌, ◌≤◌, ℕ, List, length, Result, MatchResult}
+use Rattle.std.specs.Prelude.{◌≡◌, ◌<◌, ℕ, List, length, Result, MatchResult}
 use Rattle.scion_packet.specs.Packet.{Packet}
 use Rattle.scion_packet.specs.Path.{PathFields, Place, Segment, hop_number}
 use Rattle.process_packet.specs.declared.departure.Departure.{Departure}

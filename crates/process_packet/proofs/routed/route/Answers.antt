@@ -1,4 +1,4 @@
-use Rattle.std.proofs.Common.{ap, ◌∙◌, arith}
+use Rattle.std.proofs.Common.{ap, arith}
 use Rattle.process_packet.specs.Decide.{decision_of}
 use Rattle.process_packet.specs.Network.{network}
 use Rattle.process_packet.proofs.FrontLemmas.{too_long_dropped}

@@ -1,4 +1,4 @@
-use Rattle.std.proofs.Common.{◌≡◌, ◌<◌, [], ◌∷◌, refl, sym, ap, subst, ◌∙◌, length, arith}
+use Rattle.std.proofs.Common.{◌<◌, [], ◌∷◌, refl, sym, ap, subst, ◌∙◌, length, arith}
 use Rattle.scion_packet.specs.Packet.{packet_of, path_bytes}
 use Rattle.scion_packet.specs.Path.{path_of}
 use Rattle.process_packet.specs.Departure.{Tells}

@@ -1,9 +1,9 @@
-use Rattle.std.proofs.Common.{◌≡◌, ◌-◌, length, refl, sym, ap, ◌∙◌, arith, length-drop}
+use Rattle.std.proofs.Common.{refl, arith, length-drop}
 use Rattle.scion_packet.specs.Header.{header_end}
 use Rattle.scion_packet.specs.Packet.{path_bytes}
 use Rattle.scion_packet.proofs.Offsets.{fields_stand}
 use Rattle.process_packet.proofs.FrontLemmas.{path_between}
-use Rattle.process_packet.proofs.SpotLemmas.{HasCurrent, count_of, first_spot, has_current, whole_path}
+use Rattle.process_packet.proofs.SpotLemmas.{count_of, first_spot, has_current, whole_path}
 use Rattle.process_packet.proofs.routing.sight_of.Goals as goal
 
 pub read-requires-clause-there : goal.read-requires-clause-there

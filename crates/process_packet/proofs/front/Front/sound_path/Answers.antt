@@ -1,6 +1,6 @@
 use Rattle.std.proofs.Common.{ap, sym, ◌∙◌, ◌*◌, ℕ, arith}
 use Rattle.process_packet.specs.Rows.{Dropped, Ends}
-use Rattle.process_packet.proofs.FrontLemmas.{PathLies, meta_of, path_are, path_between, path_fails, path_lies, path_passes}
+use Rattle.process_packet.proofs.FrontLemmas.{meta_of, path_are, path_between, path_fails, path_lies, path_passes}
 use Rattle.process_packet.proofs.front.Front.sound_path.Goals as goal
 
 pub returns-in-Ok-clause-front : goal.returns-in-Ok-clause-front

@@ -1,0 +1,174 @@
+//! Plain Rust beside the ruled pipe: `plain mpsc|queue word|buffer PRODUCERS` prints the tenths of a
+//! nanosecond that one item took. Rounds, counts and sizes are those of `crates/joints_bench`.
+use std::cell::UnsafeCell;
+use std::mem::MaybeUninit;
+use std::sync::atomic::{AtomicUsize, Ordering};
+use std::sync::{mpsc, Arc};
+use std::thread;
+use std::time::Instant;
+
+const CAPACITY: usize = 1024;
+const ITEMS: usize = 8192;
+const ROUNDS: u32 = 60;
+const BUFFER: usize = 9217;
+
+/// Alone on its cache lines.
+#[repr(align(128))]
+struct Apart<T>(T);
+
+/// A bounded queue for many producers and many consumers: each slot has a stamp, which says whose turn
+/// it is.
+struct ArrayQueue<T> {
+    slots: Box<[(AtomicUsize, UnsafeCell<MaybeUninit<T>>)]>,
+    head: Apart<AtomicUsize>,
+    tail: Apart<AtomicUsize>,
+}
+
+unsafe impl<T: Send> Sync for ArrayQueue<T> {}
+
+impl<T> ArrayQueue<T> {
+    fn new(capacity: usize) -> Self {
+        let slots = (0..capacity).map(|i| (AtomicUsize::new(i), UnsafeCell::new(MaybeUninit::uninit())));
+        ArrayQueue { slots: slots.collect(), head: Apart(AtomicUsize::new(0)), tail: Apart(AtomicUsize::new(0)) }
+    }
+
+    fn push(&self, item: T) -> Result<(), T> {
+        let mut tail = self.tail.0.load(Ordering::Relaxed);
+        loop {
+            let slot = &self.slots[tail % self.slots.len()];
+            let stamp = slot.0.load(Ordering::Acquire);
+            if stamp == tail {
+                match self.tail.0.compare_exchange_weak(tail, tail + 1, Ordering::SeqCst, Ordering::Relaxed) {
+                    Ok(_) => {
+                        unsafe { (*slot.1.get()).write(item) };
+                        slot.0.store(tail + 1, Ordering::Release);
+                        return Ok(());
+                    }
+                    Err(now) => tail = now,
+                }
+            } else if stamp < tail {
+                let head = self.head.0.load(Ordering::SeqCst);
+                if head + self.slots.len() == tail {
+                    return Err(item);
+                }
+                std::hint::spin_loop();
+                tail = self.tail.0.load(Ordering::Relaxed);
+            } else {
+                tail = self.tail.0.load(Ordering::Relaxed);
+            }
+        }
+    }
+
+    fn pop(&self) -> Option<T> {
+        let mut head = self.head.0.load(Ordering::Relaxed);
+        loop {
+            let slot = &self.slots[head % self.slots.len()];
+            let stamp = slot.0.load(Ordering::Acquire);
+            if stamp == head + 1 {
+                match self.head.0.compare_exchange_weak(head, head + 1, Ordering::SeqCst, Ordering::Relaxed) {
+                    Ok(_) => {
+                        let item = unsafe { (*slot.1.get()).assume_init_read() };
+                        slot.0.store(head + self.slots.len(), Ordering::Release);
+                        return Some(item);
+                    }
+                    Err(now) => head = now,
+                }
+            } else {
+                if self.tail.0.load(Ordering::SeqCst) == head {
+                    return None;
+                }
+                std::hint::spin_loop();
+                head = self.head.0.load(Ordering::Relaxed);
+            }
+        }
+    }
+}
+
+/// Cuts the items into one list for each producer.
+fn sources<T>(mut items: Vec<T>, producers: usize) -> Vec<Vec<T>> {
+    let each = items.len() / producers;
+    (0..producers).map(|_| items.split_off(items.len() - each)).collect()
+}
+
+fn round_queue<T: Send + 'static>(items: Vec<T>, producers: usize) -> (Vec<T>, u128) {
+    let count = items.len();
+    let mut kept = Vec::with_capacity(count);
+    let queue = Arc::new(ArrayQueue::new(CAPACITY));
+    let sources = sources(items, producers);
+    let sent: usize = sources.iter().map(Vec::len).sum();
+    let start = Instant::now();
+    let mut children = Vec::with_capacity(producers);
+    for source in sources {
+        let queue = Arc::clone(&queue);
+        children.push(thread::spawn(move || {
+            for mut item in source {
+                while let Err(back) = queue.push(item) {
+                    item = back;
+                    thread::yield_now();
+                }
+            }
+        }));
+    }
+    while kept.len() < sent {
+        match queue.pop() {
+            Some(item) => kept.push(item),
+            None => thread::yield_now(),
+        }
+    }
+    let spent = start.elapsed().as_nanos();
+    for child in children {
+        child.join().unwrap();
+    }
+    (kept, spent)
+}
+
+fn round_mpsc<T: Send + 'static>(items: Vec<T>, producers: usize) -> (Vec<T>, u128) {
+    let count = items.len();
+    let mut kept = Vec::with_capacity(count);
+    let (to, from) = mpsc::sync_channel(CAPACITY);
+    let sources = sources(items, producers);
+    let sent: usize = sources.iter().map(Vec::len).sum();
+    let start = Instant::now();
+    let mut children = Vec::with_capacity(producers);
+    for source in sources {
+        let to = to.clone();
+        children.push(thread::spawn(move || {
+            for item in source {
+                to.send(item).unwrap();
+            }
+        }));
+    }
+    while kept.len() < sent {
+        kept.push(from.recv().unwrap());
+    }
+    let spent = start.elapsed().as_nanos();
+    for child in children {
+        child.join().unwrap();
+    }
+    (kept, spent)
+}
+
+fn tenths<T: Send + 'static>(round: fn(Vec<T>, usize) -> (Vec<T>, u128), mut items: Vec<T>, producers: usize) -> u128 {
+    let (mut spent, mut passed) = (0, 0);
+    for _ in 0..ROUNDS {
+        let (kept, nanos) = round(items, producers);
+        passed += kept.len() as u128;
+        spent += nanos;
+        items = kept;
+    }
+    spent * 10 / passed.max(1)
+}
+
+fn main() {
+    let words: Vec<String> = std::env::args().skip(1).collect();
+    let producers = if words[2] == "2" { 2 } else { 1 };
+    let numbers = || (0..ITEMS as u64).collect::<Vec<_>>();
+    let buffers = || (0..ITEMS).map(|_| vec![0u8; BUFFER]).collect::<Vec<_>>();
+    let spent = match (words[0].as_str(), words[1].as_str()) {
+        ("mpsc", "word") => tenths(round_mpsc, numbers(), producers),
+        ("mpsc", _) => tenths(round_mpsc, buffers(), producers),
+        (_, "word") => tenths(round_queue, numbers(), producers),
+        (_, _) => tenths(round_queue, buffers(), producers),
+    };
+    println!("{spent}");
+}
