@@ -1,2 +1,5 @@
 pub mod NumberLemmas
 pub mod EntryLemmas
+pub mod IdLemmas
+pub mod ListLemmas
+pub mod ConfigLemmas

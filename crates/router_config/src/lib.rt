@@ -3,11 +3,20 @@
 #![tactic(auto)]
 
 mod address;
+mod config;
 mod decimal;
 mod entry;
 mod fault;
 mod isd_as;
+mod lists;
+mod neighbours;
 mod pieces;
+mod shown;
+#[cfg(test)]
+mod tests;
 
 pub use address::read_underlay;
+pub use config::read_config;
+pub use decimal::read_decimal;
 pub use fault::ConfigFault;
+pub use shown::push_underlay;

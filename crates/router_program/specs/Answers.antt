@@ -9,13 +9,13 @@ use Rattle.process_packet.specs.declared.decision.Decision.{Decision}
 use Rattle.process_packet.specs.declared.decision.Decision.TheVariants.{Send, Answer, Drop}
 use Rattle.process_packet.specs.declared.decision.Problem.{Problem}
 use Rattle.process_packet.specs.declared.underlay.Underlay.{Underlay}
-use Rattle.router_config.specs.Printing.{underlay_text}
+use Rattle.router_config.specs.Shown.{text_of}
 use Rattle.router_program.specs.declared.arriving.Arriving.{Arriving}
 
 -- where a packet is sent, `-` where its link leads to one place alone
 abbrev pub to_text : Option Underlay → List ℕ
 to_text None = codes "-"
-to_text (Some to) = underlay_text to
+to_text (Some to) = text_of to
 
 -- the link, where the packet is sent there, and its bytes
 abbrev pub sent_text : ℕ → Option Underlay → List ℕ → List ℕ

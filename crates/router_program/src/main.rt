@@ -4,9 +4,10 @@
 
 mod answers;
 mod arriving;
-mod decimal;
 mod engine;
 mod fault;
+#[cfg(test)]
+mod rows;
 #[cfg(test)]
 mod tests;
 mod words;

@@ -9,11 +9,10 @@ ghost use Rattle.process_packet.specs.declared.underlay.Underlay.{Underlay as Ad
 ghost use Rattle.router_program.specs.Words.{Asks, Orders, from_of, offered, route, router, wanted};
 ghost use Rattle.router_program.specs.declared.words.WordsFault.TheVariants.{Memory, Told};
 
-use crate::decimal::read_decimal;
 use clap::error::ErrorKind;
 use clap::{Arg, ArgAction, ArgMatches, Command};
 use process_packet::Underlay;
-use router_config::read_underlay;
+use router_config::{read_decimal, read_underlay};
 use std::alloc::{AllocError, AllocFailed, Global};
 use thiserror::Error;
 
