@@ -1,2 +1,4 @@
 pub mod NumberLemmas
 pub mod EntryLemmas
+pub mod IdLemmas
+pub mod ListLemmas

@@ -3,3 +3,6 @@ pub mod IsdAs
 pub mod Address
 pub mod Fault
 pub mod Entry
+pub mod Neighbours
+pub mod Config
+pub mod Parts

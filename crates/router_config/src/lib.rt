@@ -3,11 +3,15 @@
 #![tactic(auto)]
 
 mod address;
+mod config;
 mod decimal;
 mod entry;
 mod fault;
 mod isd_as;
+mod lists;
+mod neighbours;
 mod pieces;
 
 pub use address::read_underlay;
+pub use config::read_config;
 pub use fault::ConfigFault;
