@@ -2,3 +2,4 @@ pub mod NumberLemmas
 pub mod EntryLemmas
 pub mod IdLemmas
 pub mod ListLemmas
+pub mod ConfigLemmas

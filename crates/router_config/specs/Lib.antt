@@ -6,3 +6,4 @@ pub mod Entry
 pub mod Neighbours
 pub mod Config
 pub mod Parts
+pub mod Shown

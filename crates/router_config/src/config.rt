@@ -114,6 +114,7 @@ fn internal_at(version: Version, table: &Table) -> Result<Internal, ConfigFault>
 }
 
 /// How many buffers each link has.
+#[tactic(auto, unfolding(crate::specs::Config::buffers_at))]
 fn buffers_at(table: &Table) -> Result<u32, ConfigFault>
     ensures value { result ≡ buffers_at (table_view table.now) }
     ensures some { IfOk result (λ buffers. 2 ≤ buffers) }
@@ -151,9 +152,18 @@ fn around_at(alloc: Global, version: Version, table: &Table) -> Result<Around, C
     ensures value { Answers around_values (around_at version (table_view table.now)) result }
     ensures sound { IfOk result IsAround }
 {
-    let links = links_at(alloc, version, table)?;
-    let siblings = siblings_at(alloc, links.as_slice(), table)?;
-    let services = services_at(alloc, table)?;
+    let links = match links_at(alloc, version, table) {
+        Ok(links) => links,
+        Err(fault) => return Err(fault),
+    };
+    let siblings = match siblings_at(alloc, links.as_slice(), table) {
+        Ok(siblings) => siblings,
+        Err(fault) => return Err(fault),
+    };
+    let services = match services_at(alloc, table) {
+        Ok(services) => services,
+        Err(fault) => return Err(fault),
+    };
     Ok(Around {
         links,
         siblings,
@@ -193,11 +203,26 @@ fn config_of(local: Local, internal: Internal, sizes: Sizes, around: Around) -> 
 fn config_at(alloc: Global, table: &Table) -> Result<Config, ConfigFault>
     ensures { Answers values (values_at (table_view table.now)) result }
 {
-    let version = version_at(table)?;
-    let local = local_at(table)?;
-    let internal = internal_at(version, table)?;
-    let sizes = sizes_at(table)?;
-    let around = around_at(alloc, version, table)?;
+    let version = match version_at(table) {
+        Ok(version) => version,
+        Err(fault) => return Err(fault),
+    };
+    let local = match local_at(table) {
+        Ok(local) => local,
+        Err(fault) => return Err(fault),
+    };
+    let internal = match internal_at(version, table) {
+        Ok(internal) => internal,
+        Err(fault) => return Err(fault),
+    };
+    let sizes = match sizes_at(table) {
+        Ok(sizes) => sizes,
+        Err(fault) => return Err(fault),
+    };
+    let around = match around_at(alloc, version, table) {
+        Ok(around) => around,
+        Err(fault) => return Err(fault),
+    };
     Ok(config_of(local, internal, sizes, around))
 }
 

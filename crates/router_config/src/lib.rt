@@ -11,7 +11,11 @@ mod isd_as;
 mod lists;
 mod neighbours;
 mod pieces;
+mod shown;
+#[cfg(test)]
+mod tests;
 
 pub use address::read_underlay;
 pub use config::read_config;
 pub use fault::ConfigFault;
+pub use shown::push_underlay;
