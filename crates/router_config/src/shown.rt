@@ -13,7 +13,11 @@ fn hex_digit(number: u16) -> u8
     ensures { result ≡ digit_glyph false number }
 {
     let digit = number as u8;
-    if digit < 10 { b'0' + digit } else { b'a' - 10 + digit }
+    if digit < 10 {
+        b'0' + digit
+    } else {
+        b'a' - 10 + digit
+    }
 }
 
 /// Adds the hex digits of a group, without leading zeros.
