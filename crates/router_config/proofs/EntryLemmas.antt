@@ -25,4 +25,3 @@ value_missing read key table member = ap (read_of read) member
 pub value_tested : {A : Type 0} (read : Data → Option A) (key : List ℕ) (table : Members) (d : Data) (r : Result A ConfigFault) → Some d ≡ get_member key table → r ≡ or_fault WrongType (read d) → r ≡ value_at read key table
 unfolding read_of
 value_tested read key table d r member is = is ∙ ap (read_of read) member
-

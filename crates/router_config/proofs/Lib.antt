@@ -3,3 +3,4 @@ pub mod EntryLemmas
 pub mod IdLemmas
 pub mod ListLemmas
 pub mod ConfigLemmas
+pub mod ShownLemmas

@@ -1,29 +1,38 @@
 -- The text of an address: lower case, no leading zeros.
-use Rattle.std.specs.Prelude.{ℕ, ◌+◌, ◌*◌, List, [], ◌∷◌, ◌++◌, decimal, false}
+use Rattle.std.specs.Prelude.{ℕ, ◌+◌, ◌*◌, List, [], ◌∷◌, ◌++◌, decimal, false, slice_index}
 use Rattle.std.specs.Fmt.{digits}
 use Rattle.process_packet.specs.declared.underlay.Ip.{Ip}
 use Rattle.process_packet.specs.declared.underlay.Ip.TheVariants.{V4, V6}
 use Rattle.process_packet.specs.declared.underlay.Underlay.{Underlay}
 
--- each number after a `.`
-abbrev pub dotted : List ℕ → List ℕ
-dotted [] = []
-dotted (octet ∷ octets) = 46 ∷ (decimal octet ++ dotted octets)
+abbrev pub octet : List ℕ → ℕ → List ℕ
+octet bytes i = decimal (slice_index bytes i)
 
--- decimals joined by `.`
-abbrev pub octets_text : List ℕ → List ℕ
-octets_text [] = []
-octets_text (octet ∷ octets) = decimal octet ++ dotted octets
+abbrev pub dotted : List ℕ → ℕ → List ℕ
+dotted bytes i = 46 ∷ octet bytes i
 
--- each group of two bytes after a `:`
-abbrev pub with_colons : List ℕ → List ℕ
-with_colons (high ∷ low ∷ bytes) = 58 ∷ (digits 16 false (high * 256 + low) ++ with_colons bytes)
-with_colons _ = []
+-- four decimals joined by `.`
+unfoldable pub octets_text : List ℕ → List ℕ
+octets_text b = octet b 0 ++ (dotted b 1 ++ (dotted b 2 ++ dotted b 3))
 
--- groups of two bytes in hex, joined by `:`
-abbrev pub groups_text : List ℕ → List ℕ
-groups_text (high ∷ low ∷ bytes) = digits 16 false (high * 256 + low) ++ with_colons bytes
-groups_text _ = []
+-- a group of two bytes in hex
+abbrev pub group : List ℕ → ℕ → List ℕ
+group bytes i = digits 16 false (slice_index bytes (2 * i) * 256 + slice_index bytes (2 * i + 1))
+
+abbrev pub with_colon : List ℕ → ℕ → List ℕ
+with_colon bytes i = 58 ∷ group bytes i
+
+-- the first four groups in hex, joined by `:`
+unfoldable pub first_groups : List ℕ → List ℕ
+first_groups b = group b 0 ++ (with_colon b 1 ++ (with_colon b 2 ++ with_colon b 3))
+
+-- the last four, each after a `:`
+unfoldable pub last_groups : List ℕ → List ℕ
+last_groups b = with_colon b 4 ++ (with_colon b 5 ++ (with_colon b 6 ++ with_colon b 7))
+
+-- eight groups
+unfoldable pub groups_text : List ℕ → List ℕ
+groups_text b = first_groups b ++ last_groups b
 
 abbrev pub ip_text : Ip → List ℕ
 ip_text (V4 octets) = octets_text octets

@@ -56,8 +56,22 @@ fn read_groups(text: &str) -> Option<[u8; 16]>
     let (g, last) = read_group_and_rest(rest)?;
     let h = read_group(last)?;
     Some([
-        high(a), low(a), high(b), low(b), high(c), low(c), high(d), low(d),
-        high(e), low(e), high(f), low(f), high(g), low(g), high(h), low(h),
+        high(a),
+        low(a),
+        high(b),
+        low(b),
+        high(c),
+        low(c),
+        high(d),
+        low(d),
+        high(e),
+        low(e),
+        high(f),
+        low(f),
+        high(g),
+        low(g),
+        high(h),
+        low(h),
     ])
 }
 

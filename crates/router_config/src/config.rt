@@ -5,7 +5,9 @@ ghost use Rattle.router_config.specs.Config.{around_at, buffers_at, internal_at,
 ghost use Rattle.router_config.specs.Fault.{Answers, on_ok};
 ghost use Rattle.router_config.specs.Parts.{AreSizes, IsAround, IsInternal, IsLocal, around_values, internal_values, local_values, size_values};
 
-use crate::entry::{Version, address_at, bands_at, in_range, integer_at, number_at, text_at, version_at};
+use crate::entry::{
+    Version, address_at, bands_at, in_range, integer_at, number_at, text_at, version_at,
+};
 use crate::fault::ConfigFault;
 use crate::isd_as::read_isd_as;
 use crate::lists::{links_at, services_at, siblings_at};

@@ -134,7 +134,11 @@ pub(crate) fn version_at(table: &Table) -> Result<Version, ConfigFault>
     ensures { result ≡ version_at (table_view table.now) }
 {
     match number_at(table, "version", 1, 2) {
-        Ok(number) => Ok(if number == 1 { Version::First } else { Version::Second }),
+        Ok(number) => Ok(if number == 1 {
+            Version::First
+        } else {
+            Version::Second
+        }),
         Err(fault) => Err(fault),
     }
 }

@@ -53,7 +53,11 @@ fn read_links(alloc: Global, version: Version, members: &Array) -> Result<Vec<Li
 }
 
 /// The siblings' interfaces of an array: at most 256, with numbers that are no link's and not another's.
-fn read_siblings(alloc: Global, links: &[Link], members: &Array) -> Result<Vec<Sibling>, ConfigFault>
+fn read_siblings(
+    alloc: Global,
+    links: &[Link],
+    members: &Array,
+) -> Result<Vec<Sibling>, ConfigFault>
     requires { IsTrue (are_distinct (taken links.now [])) }
     ensures value { Answers (λ siblings. siblings.items) (at_most 256 (sibling_of links.now) (array_view members.now)) result }
     ensures few { IfOk result (λ siblings. length siblings.items ≤ 256) }
@@ -102,7 +106,11 @@ fn read_services(alloc: Global, members: &Array) -> Result<Vec<Service>, ConfigF
 }
 
 /// The links of a configuration.
-pub(crate) fn links_at(alloc: Global, version: Version, table: &Table) -> Result<Vec<Link>, ConfigFault>
+pub(crate) fn links_at(
+    alloc: Global,
+    version: Version,
+    table: &Table,
+) -> Result<Vec<Link>, ConfigFault>
     ensures value { Answers (λ links. links.items) (links_at version (table_view table.now)) result }
     ensures some { IfOk result (λ links. 1 ≤ length links.items) }
     ensures few { IfOk result (λ links. length links.items ≤ 32) }
@@ -116,7 +124,11 @@ pub(crate) fn links_at(alloc: Global, version: Version, table: &Table) -> Result
 }
 
 /// The siblings' interfaces of a configuration, if it has any.
-pub(crate) fn siblings_at(alloc: Global, links: &[Link], table: &Table) -> Result<Vec<Sibling>, ConfigFault>
+pub(crate) fn siblings_at(
+    alloc: Global,
+    links: &[Link],
+    table: &Table,
+) -> Result<Vec<Sibling>, ConfigFault>
     requires { IsTrue (are_distinct (taken links.now [])) }
     ensures value { Answers (λ siblings. siblings.items) (siblings_at links.now (table_view table.now)) result }
     ensures few { IfOk result (λ siblings. length siblings.items ≤ 256) }

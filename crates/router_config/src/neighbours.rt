@@ -21,7 +21,10 @@ fn is_linked(links: &[Link], id: u16) -> bool
 fn is_owned(siblings: &[Sibling], id: u16) -> bool
     ensures { result ≡ list_any (λ other. other == id) (map sibling_id siblings.now) }
 {
-    siblings.iter().map(|sibling| sibling.id).any(|other| other == id)
+    siblings
+        .iter()
+        .map(|sibling| sibling.id)
+        .any(|other| other == id)
 }
 
 /// Whether an interface has been given this number.
@@ -53,7 +56,10 @@ fn read_id(links: &[Link], siblings: &[Sibling], number: i64) -> Result<u16, Con
 fn is_served(given: &[Service], number: u16) -> bool
     ensures { result ≡ list_any (λ other. other == number) (map service_number given.now) }
 {
-    given.iter().map(|service| service.number).any(|other| other == number)
+    given
+        .iter()
+        .map(|service| service.number)
+        .any(|other| other == number)
 }
 
 /// The number of a service, beside those that have been given.
@@ -88,7 +94,11 @@ fn id_at(links: &[Link], siblings: &[Sibling], table: &Table) -> Result<u16, Con
 
 /// The link of a member, beside the links that have been given.
 #[tactic(auto, unfolding(crate::specs::Neighbours::link_of))]
-pub(crate) fn read_link(version: Version, given: &[Link], member: &Value) -> Result<Link, ConfigFault>
+pub(crate) fn read_link(
+    version: Version,
+    given: &[Link],
+    member: &Value,
+) -> Result<Link, ConfigFault>
     ensures value { result ≡ link_of version given.now (view member.now) }
     ensures whole { IfOk result (λ link. IsTrue (is_link link)) }
     ensures fresh { IfOk result (λ link. list_any (λ other. other == link.id) (taken given.now []) ≡ false) }
@@ -112,7 +122,11 @@ pub(crate) fn read_link(version: Version, given: &[Link], member: &Value) -> Res
 
 /// The interface of a sibling that a member tells, beside what has been given.
 #[tactic(auto, unfolding(crate::specs::Neighbours::sibling_of))]
-pub(crate) fn read_sibling(links: &[Link], given: &[Sibling], member: &Value) -> Result<Sibling, ConfigFault>
+pub(crate) fn read_sibling(
+    links: &[Link],
+    given: &[Sibling],
+    member: &Value,
+) -> Result<Sibling, ConfigFault>
     ensures value { result ≡ sibling_of links.now given.now (view member.now) }
     ensures whole { IfOk result (λ sibling. IsTrue (is_sibling sibling)) }
     ensures fresh { IfOk result (λ sibling. list_any (λ other. other == sibling.id) (taken links.now given.now) ≡ false) }

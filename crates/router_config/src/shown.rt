@@ -1,7 +1,7 @@
 //! Addresses as they are printed: lower case, no leading zeros.
-ghost use Rattle.std.specs.Prelude.{◌≡◌, ◌++◌, ◌+◌, ◌*◌, ◌<◌, ◌∷◌, [], OnOk, decimal, false, slice_index};
+ghost use Rattle.std.specs.Prelude.{◌≡◌, ◌++◌, ◌<◌, ◌∷◌, [], OnOk, decimal, false};
 ghost use Rattle.std.specs.Fmt.{digit_glyph, digits};
-ghost use Rattle.router_config.specs.Shown.{groups_text, octets_text, text_of};
+ghost use Rattle.router_config.specs.Shown.{first_groups, group, groups_text, last_groups, octets_text, text_of, with_colon};
 
 use itoa::Buffer;
 use process_packet::{Ip, Underlay};
@@ -13,14 +13,18 @@ fn hex_digit(number: u16) -> u8
     ensures { result ≡ digit_glyph false number }
 {
     let digit = number as u8;
-    if digit < 10 { b'0' + digit } else { b'a' - 10 + digit }
+    if digit < 10 {
+        b'0' + digit
+    } else {
+        b'a' - 10 + digit
+    }
 }
 
 /// Adds the hex digits of a group, without leading zeros.
 fn push_group(text: &mut Vec<u8>, group: u16) -> Result<(), AllocError>
     ensures { OnOk result (text.new.items ≡ text.old.items ++ digits 16 false group) }
 {
-    let first = hex_digit(group / 4096);
+    let first = hex_digit(group / 4096 % 16);
     let second = hex_digit(group / 256 % 16);
     let third = hex_digit(group / 16 % 16);
     let last = hex_digit(group % 16);
@@ -43,36 +47,72 @@ fn push_decimal(text: &mut Vec<u8>, number: u16) -> Result<(), AllocError>
     text.extend_from_slice(buffer.format(number).as_bytes())
 }
 
+/// Adds a `.` and an octet in decimals.
+fn push_dotted(text: &mut Vec<u8>, octet: u8) -> Result<(), AllocError>
+    ensures { OnOk result (text.new.items ≡ text.old.items ++ (46 ∷ decimal octet)) }
+{
+    text.push(b'.')?;
+    push_decimal(text, octet.into())
+}
+
 /// Adds the decimals of the octets, joined by `.`.
+#[tactic(auto, unfolding(crate::specs::Shown::octets_text))]
 fn push_octets(text: &mut Vec<u8>, octets: &[u8; 4]) -> Result<(), AllocError>
     ensures { OnOk result (text.new.items ≡ text.old.items ++ octets_text octets.now) }
 {
     push_decimal(text, octets[0].into())?;
-    for octet in &octets[1..] {
-        text.push(b'.')?;
-        push_decimal(text, (*octet).into())?;
-    }
-    Ok(())
+    push_dotted(text, octets[1])?;
+    push_dotted(text, octets[2])?;
+    push_dotted(text, octets[3])
 }
 
-/// The group of 16 bits at a place.
-fn group_at(bytes: &[u8; 16], at: usize) -> u16
+/// Adds the group of two bytes at a place, in hex.
+fn push_group_at(text: &mut Vec<u8>, bytes: &[u8; 16], at: usize) -> Result<(), AllocError>
     requires { at < 8 }
-    ensures { result ≡ slice_index bytes.now (2 * at) * 256 + slice_index bytes.now (2 * at + 1) }
+    ensures { OnOk result (text.new.items ≡ text.old.items ++ group bytes.now at) }
 {
-    u16::from(bytes[2 * at]) * 256 + u16::from(bytes[2 * at + 1])
+    let group = u16::from(bytes[2 * at]) * 256 + u16::from(bytes[2 * at + 1]);
+    push_group(text, group)
+}
+
+/// Adds a `:` and the group at a place.
+fn push_with_colon(text: &mut Vec<u8>, bytes: &[u8; 16], at: usize) -> Result<(), AllocError>
+    requires { at < 8 }
+    ensures { OnOk result (text.new.items ≡ text.old.items ++ with_colon bytes.now at) }
+{
+    text.push(b':')?;
+    push_group_at(text, bytes, at)
+}
+
+/// Adds the first four groups in hex, joined by `:`.
+#[tactic(auto, unfolding(crate::specs::Shown::first_groups))]
+fn push_first(text: &mut Vec<u8>, bytes: &[u8; 16]) -> Result<(), AllocError>
+    ensures { OnOk result (text.new.items ≡ text.old.items ++ first_groups bytes.now) }
+{
+    push_group_at(text, bytes, 0)?;
+    push_with_colon(text, bytes, 1)?;
+    push_with_colon(text, bytes, 2)?;
+    push_with_colon(text, bytes, 3)
+}
+
+/// Adds the last four groups, each after a `:`.
+#[tactic(auto, unfolding(crate::specs::Shown::last_groups))]
+fn push_last(text: &mut Vec<u8>, bytes: &[u8; 16]) -> Result<(), AllocError>
+    ensures { OnOk result (text.new.items ≡ text.old.items ++ last_groups bytes.now) }
+{
+    push_with_colon(text, bytes, 4)?;
+    push_with_colon(text, bytes, 5)?;
+    push_with_colon(text, bytes, 6)?;
+    push_with_colon(text, bytes, 7)
 }
 
 /// Adds the eight groups in hex, joined by `:`.
+#[tactic(auto, unfolding(crate::specs::Shown::groups_text))]
 fn push_groups(text: &mut Vec<u8>, bytes: &[u8; 16]) -> Result<(), AllocError>
     ensures { OnOk result (text.new.items ≡ text.old.items ++ groups_text bytes.now) }
 {
-    push_group(text, group_at(bytes, 0))?;
-    for at in 1..8 {
-        text.push(b':')?;
-        push_group(text, group_at(bytes, at))?;
-    }
-    Ok(())
+    push_first(text, bytes)?;
+    push_last(text, bytes)
 }
 
 /// Adds an address to a text: `1.2.3.4:5` or `[a:b:c:d:e:f:0:1]:5`.

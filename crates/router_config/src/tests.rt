@@ -52,15 +52,17 @@ fn check_rest(rt: &impl Abort, config: &Config) {
     assert_eq!(rt; config.processors, 1);
     assert_eq!(rt; config.capacity, 4);
     assert_eq!(rt; config.seed, 0);
-    assert_eq!(rt; config.siblings.as_slice(), &[Sibling {
+    let siblings = [Sibling {
         id: 4,
         kind: LinkKind::Child,
         at: underlay([10, 0, 0, 2], 30000),
-    }]);
-    assert_eq!(rt; config.services.as_slice(), &[Service {
+    }];
+    assert_eq!(rt; config.siblings.as_slice(), siblings.as_slice());
+    let services = [Service {
         number: 2,
         at: underlay([10, 0, 0, 9], 30252),
-    }]);
+    }];
+    assert_eq!(rt; config.services.as_slice(), services.as_slice());
 }
 
 #[test]
@@ -69,11 +71,12 @@ fn reads_a_configuration(rt: HostRuntime) {
     check_rest(&rt, &config);
     assert_eq!(&rt; config.internal_bands, Bands::One);
     assert_eq!(&rt; config.buffers, 64);
-    assert_eq!(&rt; config.links.as_slice(), &[
+    let links = [
         link(1, LinkKind::Parent, 1, Bands::One),
         link(2, LinkKind::Child, 2, Bands::One),
         link(3, LinkKind::Core, 3, Bands::One),
-    ]);
+    ];
+    assert_eq!(&rt; config.links.as_slice(), links.as_slice());
 }
 
 /// The text with a part replaced.
@@ -85,9 +88,24 @@ fn changed(rt: &(impl AllocGlobal + Abort), text: &str, old: &str, new: &str) ->
 /// The text in version 2: the internal network has one band, link 2 has two.
 fn second(rt: &(impl AllocGlobal + Abort)) -> String {
     let text = changed(rt, TEXT, "version = 1", "version = 2\ninternal_bands = 1");
-    let text = changed(rt, text.as_str(), "10.1.0.2:40000\"", "10.1.0.2:40000\", bands=1");
-    let text = changed(rt, text.as_str(), "10.2.0.2:40000\"", "10.2.0.2:40000\", bands=2");
-    changed(rt, text.as_str(), "10.3.0.2:40000\"", "10.3.0.2:40000\", bands=1")
+    let text = changed(
+        rt,
+        text.as_str(),
+        "10.1.0.2:40000\"",
+        "10.1.0.2:40000\", bands=1",
+    );
+    let text = changed(
+        rt,
+        text.as_str(),
+        "10.2.0.2:40000\"",
+        "10.2.0.2:40000\", bands=2",
+    );
+    changed(
+        rt,
+        text.as_str(),
+        "10.3.0.2:40000\"",
+        "10.3.0.2:40000\", bands=1",
+    )
 }
 
 #[test]
@@ -95,11 +113,12 @@ fn reads_the_second_version(rt: HostRuntime) {
     let config = read_config(rt.alloc(), second(&rt).as_str()).expect(&rt, "configuration");
     check_rest(&rt, &config);
     assert_eq!(&rt; config.internal_bands, Bands::One);
-    assert_eq!(&rt; config.links.as_slice(), &[
+    let links = [
         link(1, LinkKind::Parent, 1, Bands::One),
         link(2, LinkKind::Child, 2, Bands::Two),
         link(3, LinkKind::Core, 3, Bands::One),
-    ]);
+    ];
+    assert_eq!(&rt; config.links.as_slice(), links.as_slice());
 }
 
 /// A part of the text, what stands in its place, and the number of the first fault.
@@ -134,7 +153,11 @@ const FAULTS: [(&str, &str, u8); 46] = [
     ("{id=1,", "{id=0,", 7),
     ("{id=3,", "{id=1,", 7),
     ("{id=4", "{id=2", 7),
-    ("{number=2,", "{number=5, at=\"[0:0:0:0:0:0:0:1]:1\"}, {number=5,", 7),
+    (
+        "{number=2,",
+        "{number=5, at=\"[0:0:0:0:0:0:0:1]:1\"}, {number=5,",
+        7,
+    ),
     ("version = 1", "version = 3", 8),
     ("host_port = 30041", "host_port = 0", 8),
     ("processors = 1", "processors = 17", 8),
@@ -145,13 +168,29 @@ const FAULTS: [(&str, &str, u8); 46] = [
     ("seed = 0", "seed = 0\nbuffers = 1", 8),
     ("seed = 0", "seed = 0\nbuffers = 65537", 8),
     ("link = [", "link = [] \nlinks = [", 8),
-    ("link = [", "link = [0,1,2,3,4,5,6,7,8,9,10,11,12,13,14,15,16,17,18,19,20,21,22,23,24,25,26,27,28,29,30,31,", 8),
+    (
+        "link = [",
+        "link = [0,1,2,3,4,5,6,7,8,9,10,11,12,13,14,15,16,17,18,19,20,21,22,23,24,25,26,27,28,29,30,31,",
+        8,
+    ),
     ("{id=3,", "{id=65536,", 8),
     ("{number=2,", "{number=32768,", 8),
     // two faults each: the key that is read first decides
-    ("\"2b7e151628aed2a6abf7158809cf4f3c\"\ninternal = \"10.0.0.1:30000\"", "\"2b\"\ninternal = \"10\"", 5),
-    ("kind=\"parent\", local=\"10.1.0.1:40000\"", "kind=\"x\", local=\"\"", 3),
-    ("local=\"10.1.0.1:40000\", remote=\"10.1.0.2:40000\"},\n {id=2", "local=\"\", remote=\"\"},\n {id=1", 6),
+    (
+        "\"2b7e151628aed2a6abf7158809cf4f3c\"\ninternal = \"10.0.0.1:30000\"",
+        "\"2b\"\ninternal = \"10\"",
+        5,
+    ),
+    (
+        "kind=\"parent\", local=\"10.1.0.1:40000\"",
+        "kind=\"x\", local=\"\"",
+        3,
+    ),
+    (
+        "local=\"10.1.0.1:40000\", remote=\"10.1.0.2:40000\"},\n {id=2",
+        "local=\"\", remote=\"\"},\n {id=1",
+        6,
+    ),
 ];
 
 #[test]
@@ -174,7 +213,10 @@ fn reads_what_may_vary(rt: HostRuntime) {
         ("number=2", "number=0"),
         ("number=2", "number=32767"),
         ("seed = 0", "seed = 4294967295\nbuffers = 65536\nother = 1"),
-        ("sibling = [{id=4, kind=\"child\", at=\"10.0.0.2:30000\"}]", ""),
+        (
+            "sibling = [{id=4, kind=\"child\", at=\"10.0.0.2:30000\"}]",
+            "",
+        ),
         ("service = [{number=2, at=\"10.0.0.9:30252\"}]", ""),
     ] {
         let text = changed(&rt, TEXT, old, new);
@@ -185,8 +227,20 @@ fn reads_what_may_vary(rt: HostRuntime) {
 
 /// An address and its text.
 const ADDRESSES: [(&str, Underlay); 3] = [
-    ("10.0.0.255:30000", Underlay { ip: Ip::V4([10, 0, 0, 255]), port: 30000 }),
-    ("0.0.0.0:1", Underlay { ip: Ip::V4([0; 4]), port: 1 }),
+    (
+        "10.0.0.255:30000",
+        Underlay {
+            ip: Ip::V4([10, 0, 0, 255]),
+            port: 30000,
+        },
+    ),
+    (
+        "0.0.0.0:1",
+        Underlay {
+            ip: Ip::V4([0; 4]),
+            port: 1,
+        },
+    ),
     (
         "[fd00:1:20:300:4000:0:a:77]:65535",
         Underlay {
@@ -212,11 +266,32 @@ fn prints_what_it_reads(rt: HostRuntime) {
 #[test]
 fn refuses_what_is_no_address(rt: HostRuntime) {
     for text in [
-        "", "10.0.0.1", "10.0.0.1:", "10.0.0.1:0", "10.0.0.1:65536", "10.0.0.1:01", "10.0.0.1:+1",
-        "10.0.0:1", "10.0.0.0.1:1", "10.0.0.01:1", "10.0.0.256:1", "10.0.0.-1:1", " 10.0.0.1:1",
-        "10.0.0.1:1 ", "[::1]:5", "[0:0:0:0:0:0:0]:5", "[0:0:0:0:0:0:0:0:0]:5", "[0:0:0:0:0:0:0:g]:5",
-        "[00000:0:0:0:0:0:0:0]:5", "[0:0:0:0:0:0:0:0]", "[0:0:0:0:0:0:0:0]5", "[0:0:0:0:0:0:0:0]x:5",
-        "x[0:0:0:0:0:0:0:0]:5", "[0:0:0:0:0:0:0:1.2]:5", "[0:0:0:0:0:0:0:+1]:5", "localhost:5",
+        "",
+        "10.0.0.1",
+        "10.0.0.1:",
+        "10.0.0.1:0",
+        "10.0.0.1:65536",
+        "10.0.0.1:01",
+        "10.0.0.1:+1",
+        "10.0.0:1",
+        "10.0.0.0.1:1",
+        "10.0.0.01:1",
+        "10.0.0.256:1",
+        "10.0.0.-1:1",
+        " 10.0.0.1:1",
+        "10.0.0.1:1 ",
+        "[::1]:5",
+        "[0:0:0:0:0:0:0]:5",
+        "[0:0:0:0:0:0:0:0:0]:5",
+        "[0:0:0:0:0:0:0:g]:5",
+        "[00000:0:0:0:0:0:0:0]:5",
+        "[0:0:0:0:0:0:0:0]",
+        "[0:0:0:0:0:0:0:0]5",
+        "[0:0:0:0:0:0:0:0]x:5",
+        "x[0:0:0:0:0:0:0:0]:5",
+        "[0:0:0:0:0:0:0:1.2]:5",
+        "[0:0:0:0:0:0:0:+1]:5",
+        "localhost:5",
     ] {
         assert_eq!(&rt; read_underlay(text), None, "at {text:?}");
     }

@@ -18,16 +18,16 @@ returns-in-Err-internal_at c =
 pub returns-in-Err-sizes_at : goal.returns-in-Err-sizes_at
 returns-in-Err-sizes_at c =
     inr (bad_sizes (table_view c.args.table.now) c.in-Ok.version (local_values c.in-Ok-local_at.local) (internal_values c.in-Ok-internal_at.internal) c.in-Err-sizes_at.fault
-        c.in-Ok.ensures c.in-Ok-local_at.ensures.value c.in-Ok-internal_at.ensures.value c.in-Err-sizes_at.ensures.value)
+    c.in-Ok.ensures c.in-Ok-local_at.ensures.value c.in-Ok-internal_at.ensures.value c.in-Err-sizes_at.ensures.value)
 
 pub returns-in-Err-around_at : goal.returns-in-Err-around_at
 returns-in-Err-around_at c =
     bad_around (table_view c.args.table.now) c.in-Ok.version (local_values c.in-Ok-local_at.local) (internal_values c.in-Ok-internal_at.internal) (size_values c.in-Ok-sizes_at.sizes) c.in-Err-around_at.fault
-        c.in-Ok.ensures c.in-Ok-local_at.ensures.value c.in-Ok-internal_at.ensures.value c.in-Ok-sizes_at.ensures.value c.in-Err-around_at.ensures.value
+    c.in-Ok.ensures c.in-Ok-local_at.ensures.value c.in-Ok-internal_at.ensures.value c.in-Ok-sizes_at.ensures.value c.in-Err-around_at.ensures.value
 
 pub returns : goal.returns
 returns c =
     all_there (table_view c.args.table.now) c.in-Ok.version (local_values c.in-Ok-local_at.local) (internal_values c.in-Ok-internal_at.internal) (size_values c.in-Ok-sizes_at.sizes) (around_values c.in-Ok-around_at.around)
-        c.in-Ok.ensures c.in-Ok-local_at.ensures.value c.in-Ok-internal_at.ensures.value c.in-Ok-sizes_at.ensures.value c.in-Ok-around_at.ensures.value
+    c.in-Ok.ensures c.in-Ok-local_at.ensures.value c.in-Ok-internal_at.ensures.value c.in-Ok-sizes_at.ensures.value c.in-Ok-around_at.ensures.value
     ∙ ap Ok (joined (values c.config_of.result) (local_values c.in-Ok-local_at.local) (internal_values c.in-Ok-internal_at.internal) (size_values c.in-Ok-sizes_at.sizes) (around_values c.in-Ok-around_at.around)
-        c.config_of.ensures.near c.config_of.ensures.internal c.config_of.ensures.sizes c.config_of.ensures.around)
+    c.config_of.ensures.near c.config_of.ensures.internal c.config_of.ensures.sizes c.config_of.ensures.around)
