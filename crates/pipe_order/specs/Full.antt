@@ -1,15 +1,25 @@
 -- What met a full pipe.
-use Rattle.std.specs.Prelude.{◌≡◌, true, ◌-◌, [], ◌∷◌}
+use Rattle.std.specs.Prelude.{◌≡◌, Bool, true, false, ◌-◌, [], ◌∷◌}
 use Rattle.std.specs.List.{All, Contains}
-use Rattle.pipe_order.specs.declared.packets.Item.{Item}
-use Rattle.pipe_order.specs.declared.packets.Fate.{Fate}
-use Rattle.pipe_order.specs.declared.packets.Refusal.{Refusal}
-use Rattle.pipe_order.specs.World.{Rules, World, pipe, home, fate_of, full_of, is_full_cause, IsLawful, Reached}
-use Rattle.pipe_order.specs.Made.{IsMade}
+use Rattle.pipe_order.specs.Kinds.{Kinds}
+use Rattle.pipe_order.specs.Item.{Item}
+use Rattle.pipe_order.specs.Pipe.{Refusal}
+use Rattle.pipe_order.specs.Rules.{Rules}
+use Rattle.pipe_order.specs.World.{World, Cause, Fate, pipe, home, fate_of}
+use Rattle.pipe_order.specs.Next.{full_of}
+use Rattle.pipe_order.specs.Start.{Reached, IsLawfulFor}
+use Rattle.pipe_order.specs.ByRules.{IsMade}
+
+module _ {K : Kinds} where
+  abbrev pub is_full_cause : Cause K → Bool
+  is_full_cause Cause.ProcessorFull = true
+  is_full_cause Cause.LinkFull = true
+  is_full_cause Cause.AnswerFull = true
+  is_full_cause _ = false
 
 -- the pipe that the packet, its problem or its answer goes to by the rules noted a refusal when it held its capacity
-pub record MetFull (R : Rules) (s w : World) (f : Fate) : Type 0 where
-  pub item : Item
+pub record MetFull {K : Kinds} (R : Rules K) (s w : World K) (f : Fate K) : Type 0 where
+  pub item : Item K
   pub made : IsMade R s item
   pub fate : fate_of item (full_of item) ≡ f ∷ []
   pub refusal : Refusal
@@ -18,8 +28,9 @@ pub record MetFull (R : Rules) (s w : World) (f : Fate) : Type 0 where
   pub number : refusal.number ≡ f.number
   pub full : refusal.length - refusal.taken ≡ (pipe w (home R item)).capacity
 
-abbrev pub IsFull : Rules → World → World → Type 0
-IsFull R s w = All (λ f. is_full_cause f.cause ≡ true → MetFull R s w f) w.fates
+module _ {K : Kinds} where
+  abbrev pub IsFull : Rules K → World K → World K → Type 0
+  IsFull R s w = All (λ f. is_full_cause f.cause ≡ true → MetFull R s w f) w.fates
 
-abbrev pub KeepsFull : Type 0
-KeepsFull = (R : Rules) (w : World) → IsLawful R → (r : Reached R w) → IsFull R r.start w
+abbrev pub KeepsFull : Kinds → Type 0
+KeepsFull K = (R : Rules K) (w : World K) (r : Reached R w) → IsLawfulFor R w r → IsFull R r.start w

@@ -1,13 +1,26 @@
--- A run, as its callers see it.
+-- Lists of steps.
 use Rattle.std.specs.Prelude.{ℕ, ◌+◌, List, [], ◌∷◌, ◌++◌, Option, Some, None}
-use Rattle.pipe_order.specs.declared.packets.Step.{Step}
-use Rattle.pipe_order.specs.World.{Rules, World, next, or_same}
+use Rattle.pipe_order.specs.Kinds.{Kinds}
+use Rattle.pipe_order.specs.Rules.{Rules}
+use Rattle.pipe_order.specs.World.{World}
+use Rattle.pipe_order.specs.Step.{Step}
+use Rattle.pipe_order.specs.Next.{next}
 
--- the places of the steps that weren't possible, counted from i
-abbrev pub skip_if : ℕ → Option World → List ℕ
-skip_if i None = i ∷ []
-skip_if i (Some w) = []
+module _ {K : Kinds} where
+  abbrev pub or_same : World K → Option (World K) → World K
+  or_same w None = w
+  or_same w (Some v) = v
 
-abbrev pub skipped_from : Rules → World → ℕ → List Step → List ℕ
-skipped_from R w i [] = []
-skipped_from R w i (s ∷ ss) = skip_if i (next R w s) ++ skipped_from R (or_same w (next R w s)) (i + 1) ss
+  -- The world after a list of steps: those that aren't possible are skipped.
+  abbrev pub run : Rules K → World K → List Step → World K
+  run R w [] = w
+  run R w (s ∷ ss) = run R (or_same w (next R w s)) ss
+
+  abbrev pub skip_if : ℕ → Option (World K) → List ℕ
+  skip_if i None = i ∷ []
+  skip_if i (Some w) = []
+
+  -- the places of the steps that weren't possible, the first step's being i
+  abbrev pub skipped_from : Rules K → World K → ℕ → List Step → List ℕ
+  skipped_from R w i [] = []
+  skipped_from R w i (s ∷ ss) = skip_if i (next R w s) ++ skipped_from R (or_same w (next R w s)) (i + 1) ss

@@ -1,40 +1,34 @@
-//! The laws of the pipeline, each as the contract of a function that does nothing.
+//! The laws of the pipeline, each as the contract of a function that does nothing. Its type parameters stand for what the
+//! pipeline leaves open: datagrams as they arrive, parcels as they leave, problems that are answered, reasons of drops, and
+//! keys of flows.
 
+ghost use Rattle.pipe_order.specs.Start.{Begins};
 ghost use Rattle.pipe_order.specs.Order.{KeepsOrder};
+ghost use Rattle.pipe_order.specs.ByRules.{KeepsRules};
 ghost use Rattle.pipe_order.specs.Place.{KeepsPlace};
 ghost use Rattle.pipe_order.specs.Full.{KeepsFull};
-ghost use Rattle.pipe_order.specs.Made.{KeepsRules};
-ghost use Rattle.pipe_order.specs.Start.{Begins};
-ghost use Rattle.pipe_order.specs.Example.{Skips, Sends, MarksOnce};
+
+/// The first world is a start.
+pub fn begins<D, P, Q, R, K>()
+    ensures law { Begins (record { Datagram = D; Parcel = P; Problem = Q; Reason = R; Key = K }) }
+{}
 
 /// After any list of steps the packets of each link and flow leave in the order of their arrival.
-pub fn keeps_order()
-    ensures law { KeepsOrder }
+pub fn keeps_order<D, P, Q, R, K>()
+    ensures law { KeepsOrder (record { Datagram = D; Parcel = P; Problem = Q; Reason = R; Key = K }) }
+{}
+
+/// After any list of steps all that is under way or ended comes from the arrivals by the rules, and stands in its own pipe.
+pub fn keeps_rules<D, P, Q, R, K>()
+    ensures law { KeepsRules (record { Datagram = D; Parcel = P; Problem = Q; Reason = R; Key = K }) }
 {}
 
 /// After any list of steps each received packet is at exactly one place.
-pub fn keeps_place()
-    ensures law { KeepsPlace }
+pub fn keeps_place<D, P, Q, R, K>()
+    ensures law { KeepsPlace (record { Datagram = D; Parcel = P; Problem = Q; Reason = R; Key = K }) }
 {}
 
-/// An example: the urgent packet leaves first, and marks go once.
-pub fn example()
-    ensures skips { Skips }
-    ensures sends { Sends }
-    ensures marks { MarksOnce }
-{}
-
-/// The first world is a start.
-pub fn begins()
-    ensures law { Begins }
-{}
-
-/// All that is under way or ended comes from the arrivals by the rules.
-pub fn keeps_rules()
-    ensures law { KeepsRules }
-{}
-
-/// Each drop at a full pipe met its own pipe full.
-pub fn keeps_full()
-    ensures law { KeepsFull }
+/// After any list of steps each drop at a full pipe met its own pipe full.
+pub fn keeps_full<D, P, Q, R, K>()
+    ensures law { KeepsFull (record { Datagram = D; Parcel = P; Problem = Q; Reason = R; Key = K }) }
 {}

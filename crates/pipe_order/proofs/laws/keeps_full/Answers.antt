@@ -1,5 +1,5 @@
-use Rattle.pipe_order.proofs.Full.{met_full}
+use Rattle.pipe_order.proofs.Full.{keeps_full_law}
 use Rattle.pipe_order.proofs.laws.keeps_full.Goals as goal
 
 pub returns : goal.returns
-returns c = record { law = met_full }
+returns g c = record { law = keeps_full_law _ }

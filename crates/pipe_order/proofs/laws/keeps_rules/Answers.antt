@@ -1,5 +1,5 @@
-use Rattle.pipe_order.proofs.Made.{by_rules}
+use Rattle.pipe_order.proofs.ByRules.{keeps_rules}
 use Rattle.pipe_order.proofs.laws.keeps_rules.Goals as goal
 
 pub returns : goal.returns
-returns c = record { law = by_rules }
+returns g c = record { law = keeps_rules _ }
