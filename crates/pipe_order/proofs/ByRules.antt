@@ -217,7 +217,7 @@ module _ {K : Kinds} where
     keeps_owes w v (Works j x (Ends c) h k) u = owes_with w j Empty u tt
     keeps_owes w v (Lacks j x h k) u = owes_with w j Empty u tt
     keeps_owes w v (Marks q from x i m r) u = u
-    keeps_owes w v (Sends l j o i h) u = owes_with w j Empty u tt
+    keeps_owes w v (Sends l j o i s' h) u = owes_with w j Empty u tt
     keeps_owes w v (Fails j o h) u = owes_with w j Empty u tt
     keeps_owes w v (Sweeps q j x ls i n m e k) u = owes_with (with_pipe w q (one_taken (pipe w q))) j Empty u tt
 
@@ -241,7 +241,7 @@ module _ {K : Kinds} where
     keeps_right w v (Works j x (Ends c) h k) u o = right_fate (with_hand w j Empty) x c (right_hand w j Empty u tt) (turned x (Ends c) k (held_made w j (Got x) u h))
     keeps_right w v (Lacks j x h k) u o = right_fate (with_hand w j Empty) x Cause.NoMemory (right_hand w j Empty u tt) (pipelines x Cause.NoMemory (λ f. tt))
     keeps_right w v (Marks q from x i m r) u o = right_pushed w q from x u (mark_made x m) (mark_home q x m)
-    keeps_right w v (Sends l j o i h) u o' = let t = right_hand w j Empty u tt in record { hands = t.hands; pipes = t.pipes; fates = t.fates; homes = t.homes }
+    keeps_right w v (Sends l j o i s' h) u o' = let t = right_hand w j Empty u tt in record { hands = t.hands; pipes = t.pipes; fates = t.fates; homes = t.homes }
     keeps_right w v (Fails j o h) u o' = right_fate (with_hand w j Empty) (Out o) Cause.SendFailed (right_hand w j Empty u tt) (pipelines (Out o) Cause.SendFailed (λ f. tt))
     keeps_right w v (Sweeps q j x ls s i n e k) u o = right_fate (taken_from (with_looks w ls) q j Empty) x Cause.Closed (right_taken (with_looks w ls) q j Empty (right_looks w ls u) tt) (pipelines x Cause.Closed (λ f. tt))
 
@@ -258,10 +258,10 @@ module _ {K : Kinds} where
     arrived_made a n (_ ∷ xs) h c = absurd h
 
     module _ (st : IsStart R s) where
-      home_all : (a n : ℕ) (xs : List (Item K)) → Numbered a n xs → All (Home a) xs
-      home_all a n [] h = All-nil (Home a)
-      home_all a n (Arrived x ∷ xs) h = All-cons (Home a) (Arrived x) xs h.0 (home_all a (n + 1) xs h.2)
-      home_all a n (_ ∷ xs) h = absurd h
+      home_all : (a n : ℕ) (xs : List (Item K)) → a < R.links → Numbered a n xs → All (Home a) xs
+      home_all a n [] i h = All-nil (Home a)
+      home_all a n (Arrived x ∷ xs) i h = All-cons (Home a) (Arrived x) xs (h.0, i) (home_all a (n + 1) xs i h.2)
+      home_all a n (_ ∷ xs) i h = absurd h
 
       start_right : Right s
       start_right = record {
@@ -276,7 +276,7 @@ module _ {K : Kinds} where
           go q (inr i) = rw (st.empty q i) (All-nil Made)
 
           at : (q : ℕ) → (q < R.links) ⊎ (R.links ≤ q) → All (Home q) (items (pipe s q).history)
-          at q (inl i) = home_all q 1 (items (pipe s q).history) (st.numbered q i)
+          at q (inl i) = home_all q 1 (items (pipe s q).history) i (st.numbered q i)
           at q (inr i) = rw (st.empty q i) (All-nil (Home q))
 
       pub start_whence : Whence s

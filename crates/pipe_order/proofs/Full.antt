@@ -221,7 +221,7 @@ module _ {K : Kinds} where
     keeps_full w v (Works j x (Ends c) g k) h m u = inv_ended w j x c u (work_causes x c k)
     keeps_full w v (Lacks j x g k) h m u = inv_ended w j x Cause.NoMemory u refl
     keeps_full w v (Marks q from x i k r) h m u = inv_pushed w q from x u h r
-    keeps_full w v (Sends l j o i g) h m u = same_pipes w v refl refl u
+    keeps_full w v (Sends l j o i s' g) h m u = same_pipes w v refl refl u
     keeps_full w v (Fails j o g) h m u = inv_ended w j (Out o) Cause.SendFailed u refl
     keeps_full w v (Sweeps q j x ls s' i n e k) h m u =
         let t = inv_taken (with_looks w ls) q j x Empty (same_pipes w (with_looks w ls) refl refl u) k in

@@ -752,6 +752,6 @@ module _ {K : Kinds} where
         keeps w inv v (Works j x e h k) = keeps_work w inv j x e h k
         keeps w inv v (Lacks j x h k) = keeps_lack w inv j x h k
         keeps w inv v (Marks q from x i m r) = keeps_mark w inv q from x m
-        keeps w inv v (Sends k j o i h) = keeps_sent w inv k j o h
+        keeps w inv v (Sends k j o i s' h) = keeps_sent w inv k j o h
         keeps w inv v (Fails j o h) = keeps_fail w inv j o h
         keeps w inv v (Sweeps q j x ls s i u e k) = keeps_sweep (with_looks w ls) (keeps_looks w inv ls) q j x s i u e k

@@ -1,6 +1,6 @@
 -- How many places there are for the packets that are looked for: one for each that was received.
 use Rattle.std.proofs.Common.{◌≡◌, ◌≢◌, ◌⊎◌, inl, inr, ℕ, Bool, true, false, ◌&&◌, ◌+◌, ◌*◌, ◌<◌, ◌≤◌, zero, suc, List, [], ◌∷◌, length, take, drop, refl, sym, subst, ◌∙◌, ap, arith, eqb, length-append}
-use Rattle.std.proofs.lemmas.Bool.{cases_eq, eq-eqb, ne_eqb}
+use Rattle.std.proofs.lemmas.Bool.{cases_lt, cases_eq, eq-eqb, ne_eqb}
 use Rattle.pipe_order.specs.Kinds.{Kinds}
 use Rattle.pipe_order.specs.Item.{Arrival, Arrived, Item, is_one}
 use Rattle.pipe_order.specs.Counts.{total}
@@ -20,7 +20,7 @@ none_left : {X : Type 0} (xs : List X) → length xs ≡ 0 → xs ≡ []
 none_left [] h = refl
 none_left (x ∷ xs) h = absurd (omega arith)
 
-length_take : {X : Type 0} (k : ℕ) (xs : List X) → k ≤ length xs → length (take k xs) ≡ k
+pub length_take : {X : Type 0} (k : ℕ) (xs : List X) → k ≤ length xs → length (take k xs) ≡ k
 length_take zero xs h = refl
 length_take (suc k) [] h = absurd (omega arith)
 length_take (suc k) (x ∷ xs) h = let t = length_take k xs (omega arith) in omega arith
@@ -54,10 +54,10 @@ module _ {K : Kinds} where
     gone_held p = total-take (one named) p.taken (items p.history)
 
     module _ (R : Rules K) (s w : World K) (st : IsStart R s) (law : IsLawful R (HasArrival s)) (u : Sound R s law w) where
-      pub was : ℕ → ℕ
+      unfoldable pub was : ℕ → ℕ
       was b = total (one named) (gone (pipe w b))
 
-      all_of : World K → ℕ → ℕ
+      unfoldable pub all_of : World K → ℕ → ℕ
       all_of v b = total (one named) (arrivals v b)
 
       first_at : (q : ℕ) → at named (pipe s q) ≡ all_of s q
@@ -91,7 +91,7 @@ module _ {K : Kinds} where
           drop_all [] = refl
           drop_all (x ∷ xs) = drop_all xs
 
-      first_weight : weight named s ≡ below (all_of s) R.links
+      pub first_weight : weight named s ≡ below (all_of s) R.links
       first_weight =
           let p = first_total in
           let b = below-agree (λ q. at named (pipe s q)) (all_of s) R.links (λ i m. first_at i) in
@@ -119,6 +119,12 @@ module _ {K : Kinds} where
           let g = first_weight in
           let a = arrivals_parted in
           simp length-append (omega (arith, h, p, c, d, o, f, n, g, a))
+
+  pub numbered_take : (b m k : ℕ) (xs : List (Item K)) → Numbered b m xs → Numbered b m (take k xs)
+  numbered_take b m zero xs h = tt
+  numbered_take b m (suc k) [] h = tt
+  numbered_take b m (suc k) (Arrived x ∷ xs) h = (h.0, h.1, numbered_take b (m + 1) k xs h.2)
+  numbered_take b m (suc k) (_ ∷ xs) h = absurd h
 
   -- numbered arrivals: one of each number
   module _ (a n : ℕ) where
@@ -156,6 +162,25 @@ module _ {K : Kinds} where
         go (inr e) rest = let t = rest (omega arith) in rw (ne_eqb x.number n (λ q. e (sym h.1 ∙ q)), eq-eqb x.link a h.0) (omega (arith, t))
     one_number m (_ ∷ xs) h i k = absurd h
 
+    -- whatever the numbers are
+    pub at_most_one : (b m : ℕ) (xs : List (Item K)) → Numbered b m xs → total one_of xs ≤ 1
+    unfolding one
+    at_most_one b m [] h = omega arith
+    at_most_one b m (Arrived x ∷ xs) h = go (cases_lt n (m + 1)) (at_most_one b (m + 1) xs h.2)
+      where
+        le_one : (c : Bool) → one_if c ≤ 1
+        le_one true = omega arith
+        le_one false = omega arith
+
+        none : (c : Bool) → one_if (c && false) ≡ 0
+        none true = refl
+        none false = refl
+
+        go : (n < m + 1) ⊎ (m + 1 ≤ n) → total one_of xs ≤ 1 → one_if (eqb x.link a && eqb x.number n) + total one_of xs ≤ 1
+        go (inl i) t = let z = other_numbers b (m + 1) xs h.2 (inr i) in let l = le_one (eqb x.link a && eqb x.number n) in omega arith
+        go (inr i) t = let z : one_if (eqb x.link a && eqb x.number n) ≡ 0 = rw (ne_eqb x.number n (let e = h.1 in omega arith)) (none (eqb x.link a)) in omega arith
+    at_most_one b m (_ ∷ xs) h = absurd h
+
     -- those before the number n come first
     none_before : (m k : ℕ) (xs : List (Item K)) → Numbered a m xs → m + k ≤ n → total one_of (take k xs) ≡ 0
     unfolding one
@@ -171,12 +196,6 @@ module _ {K : Kinds} where
         go false = refl
     none_before m (suc k) (_ ∷ xs) h i = absurd h
 
-    numbered_take : (b m k : ℕ) (xs : List (Item K)) → Numbered b m xs → Numbered b m (take k xs)
-    numbered_take b m zero xs h = tt
-    numbered_take b m (suc k) [] h = tt
-    numbered_take b m (suc k) (Arrived x ∷ xs) h = (h.0, h.1, numbered_take b (m + 1) k xs h.2)
-    numbered_take b m (suc k) (_ ∷ xs) h = absurd h
-
     module _ (R : Rules K) (s w : World K) (st : IsStart R s) (law : IsLawful R (HasArrival s)) (u : Sound R s law w) where
       numbered : (b : ℕ) → b < R.links → Numbered b 1 (arrivals w b)
       numbered b i = let N : List (Item K) → Type 0 = λ xs. Numbered b 1 xs in subst N (sym (u.same b i)) (st.numbered b i)
@@ -184,6 +203,18 @@ module _ {K : Kinds} where
       was_other : (b : ℕ) → b < R.links → (b ≢ a) ⊎ (n < 1) → was (is_one a n) R s w st law u b ≡ 0
       unfolding was
       was_other b i z = other_numbers b 1 (gone (pipe w b)) (numbered_take b 1 (pipe w b).taken (arrivals w b) (numbered b i)) z
+
+      -- a packet is at no more than one place
+      pub weight_one : weight (is_one a n) w ≤ 1
+      unfolding all_of
+      weight_one = let e = u.weights (is_one a n) in let f = first_weight (is_one a n) R s w st law u in let g = go (cases_lt a R.links) in omega arith
+        where
+          other : (b : ℕ) → b < R.links → b ≢ a → all_of (is_one a n) R s w st law u s b ≡ 0
+          other b i ne = other_numbers b 1 (arrivals s b) (st.numbered b i) (inl ne)
+
+          go : (a < R.links) ⊎ (R.links ≤ a) → below (all_of (is_one a n) R s w st law u s) R.links ≤ 1
+          go (inl i) = let t = below-only (all_of (is_one a n) R s w st law u s) R.links a i other in let m = at_most_one a 1 (arrivals s a) (st.numbered a i) in omega (arith, t, m)
+          go (inr i) = let t = below-none (all_of (is_one a n) R s w st law u s) R.links (λ b j. other b j (omega arith)) in omega arith
 
       pub placed_once : a < R.links → 1 ≤ n → n ≤ (pipe w a).taken → length (places R a n w) ≡ 1
       unfolding was

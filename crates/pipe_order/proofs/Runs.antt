@@ -46,7 +46,7 @@ module _ {K : Kinds} where
     keeps_arrivals w v (Works j x (Ends c) h k) = refl
     keeps_arrivals w v (Lacks j x h k) = refl
     keeps_arrivals w v (Marks q from x i m r) = other_arrivals w q (pushed (pipe w q) from x) (omega arith)
-    keeps_arrivals w v (Sends k j o i h) = refl
+    keeps_arrivals w v (Sends k j o i s' h) = refl
     keeps_arrivals w v (Fails j o h) = refl
     keeps_arrivals w v (Sweeps q j x ls s i u e k) = same_arrivals w q (one_taken (pipe w q)) refl
 

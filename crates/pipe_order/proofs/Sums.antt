@@ -84,3 +84,15 @@ count-total p (x ∷ xs) = go (p x) (count-total p xs)
     go : (b : Bool) → count p xs ≡ total (λ x. cond (p x) 1 0) xs → length (cond b (x ∷ filter p xs) (filter p xs)) ≡ cond b 1 0 + total (λ x. cond (p x) 1 0) xs
     go true h = omega arith
     go false h = omega arith
+
+pub total-le : {X : Type 0} (f g : X → ℕ) (d : X) (xs : List X) → ((i : ℕ) → f (get_or xs i d) ≤ g (get_or xs i d)) → total f xs ≤ total g xs
+total-le f g d [] h = omega arith
+total-le f g d (x ∷ xs) h = let t = total-le f g d xs (λ i. h (suc i)) in let e = h 0 in omega arith
+
+-- two of the parts together too
+pub total-two : {X : Type 0} (f : X → ℕ) (d : X) (xs : List X) (j k : ℕ) → f d ≡ 0 → j ≢ k → f (get_or xs j d) + f (get_or xs k d) ≤ total f xs
+total-two f d [] j k z n = omega arith
+total-two f d (x ∷ xs) zero zero z n = absurd (n refl)
+total-two f d (x ∷ xs) zero (suc k) z n = let t = total-part f d xs k z in omega arith
+total-two f d (x ∷ xs) (suc j) zero z n = let t = total-part f d xs j z in omega arith
+total-two f d (x ∷ xs) (suc j) (suc k) z n = let t = total-two f d xs j k z (λ e. n (ap (λ (i : ℕ). suc i) e)) in omega arith

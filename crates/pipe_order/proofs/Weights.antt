@@ -30,7 +30,7 @@ module _ {K : Kinds} where
   HasHome R (Got x) = Unit {0}
   HasHome R (Owes x) = home R x < pipe_count R
 
-  abbrev Fits : Pipe K → Type 0
+  abbrev pub Fits : Pipe K → Type 0
   Fits p = p.taken ≤ length (items p.history)
 
   pub record Whole (R : Rules K) (w : World K) : Type 0 where
@@ -137,7 +137,7 @@ module _ {K : Kinds} where
       keeps_whole w v (Works j x (Ends c) h k) t u = whole_fate _ x c (whole_hand w j Empty u tt)
       keeps_whole w v (Lacks j x h k) t u = whole_fate _ x Cause.NoMemory (whole_hand w j Empty u tt)
       keeps_whole w v (Marks q from x i m r) t u = whole_pipe w q _ u (fits_pushed (pipe w q) from x (u.fits q))
-      keeps_whole w v (Sends l j o i h) t u = whole_sent (with_hand w j Empty) l o (whole_hand w j Empty u tt)
+      keeps_whole w v (Sends l j o i s' h) t u = whole_sent (with_hand w j Empty) l o (whole_hand w j Empty u tt)
       keeps_whole w v (Fails j o h) t u = whole_fate _ (Out o) Cause.SendFailed (whole_hand w j Empty u tt)
       keeps_whole w v (Sweeps q j x ls s i n e k) t u = whole_fate _ x Cause.Closed (whole_taken (with_looks w ls) q j x Empty (whole_looks w ls u) k tt)
 
@@ -342,7 +342,7 @@ module _ {K : Kinds} where
       keeps_weight v (Works j x (Ends c) h k) = ends_with R w u j x c (there R w u j (Got x) h (λ e. cc)) (ap grip h)
       keeps_weight v (Lacks j x h k) = ends_with R w u j x Cause.NoMemory (there R w u j (Got x) h (λ e. cc)) (ap grip h)
       keeps_weight v (Marks q from x i m r) = marks R w u q from x m
-      keeps_weight v (Sends l j o i h) =
+      keeps_weight v (Sends l j o i s' h) =
           let m = emptied R w u j (Out o) (there R w u j (Got (Out o)) h (λ e. cc)) (ap grip h) in
           let old = get_or w.sent l [] in
           let c = u.sent_count in

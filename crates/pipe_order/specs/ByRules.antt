@@ -1,5 +1,5 @@
 -- What an item or a fate comes from.
-use Rattle.std.specs.Prelude.{◌≡◌, ◌⊎◌, ℕ, true, false, None}
+use Rattle.std.specs.Prelude.{◌≡◌, ◌⊎◌, ◌<◌, ℕ, true, false, None}
 use Rattle.std.specs.List.{All}
 use Rattle.pipe_order.specs.Kinds.{Kinds}
 use Rattle.pipe_order.specs.Item.{Arrival, Outgoing, Item, Arrived, Packet, Asked, Out, Close, End}
@@ -45,7 +45,7 @@ module _ {K : Kinds} where
 
   -- the item stands in the pipe that it goes to; a mark may stand in any, an arrival that isn't received in its source
   abbrev pub IsHome : Rules K → ℕ → Item K → Type 0
-  IsHome R q (Arrived x) = x.link ≡ q
+  IsHome R q (Arrived x) = (x.link ≡ q) × (q < R.links)
   IsHome R q (Packet x) = home R (Packet x) ≡ q
   IsHome R q (Asked x p) = home R (Asked x p) ≡ q
   IsHome R q (Out o) = home R (Out o) ≡ q

@@ -7,6 +7,8 @@ ghost use Rattle.pipe_order.specs.Order.{KeepsOrder};
 ghost use Rattle.pipe_order.specs.ByRules.{KeepsRules};
 ghost use Rattle.pipe_order.specs.Place.{KeepsPlace};
 ghost use Rattle.pipe_order.specs.Full.{KeepsFull};
+ghost use Rattle.pipe_order.specs.Once.{KeepsOnce};
+ghost use Rattle.pipe_order.specs.Totals.{KeepsTotals};
 
 /// The first world is a start.
 pub fn begins<D, P, Q, R, K>()
@@ -31,4 +33,14 @@ pub fn keeps_place<D, P, Q, R, K>()
 /// After any list of steps each drop at a full pipe met its own pipe full.
 pub fn keeps_full<D, P, Q, R, K>()
     ensures law { KeepsFull (record { Datagram = D; Parcel = P; Problem = Q; Reason = R; Key = K }) }
+{}
+
+/// After any list of steps nothing was pushed twice.
+pub fn keeps_once<D, P, Q, R, K>()
+    ensures law { KeepsOnce (record { Datagram = D; Parcel = P; Problem = Q; Reason = R; Key = K }) }
+{}
+
+/// After any list of steps each received packet is counted once.
+pub fn keeps_totals<D, P, Q, R, K>()
+    ensures law { KeepsTotals (record { Datagram = D; Parcel = P; Problem = Q; Reason = R; Key = K }) }
 {}
