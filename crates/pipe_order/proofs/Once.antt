@@ -1,7 +1,7 @@
 -- Nothing is pushed twice: what was pushed on a stage, and what is still before it, never grow together.
-use Rattle.std.proofs.Common.{◌≡◌, ◌≢◌, ◌⊎◌, inl, inr, ℕ, Bool, true, false, ◌&&◌, ◌+◌, ◌<◌, ◌≤◌, zero, suc, cond, List, [], ◌∷◌, ◌++◌, length, drop, get_or, set, refl, sym, subst, ◌∙◌, ap, arith}
+use Rattle.std.proofs.Common.{◌≡◌, ◌≢◌, ◌⊎◌, inl, inr, ℕ, Bool, true, false, ◌&&◌, ◌+◌, ◌<◌, ◌≤◌, cond, List, [], ◌∷◌, length, drop, refl, sym, subst, ◌∙◌, ap, arith}
 use Rattle.std.specs.Prelude.{Some, None}
-use Rattle.std.specs.List.{All, filter}
+use Rattle.std.specs.List.{All}
 use Rattle.std.proofs.lemmas.List.{set_past}
 use Rattle.std.proofs.lemmas.List.Elements.{All-head, All-tail}
 use Rattle.std.proofs.lemmas.Bool.{cases_lt}
@@ -11,8 +11,8 @@ use Rattle.pipe_order.specs.Counts.{total, count}
 use Rattle.pipe_order.specs.Worker.{Worker}
 use Rattle.pipe_order.specs.Pipe.{Entry, Pipe, empty_pipe, front, held, items, one_taken, pushed, refused, refusal_of}
 use Rattle.pipe_order.specs.Rules.{Rules, Decision, Reply, Replies, Withholds, IsLawful}
-use Rattle.pipe_order.specs.World.{World, Hand, Empty, Got, Owes, Cause, hand, pipe, pipe_count, slow_seat, home, with_hand, with_pipe, with_fate, with_looks}
-use Rattle.pipe_order.specs.Next.{Outcome, Makes, Ends, decided, replied, hand_after, taken_from, full_of}
+use Rattle.pipe_order.specs.World.{World, Hand, Empty, Got, Owes, hand, pipe, pipe_count, slow_seat, home, with_hand, with_pipe}
+use Rattle.pipe_order.specs.Next.{Outcome, Makes, Ends, decided, replied, hand_after, taken_from}
 use Rattle.pipe_order.specs.Start.{HasArrival, IsStart, Numbered}
 use Rattle.pipe_order.specs.Once.{Stage, AsPacket, AsProblem, AsOutgoing, is_at, pushed_count, KeepsOnce}
 use Rattle.pipe_order.proofs.Sums.{total-set, total-append, total-take, total-plus, total-agree, total-nothing, total-le, total-part, total-two, count-total}

@@ -1,8 +1,8 @@
 -- Sums over lists.
 use Rattle.std.proofs.Common.{◌≡◌, ◌≢◌, ◌⊎◌, inl, inr, ℕ, Bool, true, false, ◌+◌, ◌<◌, ◌≤◌, zero, suc, cond, List, [], ◌∷◌, ◌++◌, length, take, drop, get_or, set, refl, ap, arith}
 use Rattle.std.specs.List.{filter}
-use Rattle.std.proofs.lemmas.List.{drop_more}
-use Rattle.std.proofs.lemmas.Bool.{cases_eq}
+use Rattle.std.proofs.lemmas.List.{drop_more, set_past}
+use Rattle.std.proofs.lemmas.Bool.{cases_eq, cases_lt}
 use Rattle.pipe_order.specs.Counts.{total, count}
 
 -- a sum over a list, and one change of the list
@@ -96,3 +96,11 @@ total-two f d (x ∷ xs) zero zero z n = absurd (n refl)
 total-two f d (x ∷ xs) zero (suc k) z n = let t = total-part f d xs k z in omega arith
 total-two f d (x ∷ xs) (suc j) zero z n = let t = total-part f d xs j z in omega arith
 total-two f d (x ∷ xs) (suc j) (suc k) z n = let t = total-two f d xs j k z (λ e. n (ap (λ (i : ℕ). suc i) e)) in omega arith
+
+-- what is put in place of one is as much
+pub total-set-same : {X : Type 0} (f : X → ℕ) (xs : List X) (j : ℕ) (x d : X) → f x ≡ f (get_or xs j d) → total f (set xs j x) ≡ total f xs
+total-set-same f xs j x d e = go (cases_lt j (length xs))
+  where
+    go : (j < length xs) ⊎ (length xs ≤ j) → total f (set xs j x) ≡ total f xs
+    go (inl i) = let t = total-set f xs j x d i in omega arith
+    go (inr i) = ap (total f) (set_past xs j x i)

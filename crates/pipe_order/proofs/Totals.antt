@@ -1,18 +1,18 @@
 -- Each received packet is counted once.
-use Rattle.std.proofs.Common.{◌≡◌, ℕ, Bool, true, false, not, ◌+◌, ◌<◌, ◌≤◌, zero, suc, cond, List, [], ◌∷◌, length, take, drop, refl, subst, sym, ◌∙◌, ap, arith, length-append}
+use Rattle.std.proofs.Common.{◌≡◌, ℕ, Bool, true, false, not, ◌+◌, ◌<◌, cond, List, [], ◌∷◌, length, drop, refl, subst, sym, ◌∙◌, arith, length-append}
 use Rattle.std.specs.List.{filter}
 use Rattle.pipe_order.specs.Kinds.{Kinds}
-use Rattle.pipe_order.specs.Item.{Item, Arrived, Outgoing, is_named}
+use Rattle.pipe_order.specs.Item.{Item, Arrived, Outgoing}
 use Rattle.pipe_order.specs.Counts.{total, count}
 use Rattle.pipe_order.specs.Pipe.{Pipe, empty_pipe, gone, held}
 use Rattle.pipe_order.specs.Rules.{Rules, IsLawful}
 use Rattle.pipe_order.specs.World.{World, Hand, Empty, Got, Owes, Fate, pipe}
 use Rattle.pipe_order.specs.Start.{arrivals, HasArrival, IsStart, Numbered}
 use Rattle.pipe_order.specs.Totals.{is_packet, packets_in_hand, received_count, sent_count, answered_count, waiting_count, dropped_count, KeepsTotals}
-use Rattle.pipe_order.proofs.Sums.{below, below-agree, total-agree, total-plus, total-take, total-below, count-total}
+use Rattle.pipe_order.proofs.Sums.{below-agree, total-agree, total-plus, total-take, total-below, count-total}
 use Rattle.pipe_order.proofs.Weights.{one, grip, at, out, fate, hands_weight, pipes_weight, all_sent_weight, fates_weight}
 use Rattle.pipe_order.proofs.Place.{Sound, sound, was, places_count, numbered_take, length_take}
-use Rattle.pipe_order.specs.Place.{places_of, in_hands, in_pipes}
+use Rattle.pipe_order.specs.Place.{places_of}
 
 all_pass : {X : Type 0} (xs : List X) → length (filter (λ x. true) xs) ≡ length xs
 all_pass [] = refl

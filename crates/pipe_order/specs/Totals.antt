@@ -1,5 +1,5 @@
 -- The counts of a world.
-use Rattle.std.specs.Prelude.{◌≡◌, ℕ, Bool, true, not, ◌+◌, if◌then◌else◌, List, length, take, drop}
+use Rattle.std.specs.Prelude.{◌≡◌, ℕ, Bool, true, not, ◌+◌, if◌then◌else◌, take, drop}
 use Rattle.pipe_order.specs.Kinds.{Kinds}
 use Rattle.pipe_order.specs.Item.{Item, is_named}
 use Rattle.pipe_order.specs.Counts.{total, count}

@@ -8,6 +8,8 @@ ghost use Rattle.pipe_order.specs.ByRules.{KeepsRules};
 ghost use Rattle.pipe_order.specs.Place.{KeepsPlace};
 ghost use Rattle.pipe_order.specs.Full.{KeepsFull};
 ghost use Rattle.pipe_order.specs.Once.{KeepsOnce};
+ghost use Rattle.pipe_order.specs.Close.{KeepsClose};
+ghost use Rattle.pipe_order.specs.Sent.{KeepsSent};
 ghost use Rattle.pipe_order.specs.Totals.{KeepsTotals};
 
 /// The first world is a start.
@@ -43,4 +45,16 @@ pub fn keeps_once<D, P, Q, R, K>()
 /// After any list of steps each received packet is counted once.
 pub fn keeps_totals<D, P, Q, R, K>()
     ensures law { KeepsTotals (record { Datagram = D; Parcel = P; Problem = Q; Reason = R; Key = K }) }
+{}
+
+/// After any list of steps nothing pushed behind a closing mark was taken but by a sweep, and just what was swept is counted
+/// as closed.
+pub fn keeps_close<D, P, Q, R, K>()
+    ensures law { KeepsClose (record { Datagram = D; Parcel = P; Problem = Q; Reason = R; Key = K }) }
+{}
+
+/// After any list of steps each forwarder has sent what it took for sending, in order, less what is in its hand and what its
+/// sink refused.
+pub fn keeps_sent<D, P, Q, R, K>()
+    ensures law { KeepsSent (record { Datagram = D; Parcel = P; Problem = Q; Reason = R; Key = K }) }
 {}
