@@ -2,6 +2,7 @@
 //! pipeline leaves open: datagrams as they arrive, parcels as they leave, problems that are answered, reasons of drops, and
 //! keys of flows.
 
+ghost use Rattle.pipe_order.specs.Run.{RunsStepwise};
 ghost use Rattle.pipe_order.specs.Start.{Begins};
 ghost use Rattle.pipe_order.specs.Order.{KeepsOrder};
 ghost use Rattle.pipe_order.specs.ByRules.{KeepsRules};
@@ -11,6 +12,7 @@ ghost use Rattle.pipe_order.specs.Once.{KeepsOnce};
 ghost use Rattle.pipe_order.specs.Close.{KeepsClose};
 ghost use Rattle.pipe_order.specs.Sent.{KeepsSent};
 ghost use Rattle.pipe_order.specs.Totals.{KeepsTotals};
+ghost use Rattle.pipe_order.specs.Example.{Lawful, FullQueue, ClosedLink, TwoFlows, Answers, TwoBands, Lacks, MarksOnce};
 
 /// The first world is a start.
 pub fn begins<D, P, Q, R, K>()
@@ -57,4 +59,21 @@ pub fn keeps_close<D, P, Q, R, K>()
 /// sink refused.
 pub fn keeps_sent<D, P, Q, R, K>()
     ensures law { KeepsSent (record { Datagram = D; Parcel = P; Problem = Q; Reason = R; Key = K }) }
+{}
+
+/// What a list of steps does, and which of them aren't possible, doesn't depend on what comes later.
+pub fn runs_stepwise<D, P, Q, R, K>()
+    ensures law { RunsStepwise (record { Datagram = D; Parcel = P; Problem = Q; Reason = R; Key = K }) }
+{}
+
+/// Small runs: a full queue, a closed link, two processors, an answer, two bands, what is lacking, end marks.
+pub fn examples()
+    ensures lawful { Lawful }
+    ensures full_queue { FullQueue }
+    ensures closed_link { ClosedLink }
+    ensures two_flows { TwoFlows }
+    ensures answers { Answers }
+    ensures two_bands { TwoBands }
+    ensures lacks { Lacks }
+    ensures marks_once { MarksOnce }
 {}
