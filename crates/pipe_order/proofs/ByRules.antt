@@ -1,11 +1,11 @@
 -- Each move keeps that all comes from the arrivals by the rules.
-use Rattle.std.proofs.Common.{◌≡◌, ◌⊎◌, inl, inr, ℕ, Bool, true, ◌+◌, ◌<◌, ◌≤◌, List, [], ◌∷◌, refl, sym, subst}
+use Rattle.std.proofs.Common.{◌≡◌, ◌⊎◌, inl, inr, ℕ, Bool, true, ◌+◌, ◌<◌, ◌≤◌, List, [], ◌∷◌, ◌++◌, get_or, refl, sym, subst}
 use Rattle.std.specs.Prelude.{Some, None}
 use Rattle.std.specs.List.{All, Contains}
 use Rattle.std.proofs.lemmas.List.Elements.{All-nil, All-cons, All-head, All-tail, All-append, All-push, All-get_or, All-contains_itself}
 use Rattle.std.proofs.lemmas.Option.{slice_get_within, get_or_from_slice_get}
 use Rattle.std.proofs.lemmas.Bool.{cases_lt}
-use Rattle.pipe_order.specs.Item.{Arrival, Arrived, Asked, Close, End, Item, Out, Packet}
+use Rattle.pipe_order.specs.Item.{Arrival, Outgoing, Arrived, Asked, Close, End, Item, Out, Packet}
 use Rattle.pipe_order.specs.Kinds.{Kinds}
 use Rattle.pipe_order.specs.ByRules.{IsMade, IsHandMade, IsCauseOf, IsCaused, IsHome, IsByRules, KeepsRules}
 use Rattle.pipe_order.specs.Next.{decided, replied, Ends, Makes, Outcome, full_of, hand_after, taken_from}
@@ -13,12 +13,19 @@ use Rattle.pipe_order.specs.Pipe.{Pipe, front, items, one_taken, pushed, refusal
 use Rattle.pipe_order.specs.Rules.{Decision, Reply, Replies, Withholds, IsLawful, Rules}
 use Rattle.pipe_order.specs.Start.{HasArrival, IsStart, Numbered}
 use Rattle.pipe_order.specs.Worker.{Worker}
-use Rattle.pipe_order.specs.World.{Cause, Empty, Fate, Got, Hand, Owes, World, fate_of, hand, home, pipe, with_fate, with_hand, with_looks, with_pipe}
+use Rattle.pipe_order.specs.World.{Cause, Empty, Fate, Got, Hand, Owes, World, fate_of, hand, home, pipe, sent_with, with_fate, with_hand, with_looks, with_pipe}
+use Rattle.pipe_order.specs.Full.{is_received}
 use Rattle.pipe_order.proofs.Runs.{run_keeps}
 use Rattle.pipe_order.proofs.Moves.{Move, Receives, Starves, Offers, Refuses, Takes, Looks, Works, Lacks, Marks, Sends, Fails, Sweeps, work, is_mark}
-use Rattle.pipe_order.proofs.Parts.{hand_cases, pipe_cases, items_pushed}
+use Rattle.pipe_order.proofs.Parts.{at_cases, hand_cases, pipe_cases, items_pushed}
 
 module _ {K : Kinds} where
+  -- nobody owes an arrival
+  abbrev pub OwesNone : Hand K → Type 0
+  OwesNone Empty = Unit {0}
+  OwesNone (Got x) = Unit {0}
+  OwesNone (Owes x) = is_received x ≡ true
+
   module _ (R : Rules K) (s : World K) (law : IsLawful R (HasArrival s)) where
     abbrev Made : Item K → Type 0
     Made x = IsMade R s x
@@ -33,14 +40,14 @@ module _ {K : Kinds} where
     Right w = IsByRules R s w
 
     right_hand : (w : World K) (j : ℕ) (h : Hand K) → Right w → IsHandMade R s h → Right (with_hand w j h)
-    right_hand w j h u k = record { hands = λ i. go i (hand_cases w j h i); pipes = u.pipes; fates = u.fates; homes = u.homes }
+    right_hand w j h u k = record { hands = λ i. go i (hand_cases w j h i); pipes = u.pipes; fates = u.fates; homes = u.homes; sent = u.sent }
       where
         go : (i : ℕ) → (hand (with_hand w j h) i ≡ hand w i) ⊎ ((i ≡ j) × (hand (with_hand w j h) i ≡ h)) → IsHandMade R s (hand (with_hand w j h) i)
         go i (inl e) = subst (IsHandMade R s) (sym e) (u.hands i)
         go i (inr e) = subst (IsHandMade R s) (sym e.1) k
 
     right_pipe : (w : World K) (q : ℕ) (p : Pipe K) → Right w → All Made (items p.history) → All (Home q) (items p.history) → Right (with_pipe w q p)
-    right_pipe w q p u k h = record { hands = u.hands; pipes = λ i. go i (pipe_cases w q p i); fates = u.fates; homes = λ i. at i (pipe_cases w q p i) }
+    right_pipe w q p u k h = record { hands = u.hands; pipes = λ i. go i (pipe_cases w q p i); fates = u.fates; homes = λ i. at i (pipe_cases w q p i); sent = u.sent }
       where
         go : (i : ℕ) → (pipe (with_pipe w q p) i ≡ pipe w i) ⊎ ((i ≡ q) × (pipe (with_pipe w q p) i ≡ p)) → All Made (items (pipe (with_pipe w q p) i).history)
         go i (inl e) = let P : Pipe K → Type 0 = λ z. All Made (items z.history) in subst P (sym e) (u.pipes i)
@@ -54,10 +61,10 @@ module _ {K : Kinds} where
             subst P (sym e.1) (subst Q (sym e.0) h)
 
     right_fate : (w : World K) (x : Item K) (c : Cause K) → Right w → All Caused (fate_of x c) → Right (with_fate w x c)
-    right_fate w x c u k = record { hands = u.hands; pipes = u.pipes; homes = u.homes; fates = All-append Caused w.fates (fate_of x c) u.fates k }
+    right_fate w x c u k = record { hands = u.hands; pipes = u.pipes; homes = u.homes; sent = u.sent; fates = All-append Caused w.fates (fate_of x c) u.fates k }
 
     right_looks : (w : World K) (ls : List Bool) → Right w → Right (with_looks w ls)
-    right_looks w ls u = record { hands = u.hands; pipes = u.pipes; fates = u.fates; homes = u.homes }
+    right_looks w ls u = record { hands = u.hands; pipes = u.pipes; fates = u.fates; homes = u.homes; sent = u.sent }
 
     right_taken : (w : World K) (q j : ℕ) (h : Hand K) → Right w → IsHandMade R s h → Right (taken_from w q j h)
     right_taken w q j h u k = right_hand (with_pipe w q (one_taken (pipe w q))) j h (right_pipe w q (one_taken (pipe w q)) u (u.pipes q) (u.homes q)) k
@@ -70,22 +77,9 @@ module _ {K : Kinds} where
         (subst P (sym (items_pushed (pipe w q) from x)) (All-push Made (items (pipe w q).history) x (u.pipes q) k))
         (subst Q (sym (items_pushed (pipe w q) from x)) (All-push (Home q) (items (pipe w q).history) x (u.homes q) h))
 
-    -- what is owed goes home: nobody owes an arrival
-    abbrev NotArrived : Item K → Type 0
-    NotArrived (Arrived x) = ⊥
-    NotArrived (Packet x) = Unit {0}
-    NotArrived (Asked x p) = Unit {0}
-    NotArrived (Out o) = Unit {0}
-    NotArrived Close = Unit {0}
-    NotArrived End = Unit {0}
-
-    abbrev OwesNone : Hand K → Type 0
-    OwesNone Empty = Unit {0}
-    OwesNone (Got x) = Unit {0}
-    OwesNone (Owes x) = NotArrived x
-
-    stands : (x : Item K) → NotArrived x → Home (home R x) x
-    stands (Arrived x) h = absurd h
+    -- what is owed goes home
+    stands : (x : Item K) → is_received x ≡ true → Home (home R x) x
+    stands (Arrived x) h = cc
     stands (Packet x) h = refl
     stands (Asked x n) h = refl
     stands (Out o) h = refl
@@ -188,16 +182,16 @@ module _ {K : Kinds} where
     after_owes Close = tt
     after_owes End = tt
 
-    decided_owes : (x : Arrival K) (r : Decision K) (y : Item K) → decided x r ≡ Makes y → NotArrived y
-    decided_owes x (Decision.Sends l p) y e = let P : Outcome K → Type 0 = elim [ Makes z ↦ NotArrived z | Ends c ↦ Unit {0} ] in subst P e tt
-    decided_owes x (Decision.Asks p) y e = let P : Outcome K → Type 0 = elim [ Makes z ↦ NotArrived z | Ends c ↦ Unit {0} ] in subst P e tt
+    decided_owes : (x : Arrival K) (r : Decision K) (y : Item K) → decided x r ≡ Makes y → is_received y ≡ true
+    decided_owes x (Decision.Sends l p) y e = let P : Outcome K → Type 0 = elim [ Makes z ↦ is_received z ≡ true | Ends c ↦ Unit {0} ] in subst P e refl
+    decided_owes x (Decision.Asks p) y e = let P : Outcome K → Type 0 = elim [ Makes z ↦ is_received z ≡ true | Ends c ↦ Unit {0} ] in subst P e refl
     decided_owes x (Decision.Drops c) y e = cc
 
-    replied_owes : (x : Arrival K) (r : Reply K) (y : Item K) → replied x r ≡ Makes y → NotArrived y
-    replied_owes x (Replies l p) y e = let P : Outcome K → Type 0 = elim [ Makes z ↦ NotArrived z | Ends c ↦ Unit {0} ] in subst P e tt
+    replied_owes : (x : Arrival K) (r : Reply K) (y : Item K) → replied x r ≡ Makes y → is_received y ≡ true
+    replied_owes x (Replies l p) y e = let P : Outcome K → Type 0 = elim [ Makes z ↦ is_received z ≡ true | Ends c ↦ Unit {0} ] in subst P e refl
     replied_owes x (Withholds c) y e = cc
 
-    work_owes : (x y : Item K) → work R x ≡ Some (Makes y) → NotArrived y
+    work_owes : (x y : Item K) → work R x ≡ Some (Makes y) → is_received y ≡ true
     work_owes (Packet x) y e = decided_owes x (R.decide x) y cc
     work_owes (Asked x p) y e = replied_owes x (R.reply x p) y cc
     work_owes (Arrived x) y e = cc
@@ -206,7 +200,7 @@ module _ {K : Kinds} where
     work_owes End y e = cc
 
     keeps_owes : (w v : World K) → Move R w v → OweNone w → OweNone v
-    keeps_owes w v (Receives b x None i e k q) u = owes_with (with_pipe w b (one_taken (pipe w b))) b (Owes (Packet x)) u tt
+    keeps_owes w v (Receives b x None i e k q) u = owes_with (with_pipe w b (one_taken (pipe w b))) b (Owes (Packet x)) u refl
     keeps_owes w v (Receives b x (Some c) i e k q) u = owes_with (with_pipe w b (one_taken (pipe w b))) b Empty u tt
     keeps_owes w v (Starves b x h) u = owes_with w b Empty u tt
     keeps_owes w v (Offers from j x h r) u = owes_with (with_pipe w (home R x) (pushed (pipe w (home R x)) from x)) j Empty u tt
@@ -225,6 +219,16 @@ module _ {K : Kinds} where
       pub right : Right w
       pub owes : OweNone w
 
+    out_sent : (w : World K) → Right w → (l : ℕ) (o : Outgoing K) → Made (Out o) → (k : ℕ) → All (λ o. Made (Out o)) (get_or (sent_with w l o).sent k [])
+    out_sent w u l o m k = go (at_cases w.sent l (get_or w.sent l [] ++ o ∷ []) [] k)
+      where
+        P : Outgoing K → Type 0
+        P o = Made (Out o)
+
+        go : (get_or (sent_with w l o).sent k [] ≡ get_or w.sent k []) ⊎ ((k ≡ l) × (get_or (sent_with w l o).sent k [] ≡ get_or w.sent l [] ++ o ∷ [])) → All (λ o. Made (Out o)) (get_or (sent_with w l o).sent k [])
+        go (inl e) = let Q : List (Outgoing K) → Type 0 = λ os. All (λ o. Made (Out o)) os in subst Q (sym e) (u.sent k)
+        go (inr e) = let Q : List (Outgoing K) → Type 0 = λ os. All (λ o. Made (Out o)) os in subst Q (sym e.1) (All-push (λ o. Made (Out o)) (get_or w.sent l []) o (u.sent l) m)
+
     keeps_right : (w v : World K) → Move R w v → Right w → OweNone w → Right v
     keeps_right w v (Receives b x None i e k q) u o = right_taken w b b (Owes (Packet x)) u (front_made w b (Arrived x) u k, q)
     keeps_right w v (Receives b x (Some c) i e k q) u o =
@@ -241,7 +245,7 @@ module _ {K : Kinds} where
     keeps_right w v (Works j x (Ends c) h k) u o = right_fate (with_hand w j Empty) x c (right_hand w j Empty u tt) (turned x (Ends c) k (held_made w j (Got x) u h))
     keeps_right w v (Lacks j x h k) u o = right_fate (with_hand w j Empty) x Cause.NoMemory (right_hand w j Empty u tt) (pipelines x Cause.NoMemory (λ f. tt))
     keeps_right w v (Marks q from x i m r) u o = right_pushed w q from x u (mark_made x m) (mark_home q x m)
-    keeps_right w v (Sends l j o i s' h) u o' = let t = right_hand w j Empty u tt in record { hands = t.hands; pipes = t.pipes; fates = t.fates; homes = t.homes }
+    keeps_right w v (Sends l j o i s' h) u o' = let t = right_hand w j Empty u tt in record { hands = t.hands; pipes = t.pipes; fates = t.fates; homes = t.homes; sent = λ k. out_sent w u l o (held_made w j (Got (Out o)) u h) k }
     keeps_right w v (Fails j o h) u o' = right_fate (with_hand w j Empty) (Out o) Cause.SendFailed (right_hand w j Empty u tt) (pipelines (Out o) Cause.SendFailed (λ f. tt))
     keeps_right w v (Sweeps q j x ls s i n e k) u o = right_fate (taken_from (with_looks w ls) q j Empty) x Cause.Closed (right_taken (with_looks w ls) q j Empty (right_looks w ls u) tt) (pipelines x Cause.Closed (λ f. tt))
 
@@ -269,6 +273,7 @@ module _ {K : Kinds} where
         pipes = λ q. go q (cases_lt q R.links);
         fates = rw st.fates (All-nil Caused);
         homes = λ q. at q (cases_lt q R.links);
+        sent = λ l. rw (st.sent l) (All-nil (λ o. Made (Out o)));
       }
         where
           go : (q : ℕ) → (q < R.links) ⊎ (R.links ≤ q) → All Made (items (pipe s q).history)

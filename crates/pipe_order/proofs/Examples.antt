@@ -1,9 +1,8 @@
 -- The rules of the examples are lawful.
-use Rattle.std.proofs.Common.{◌≡◌, ℕ, Bool, true, false, ◌<◌, cond, refl, sym, ap, arith, eqb}
+use Rattle.std.proofs.Common.{◌≡◌, ℕ, Bool, true, false, ◌<◌, cond, sym, ap, arith, eqb}
 use Rattle.std.proofs.lemmas.Bool.{eqb-true}
-use Rattle.pipe_order.specs.Item.{Arrival}
 use Rattle.pipe_order.specs.Rules.{Decision, Reply, Sends, Asks, Replies}
-use Rattle.pipe_order.specs.Example.{samples, Sample, Lawful, rules}
+use Rattle.pipe_order.specs.Example.{samples, Sample, Lawful}
 
 two : (b : Bool) → cond b 0 1 < 2
 two true = omega arith

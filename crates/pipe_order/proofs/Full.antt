@@ -5,7 +5,7 @@ use Rattle.std.specs.List.{All, Contains}
 use Rattle.std.proofs.lemmas.List.{length-map, length-drop}
 use Rattle.std.proofs.lemmas.List.Elements.{All-nil, All-cons, All-head, All-tail, All-append, Contains-push, Contains-append_left}
 use Rattle.pipe_order.specs.ByRules.{IsByRules, IsHandMade, IsMade}
-use Rattle.pipe_order.specs.Full.{KeepsFull, IsFull, MetFull, is_full_cause}
+use Rattle.pipe_order.specs.Full.{is_received, KeepsFull, MetFull, is_full_cause}
 use Rattle.pipe_order.specs.Item.{Arrival, Arrived, Asked, Close, End, Item, Out, Packet}
 use Rattle.pipe_order.specs.Kinds.{Kinds}
 use Rattle.pipe_order.specs.Next.{decided, replied, Outcome, Ends, Makes, full_of, taken_from}
@@ -13,11 +13,12 @@ use Rattle.pipe_order.specs.Pipe.{Pipe, empty_pipe, Refusal, front, has_room, he
 use Rattle.pipe_order.specs.Rules.{Decision, Reply, Replies, Withholds, IsLawful, Rules}
 use Rattle.pipe_order.specs.Start.{HasArrival, IsStart}
 use Rattle.pipe_order.specs.Worker.{Worker}
-use Rattle.pipe_order.specs.World.{Cause, Empty, Fate, Hand, Owes, World, fate_of, home, pipe, pipe_count, with_fate, with_hand, with_looks, with_pipe}
+use Rattle.pipe_order.specs.World.{Cause, Empty, Fate, Hand, Owes, World, fate_of, home, pipe, pipe_count, hand, with_fate, with_hand, with_looks, with_pipe}
 use Rattle.pipe_order.proofs.Moves.{Move, Receives, Starves, Offers, Refuses, Takes, Looks, Works, Lacks, Marks, Sends, Fails, Sweeps, work}
 use Rattle.pipe_order.proofs.Parts.{pipe_cases, pipe_same, held_front, held_pushed}
 use Rattle.pipe_order.proofs.Weights.{HasHome, Whole}
 use Rattle.pipe_order.proofs.Runs.{run_keeps}
+use Rattle.pipe_order.proofs.ByRules.{OwesNone}
 use Rattle.pipe_order.proofs.Place.{Sound, keeps_sound, start_sound}
 
 module _ {K : Kinds} where
@@ -35,10 +36,12 @@ module _ {K : Kinds} where
     record Inv (w : World K) : Type 0 where
       bounds : (q : ℕ) → R.links ≤ q → Bound (pipe w q)
       fulls : All (Met w) w.fates
+      sizes : (q : ℕ) → (pipe w q).capacity ≡ (pipe s q).capacity
 
     later_full : (w v : World K) → ((q : ℕ) → Later (pipe w q) (pipe v q)) → (f : Fate K) → MetFull R s w f → MetFull R s v f
     later_full w v L f m = record {
       item = m.item;
+      received = m.received;
       made = m.made;
       fate = m.fate;
       refusal = m.refusal;
@@ -62,12 +65,14 @@ module _ {K : Kinds} where
         record {
           bounds = subst P (sym e) u.bounds;
           fulls = (let Q : List (Fate K) → Type 0 = λ F. All (Met v) F in subst Q (sym f) (later_all w v (λ q. (let L : List (Pipe K) → Type 0 = λ ps. Later (pipe w q) (slice_index_or ps q (empty_pipe 0)) in subst L (sym e) (same_later (pipe w q)))) w.fates u.fulls));
+          sizes = (let C : List (Pipe K) → Type 0 = λ ps. (q : ℕ) → (slice_index_or ps q (empty_pipe 0)).capacity ≡ (pipe s q).capacity in subst C (sym e) u.sizes);
         }
 
     one_pipe : (w : World K) (q : ℕ) (p : Pipe K) → Inv w → (R.links ≤ q → Bound p) → Later (pipe w q) p → Inv (with_pipe w q p)
     one_pipe w q p u b L = record {
       bounds = λ i k. bound i k (pipe_cases w q p i);
       fulls = later_all w (with_pipe w q p) (λ i. later i (pipe_cases w q p i)) w.fates u.fulls;
+      sizes = λ i. (later i (pipe_cases w q p i)).0 ∙ u.sizes i;
     }
       where
         bound : (i : ℕ) → R.links ≤ i → (pipe (with_pipe w q p) i ≡ pipe w i) ⊎ ((i ≡ q) × (pipe (with_pipe w q p) i ≡ p)) → Bound (pipe (with_pipe w q p) i)
@@ -82,6 +87,7 @@ module _ {K : Kinds} where
     with_new w x c u h = record {
       bounds = u.bounds;
       fulls = later_all w (with_fate w x c) (λ q. same_later (pipe w q)) (w.fates ++ fate_of x c) (All-append (Met w) w.fates (fate_of x c) u.fulls h);
+      sizes = u.sizes;
     }
 
     never : (c : Cause K) → is_full_cause c ≡ false → is_full_cause c ≡ true → ⊥
@@ -127,7 +133,7 @@ module _ {K : Kinds} where
     refusal_length Close p = (refl, refl)
     refusal_length End p = (refl, refl)
 
-    module _ (w : World K) (u : Inv w) (whole : Whole R w) (x : Item K) (made : IsMade R s x) (far : home R x < pipe_count R) (r : has_room (pipe w (home R x)) ≡ false) where
+    module _ (w : World K) (u : Inv w) (whole : Whole R w) (x : Item K) (owed : is_received x ≡ true) (made : IsMade R s x) (far : home R x < pipe_count R) (r : has_room (pipe w (home R x)) ≡ false) where
       abbrev q : ℕ
       q = home R x
 
@@ -158,6 +164,7 @@ module _ {K : Kinds} where
           let P : Pipe K → Type 0 = λ y. Contains y.refusals note in
           record {
             item = x;
+            received = owed;
             made = made;
             fate = e;
             refusal = note;
@@ -177,13 +184,13 @@ module _ {K : Kinds} where
       abbrev after : Item K → World K
       after x = with_pipe w (home R x) (refused (pipe w (home R x)) (refusal_of x (pipe w (home R x))))
 
-      noted_full : (x : Item K) → IsMade R s x → home R x < pipe_count R → has_room (pipe w (home R x)) ≡ false → All (Met (after x)) (fate_of x (full_of x))
-      noted_full (Arrived x) m i r = one_met w u whole (Arrived x) m i r (record { link = x.link; number = x.number; cause = Cause.ProcessorFull }) refl refl refl
-      noted_full (Packet x) m i r = one_met w u whole (Packet x) m i r (record { link = x.link; number = x.number; cause = Cause.ProcessorFull }) refl refl refl
-      noted_full (Asked x n) m i r = one_met w u whole (Asked x n) m i r (record { link = x.link; number = x.number; cause = Cause.AnswerFull }) refl refl refl
-      noted_full (Out o) m i r = one_met w u whole (Out o) m i r (record { link = o.arrived; number = o.number; cause = Cause.LinkFull }) refl refl refl
-      noted_full Close m i r = All-nil (Met (after Close))
-      noted_full End m i r = All-nil (Met (after End))
+      noted_full : (x : Item K) → is_received x ≡ true → IsMade R s x → home R x < pipe_count R → has_room (pipe w (home R x)) ≡ false → All (Met (after x)) (fate_of x (full_of x))
+      noted_full (Arrived x) o m i r = one_met w u whole (Arrived x) o m i r (record { link = x.link; number = x.number; cause = Cause.ProcessorFull }) refl refl refl
+      noted_full (Packet x) o m i r = one_met w u whole (Packet x) o m i r (record { link = x.link; number = x.number; cause = Cause.ProcessorFull }) refl refl refl
+      noted_full (Asked x n) o m i r = one_met w u whole (Asked x n) o m i r (record { link = x.link; number = x.number; cause = Cause.AnswerFull }) refl refl refl
+      noted_full (Out o) e m i r = one_met w u whole (Out o) e m i r (record { link = o.arrived; number = o.number; cause = Cause.LinkFull }) refl refl refl
+      noted_full Close o m i r = All-nil (Met (after Close))
+      noted_full End o m i r = All-nil (Met (after End))
 
     decided_causes : (x : Arrival K) (r : Decision K) (c : Cause K) → decided x r ≡ Ends c → is_full_cause c ≡ false
     decided_causes x (Decision.Sends l y) c e = cc
@@ -202,28 +209,29 @@ module _ {K : Kinds} where
     work_causes Close c e = cc
     work_causes End c e = cc
 
-    keeps_full : (w v : World K) → Move R w v → Whole R w → IsByRules R s w → Inv w → Inv v
-    keeps_full w v (Receives b x None i e k q) h m u = inv_taken w b b (Arrived x) (Owes (Packet x)) u k
-    keeps_full w v (Receives b x (Some c) i e k q) h m u = let t = inv_taken w b b (Arrived x) Empty u k in with_new (taken_from w b b Empty) (Arrived x) (Cause.Ruled c) t (light (taken_from w b b Empty) (Arrived x) (Cause.Ruled c) refl)
-    keeps_full w v (Starves b x g) h m u = inv_ended w b x Cause.NoBuffer u refl
-    keeps_full w v (Offers from j x g r) h m u = inv_hand _ j Empty (inv_pushed w (home R x) from x u h r)
-    keeps_full w v (Refuses j x g r) h m u =
+    keeps_full : (w v : World K) → Move R w v → Whole R w → IsByRules R s w → ((j : ℕ) → OwesNone (hand w j)) → Inv w → Inv v
+    keeps_full w v (Receives b x None i e k q) h m o u = inv_taken w b b (Arrived x) (Owes (Packet x)) u k
+    keeps_full w v (Receives b x (Some c) i e k q) h m o u = let t = inv_taken w b b (Arrived x) Empty u k in with_new (taken_from w b b Empty) (Arrived x) (Cause.Ruled c) t (light (taken_from w b b Empty) (Arrived x) (Cause.Ruled c) refl)
+    keeps_full w v (Starves b x g) h m o u = inv_ended w b x Cause.NoBuffer u refl
+    keeps_full w v (Offers from j x g r) h m o u = inv_hand _ j Empty (inv_pushed w (home R x) from x u h r)
+    keeps_full w v (Refuses j x g r) h m o u =
+        let owed : is_received x ≡ true = subst OwesNone g (o j) in
         let made : IsMade R s x = subst (IsHandMade R s) g (m.hands j) in
         let far : home R x < pipe_count R = subst (HasHome R) g (h.homes j) in
         let p = refused (pipe w (home R x)) (refusal_of x (pipe w (home R x))) in
         let y = with_pipe w (home R x) p in
-        let t = inv_refused w u h x made far r in
-        let f = noted_full w u h x made far r in
+        let t = inv_refused w u h x owed made far r in
+        let f = noted_full w u h x owed made far r in
         with_new (with_hand y j Empty) x (full_of x) (inv_hand y j Empty t) (later_all y (with_hand y j Empty) (λ q. same_later (pipe y q)) (fate_of x (full_of x)) f)
-    keeps_full w v (Takes q j x ls s' i n e k) h m u = inv_taken (with_looks w ls) q j x _ (same_pipes w (with_looks w ls) refl refl u) k
-    keeps_full w v (Looks ls) h m u = same_pipes w (with_looks w ls) refl refl u
-    keeps_full w v (Works j x (Makes y) g k) h m u = inv_hand w j (Owes y) u
-    keeps_full w v (Works j x (Ends c) g k) h m u = inv_ended w j x c u (work_causes x c k)
-    keeps_full w v (Lacks j x g k) h m u = inv_ended w j x Cause.NoMemory u refl
-    keeps_full w v (Marks q from x i k r) h m u = inv_pushed w q from x u h r
-    keeps_full w v (Sends l j o i s' g) h m u = same_pipes w v refl refl u
-    keeps_full w v (Fails j o g) h m u = inv_ended w j (Out o) Cause.SendFailed u refl
-    keeps_full w v (Sweeps q j x ls s' i n e k) h m u =
+    keeps_full w v (Takes q j x ls s' i n e k) h m o u = inv_taken (with_looks w ls) q j x _ (same_pipes w (with_looks w ls) refl refl u) k
+    keeps_full w v (Looks ls) h m o u = same_pipes w (with_looks w ls) refl refl u
+    keeps_full w v (Works j x (Makes y) g k) h m o u = inv_hand w j (Owes y) u
+    keeps_full w v (Works j x (Ends c) g k) h m o u = inv_ended w j x c u (work_causes x c k)
+    keeps_full w v (Lacks j x g k) h m o u = inv_ended w j x Cause.NoMemory u refl
+    keeps_full w v (Marks q from x i k r) h m o u = inv_pushed w q from x u h r
+    keeps_full w v (Sends l j p i s' g) h m o u = same_pipes w v refl refl u
+    keeps_full w v (Fails j p g) h m o u = inv_ended w j (Out p) Cause.SendFailed u refl
+    keeps_full w v (Sweeps q j x ls s' i n e k) h m o u =
         let t = inv_taken (with_looks w ls) q j x Empty (same_pipes w (with_looks w ls) refl refl u) k in
         with_new (taken_from (with_looks w ls) q j Empty) x Cause.Closed t (light (taken_from (with_looks w ls) q j Empty) x Cause.Closed refl)
 
@@ -231,11 +239,12 @@ module _ {K : Kinds} where
     start_inv st = record {
       bounds = λ q i. (rw (st.empty q i, st.taken q) (omega arith));
       fulls = (let P : List (Fate K) → Type 0 = λ F. All (Met s) F in subst P (sym st.fates) (All-nil (Met s)));
+      sizes = λ q. refl;
     }
 
 pub keeps_full_law : (K : Kinds) → KeepsFull K
 keeps_full_law K R w r law =
     let P : World K → Type 0 = λ v. Sound R r.start law v × Inv R r.start law v in
-    let last = run_keeps R P (λ u v m i. (keeps_sound R r.start law u v m i.0, keeps_full R r.start law u v m i.0.whole i.0.whence.right i.1)) r.steps r.start (start_sound R r.start law r.is_start, start_inv R r.start law r.is_start) in
-    let Q : World K → Type 0 = λ v. IsFull R r.start v in
-    subst Q (sym r.by_steps) last.1.fulls
+    let last = run_keeps R P (λ u v m i. (keeps_sound R r.start law u v m i.0, keeps_full R r.start law u v m i.0.whole i.0.whence.right i.0.whence.owes i.1)) r.steps r.start (start_sound R r.start law r.is_start, start_inv R r.start law r.is_start) in
+    let inv = subst (Inv R r.start law) (sym r.by_steps) last.1 in
+    record { drops = inv.fulls; within = inv.bounds; capacities = inv.sizes }

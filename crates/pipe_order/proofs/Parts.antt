@@ -14,7 +14,7 @@ use Rattle.pipe_order.specs.World.{Empty, Hand, World, hand, pipe, with_hand, wi
 
 -- a list's element after one was replaced
 module _ {X : Type 0} (xs : List X) (j : ℕ) (x d : X) where
-  at_cases : (i : ℕ) → (get_or (set xs j x) i d ≡ get_or xs i d) ⊎ ((i ≡ j) × (get_or (set xs j x) i d ≡ x))
+  pub at_cases : (i : ℕ) → (get_or (set xs j x) i d ≡ get_or xs i d) ⊎ ((i ≡ j) × (get_or (set xs j x) i d ≡ x))
   at_cases i = go (cases_eq i j) (cases_lt j (length xs))
     where
       go : (i ≡ j) ⊎ (i ≡ j → ⊥) → (j < length xs) ⊎ (length xs ≤ j) → (get_or (set xs j x) i d ≡ get_or xs i d) ⊎ ((i ≡ j) × (get_or (set xs j x) i d ≡ x))

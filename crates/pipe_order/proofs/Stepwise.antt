@@ -5,7 +5,7 @@ use Rattle.pipe_order.specs.Rules.{Rules}
 use Rattle.pipe_order.specs.World.{World}
 use Rattle.pipe_order.specs.Step.{Step}
 use Rattle.pipe_order.specs.Next.{next}
-use Rattle.pipe_order.specs.Run.{or_same, run, skip_if, skipped_from, IsStepwise, RunsStepwise}
+use Rattle.pipe_order.specs.Run.{or_same, run, skip_if, skipped_from, RunsStepwise}
 
 module _ {K : Kinds} (R : Rules K) (s : Step) (after : List Step) where
   world : (before : List Step) (w : World K) → run R w (before ++ s ∷ after) ≡ run R (or_same (run R w before) (next R (run R w before) s)) after

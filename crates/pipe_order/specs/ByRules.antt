@@ -1,5 +1,5 @@
 -- What an item or a fate comes from.
-use Rattle.std.specs.Prelude.{◌≡◌, ◌⊎◌, ◌<◌, ℕ, true, false, None}
+use Rattle.std.specs.Prelude.{◌≡◌, ◌⊎◌, ◌<◌, ℕ, true, false, None, [], slice_index_or}
 use Rattle.std.specs.List.{All}
 use Rattle.pipe_order.specs.Kinds.{Kinds}
 use Rattle.pipe_order.specs.Item.{Arrival, Outgoing, Item, Arrived, Packet, Asked, Out, Close, End}
@@ -58,6 +58,7 @@ pub record IsByRules {K : Kinds} (R : Rules K) (s w : World K) : Type 0 where
   pub pipes : (q : ℕ) → All (IsMade R s) (items (pipe w q).history)
   pub fates : All (IsCaused R s) w.fates
   pub homes : (q : ℕ) → All (IsHome R q) (items (pipe w q).history)
+  pub sent : (l : ℕ) → All (λ o. IsMade R s (Out o)) (slice_index_or w.sent l [])
 
 abbrev pub KeepsRules : Kinds → Type 0
 KeepsRules K = (R : Rules K) (w : World K) (r : Reached R w) → IsLawfulFor R w r → IsByRules R r.start w

@@ -3,7 +3,7 @@ use Rattle.std.specs.Prelude.{◌≡◌, ℕ, Bool, true, false, ◌&&◌, ◌==
 use Rattle.pipe_order.specs.Kinds.{Kinds}
 use Rattle.pipe_order.specs.Item.{Arrived}
 use Rattle.pipe_order.specs.Worker.{Receiver, Processor, Slow, Forwarder, Controller, Of, High}
-use Rattle.pipe_order.specs.Pipe.{Entry, Pipe, empty_pipe}
+use Rattle.pipe_order.specs.Pipe.{Entry, empty_pipe}
 use Rattle.pipe_order.specs.Rules.{Rules, Sends, Asks, Replies, IsLawful}
 use Rattle.pipe_order.specs.World.{World, Cause, Fate}
 use Rattle.pipe_order.specs.Step.{Step}
