@@ -126,17 +126,18 @@ Answers =
     (numbers_sent (run (rules false) one_faulty answering) 1 ≡ 1 ∷ []) × (counts false (run (rules false) one_faulty answering) ≡ 1 ∷ 0 ∷ 1 ∷ 0 ∷ []) ×
     (places (rules false) 1 1 (run (rules false) one_faulty (arrive ++ process 0)) ≡ InPipe Slow ∷ [])
 
--- the urgent packet, which arrived second, leaves first: without a look at the high pipe the low one isn't taken from, and
--- the high one isn't seen empty while it holds a packet
+-- the urgent packet, which arrived second, leaves first: without a look at the high pipe the low one isn't taken from, the
+-- high one isn't seen empty while it holds a packet, and each take uses the look up
 abbrev both_bands : List Step
 both_bands =
-    arrive ++ arrive ++ process 0 ++ process 0 ++ (Step.Take (Of (Forwarder 2)) ∷ Step.Look 2 ∷ Step.Take (High 2) ∷ Step.Send 2 true ∷ Step.Look 2 ∷ []) ++ forward 2 true
+    arrive ++ arrive ++ arrive ++ process 0 ++ process 0 ++ process 0 ++
+    (Step.Take (Of (Forwarder 2)) ∷ Step.Look 2 ∷ Step.Take (High 2) ∷ Step.Send 2 true ∷ Step.Look 2 ∷ []) ++ forward 2 true ++ forward 2 true
 
 abbrev two_urgent : World samples
-two_urgent = begun true 8 (arrived 1 plain ∷ arrived 2 expedited ∷ [])
+two_urgent = begun true 8 (arrived 1 plain ∷ arrived 2 expedited ∷ arrived 3 plain ∷ [])
 
 abbrev pub TwoBands : Type 0
-TwoBands = (skipped_from (rules true) two_urgent 0 both_bands ≡ 10 ∷ 11 ∷ []) × (numbers_sent (run (rules true) two_urgent both_bands) 2 ≡ 2 ∷ 1 ∷ [])
+TwoBands = (skipped_from (rules true) two_urgent 0 both_bands ≡ 15 ∷ 16 ∷ 22 ∷ 23 ∷ []) × (numbers_sent (run (rules true) two_urgent both_bands) 2 ≡ 2 ∷ 1 ∷ [])
 
 -- want of a buffer and want of memory
 abbrev lacking : World samples
