@@ -19,7 +19,7 @@ use Rattle.pipe_order.proofs.Thread.{adds, on_way, has, line}
 use Rattle.pipe_order.proofs.Keeps.{Inv, keeps, Good, Fine, apart_only}
 use Rattle.pipe_order.proofs.Lists.{filter_le}
 
-both_same : (b c : Bool) → both b c ≡ true → c ≡ b
+pub both_same : (b c : Bool) → both b c ≡ true → c ≡ b
 both_same true c h = h
 both_same false true h = cc
 both_same false false h = refl

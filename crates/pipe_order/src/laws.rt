@@ -12,6 +12,7 @@ ghost use Rattle.pipe_order.specs.Once.{KeepsOnce};
 ghost use Rattle.pipe_order.specs.Close.{KeepsClose};
 ghost use Rattle.pipe_order.specs.Sent.{KeepsSent};
 ghost use Rattle.pipe_order.specs.Totals.{KeepsTotals};
+ghost use Rattle.pipe_order.specs.Settled.{Settles};
 ghost use Rattle.pipe_order.specs.Example.{Lawful, FullQueue, ClosedLink, TwoFlows, Answers, TwoBands, Lacks, MarksOnce};
 
 /// The first world is a start.
@@ -76,4 +77,10 @@ pub fn examples()
     ensures two_bands { TwoBands }
     ensures lacks { Lacks }
     ensures marks_once { MarksOnce }
+{}
+
+/// Of workers that keep their laws over pipes that hold nothing any more: each forwarder handed on, of each link and flow, what
+/// the sequential router sends, in order, less what was dropped.
+pub fn settles_in_order<D, P, Q, R, K>()
+    ensures law { Settles (record { Datagram = D; Parcel = P; Problem = Q; Reason = R; Key = K }) }
 {}
