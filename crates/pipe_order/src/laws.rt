@@ -13,6 +13,7 @@ ghost use Rattle.pipe_order.specs.Close.{KeepsClose};
 ghost use Rattle.pipe_order.specs.Sent.{KeepsSent};
 ghost use Rattle.pipe_order.specs.Totals.{KeepsTotals};
 ghost use Rattle.pipe_order.specs.Settled.{Settles};
+ghost use Rattle.pipe_order.specs.Counted.{CountsOnce};
 ghost use Rattle.pipe_order.specs.Example.{Lawful, FullQueue, ClosedLink, TwoFlows, Answers, TwoBands, Lacks, MarksOnce};
 
 /// The first world is a start.
@@ -83,4 +84,9 @@ pub fn examples()
 /// the sequential router sends, in order, less what was dropped.
 pub fn settles_in_order<D, P, Q, R, K>()
     ensures law { Settles (record { Datagram = D; Parcel = P; Problem = Q; Reason = R; Key = K }) }
+{}
+
+/// Of such workers each packet that a receiver numbered was handed to a sink or dropped, once.
+pub fn counts_once<D, P, Q, R, K>()
+    ensures law { CountsOnce (record { Datagram = D; Parcel = P; Problem = Q; Reason = R; Key = K }) }
 {}
