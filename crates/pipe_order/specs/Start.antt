@@ -73,3 +73,7 @@ module _ {K : Kinds} where
 
 abbrev pub Begins : Kinds → Type 0
 Begins K = (R : Rules K) (capacity : ℕ) (sources : List (Pipe K)) → length sources ≡ R.links → AreSources 0 sources → IsStart R (first_world R capacity sources)
+
+-- Some steps more lead on from the same start.
+abbrev pub ReachesOn : Kinds → Type 0
+ReachesOn K = (R : Rules K) (w : World K) (ss : List Step) (r : Reached R w) → (q : Reached R (run R w ss)) × (q.start ≡ r.start) × (q.steps ≡ r.steps ++ ss)

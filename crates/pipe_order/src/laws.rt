@@ -3,7 +3,7 @@
 //! keys of flows.
 
 ghost use Rattle.pipe_order.specs.Run.{RunsStepwise};
-ghost use Rattle.pipe_order.specs.Start.{Begins};
+ghost use Rattle.pipe_order.specs.Start.{Begins, ReachesOn};
 ghost use Rattle.pipe_order.specs.Order.{KeepsOrder};
 ghost use Rattle.pipe_order.specs.ByRules.{KeepsRules};
 ghost use Rattle.pipe_order.specs.Place.{KeepsPlace};
@@ -19,6 +19,11 @@ ghost use Rattle.pipe_order.specs.Example.{Lawful, FullQueue, ClosedLink, TwoFlo
 /// The first world is a start.
 pub fn begins<D, P, Q, R, K>()
     ensures law { Begins (record { Datagram = D; Parcel = P; Problem = Q; Reason = R; Key = K }) }
+{}
+
+/// Some steps more lead on from the same start.
+pub fn reaches_on<D, P, Q, R, K>()
+    ensures law { ReachesOn (record { Datagram = D; Parcel = P; Problem = Q; Reason = R; Key = K }) }
 {}
 
 /// After any list of steps the packets of each link and flow leave in the order of their arrival.
