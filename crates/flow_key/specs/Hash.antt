@@ -1,5 +1,5 @@
 -- The processor of a flow.
-use Rattle.std.specs.Prelude.{ℕ, ◌*◌, ◌%◌, ◌^◌, bit_xor, List, [], ◌∷◌, ◌++◌}
+use Rattle.std.specs.Prelude.{ℕ, ◌*◌, ◌%◌, ◌^◌, bit_xor, List, ◌∷◌, ◌++◌}
 use Rattle.std.specs.List.{fold}
 use Rattle.byteorder.specs.Endian.{big_bytes}
 use Rattle.flow_key.specs.Flow.{Flow}

@@ -3,3 +3,4 @@ mod SegmentLemmas
 mod PlaceLemmas
 mod WritingLemmas
 mod InPlaceLemmas
+mod ReversingLemmas

@@ -255,6 +255,7 @@ hops_in_is ss lengths (suc (suc (suc k))) sizes few = absurd (omega arith)
 -- the current hop is one of the hops of the current segment
 pub record InCurrentSegment (p : Path) : Type 0 where
   pub few : p.current_info < 3
+  pub there : p.current_info < segment_count p.lengths
   pub behind : first_hop p.lengths p.current_info ≤ p.current_hop
   pub inside : p.current_hop < first_hop p.lengths p.current_info + slice_index p.lengths p.current_info
   pub size : hops_in (segments p) p.current_info ≡ slice_index p.lengths p.current_info
@@ -267,6 +268,7 @@ in_current_segment p =
     let info-lt : p.current_info < 3 = omega (arith, its.there, info-is, sizes.count, (few_segments p).1) in
     record {
       few = info-lt;
+      there = rw info-is its.there;
       behind = rw info-is its.behind;
       inside = rw info-is its.inside;
       size = hops_in_is (segments p) p.lengths p.current_info sizes info-lt;

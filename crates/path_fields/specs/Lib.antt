@@ -2,3 +2,4 @@ pub mod Fields
 pub mod Path
 pub mod Fault
 pub mod InPlace
+pub mod Reversed

@@ -2,6 +2,7 @@
 
 ghost use Rattle.std.specs.Prelude.{◌≡◌, ◌+◌, ◌<◌, ◌≤◌, slice_index};
 ghost use Rattle.scion_packet.specs.Lengths.{are_lengths, first_hop, hop_count, segment_count, segment_of};
+ghost use Rattle.path_fields.specs.Reversed.{reversed_lengths};
 
 /// Whether a path may have these segment lengths: at least one hop, only zeros after a zero length,
 /// and at most 64 hops.
@@ -66,5 +67,16 @@ pub(crate) fn end_of(lengths: &[u8; 3], segment: u8) -> usize
         0 => usize::from(lengths[0]),
         1 => usize::from(lengths[0]) + usize::from(lengths[1]),
         _ => hop_count(lengths),
+    }
+}
+
+/// The lengths of the same path travelled back: those that are used, in reverse order.
+pub(crate) fn reversed_lengths(lengths: &[u8; 3]) -> [u8; 3]
+    ensures { result ≡ reversed_lengths lengths.now }
+{
+    match segment_count(lengths) {
+        1 => [lengths[0], 0, 0],
+        2 => [lengths[1], lengths[0], 0],
+        _ => [lengths[2], lengths[1], lengths[0]],
     }
 }

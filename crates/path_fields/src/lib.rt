@@ -15,6 +15,7 @@ mod meta;
 mod moves;
 mod path;
 mod reading;
+mod reversing;
 #[cfg(test)]
 mod tests;
 mod writing;
@@ -27,4 +28,5 @@ pub use meta::{Meta, check_path, read_meta};
 pub use moves::advance;
 pub use path::Path;
 pub use reading::{read_hop, read_info, read_path};
+pub use reversing::reversed;
 pub use writing::write_path;

@@ -1,6 +1,6 @@
 use crate::{
     Hop, Info, Meta, NoRoom, PathEnd, PathFault, advance, check_path, lawful, read_hop, read_info,
-    read_meta, read_path, set_cursor, set_seg_id, write_path,
+    read_meta, read_path, reversed, set_cursor, set_seg_id, write_path,
 };
 use std::test::Fail;
 
@@ -132,4 +132,67 @@ fn sets_fields_in_place(rt: HostRuntime) {
     chained[6] = 0xd2;
     chained[7] = 0xf4;
     assert_eq!(rt; path, chained);
+}
+
+#[test]
+fn turns_a_path_back(rt: HostRuntime) -> Result<(), Fail> {
+    let mut back = reversed(&read_path(&PATH)?);
+    assert_eq!(rt; (back.current_info, back.current_hop), (0, 1));
+    // one hop on, as the way back of an answer that leaves by the link by which its packet came
+    assert_eq!(rt; advance(&mut back), Ok(()));
+    let mut written = [0; 48];
+    assert_eq!(rt; write_path(&back, &mut written), Ok(48));
+    let way_back = *b"\x02\x00\x30\x00\x00\x00\x12\x34\x65\x00\x00\x00\
+        \x00\x3f\x00\x12\x00\x00\xb0\xb1\xb2\xb3\xb4\xb5\
+        \x00\x3f\x00\x01\x00\x02\xc0\xc1\xc2\xc3\xc4\xc5\
+        \x00\x3f\x00\x00\x00\x11\xa0\xa1\xa2\xa3\xa4\xa5";
+    assert_eq!(rt; written, way_back);
+    Ok(())
+}
+
+#[test]
+fn turns_three_segments_back(rt: HostRuntime) -> Result<(), Fail> {
+    // one hop, two and one, the cursor at the third; every flag and every reserved bit is set somewhere
+    let path = *b"\x42\xa8\x10\x81\xfd\xaa\x10\x11\x01\x02\x03\x04\
+        \xfc\xbb\x20\x21\x05\x06\x07\x08\x01\x00\x30\x31\x09\x0a\x0b\x0c\
+        \xff\x3f\x00\x50\x00\x60\x00\x01\x02\x03\x04\x05\
+        \xfe\x40\x01\x51\x01\x61\x10\x11\x12\x13\x14\x15\
+        \xfd\x41\x02\x52\x02\x62\x20\x21\x22\x23\x24\x25\
+        \xfc\x42\x03\x53\x03\x63\x30\x31\x32\x33\x34\x35";
+    let way_back = *b"\x41\x00\x10\x81\x00\x00\x30\x31\x09\x0a\x0b\x0c\
+        \x01\x00\x20\x21\x05\x06\x07\x08\x00\x00\x10\x11\x01\x02\x03\x04\
+        \x00\x42\x03\x53\x03\x63\x30\x31\x32\x33\x34\x35\
+        \x00\x41\x02\x52\x02\x62\x20\x21\x22\x23\x24\x25\
+        \x00\x40\x01\x51\x01\x61\x10\x11\x12\x13\x14\x15\
+        \x00\x3f\x00\x50\x00\x60\x00\x01\x02\x03\x04\x05";
+    let mut written = [0; 76];
+    assert_eq!(rt;
+        write_path(&reversed(&read_path(&path)?), &mut written),
+        Ok(76)
+    );
+    assert_eq!(rt; written, way_back);
+    Ok(())
+}
+
+#[test]
+fn tells_the_end_of_a_segment(rt: HostRuntime) -> Result<(), Fail> {
+    // one hop, two and one: each hop with its segment, whether it is the last there, and whether another
+    // segment follows
+    let places = [
+        (0x00, true, true),
+        (0x41, false, true),
+        (0x42, true, true),
+        (0x83, true, false),
+    ];
+    for (cursor, last, followed) in places {
+        let mut bytes = [0; 76];
+        bytes[..4].copy_from_slice(&[cursor, 0x00, 0x10, 0x81]);
+        let path = read_path(&bytes)?;
+        assert_eq!(rt;
+            (path.is_last_of_segment(), path.is_followed()),
+            (last, followed),
+            "{cursor:x}"
+        );
+    }
+    Ok(())
 }

@@ -41,7 +41,7 @@ fn behind(kind: u8, place: UpperPlace, bytes: &[u8]) -> Option<UpperPlace>
 /// Where the upper layer begins in the bytes behind the header, whose first ones are of the protocol
 /// `next_header`: at most one hop-by-hop extension is passed over, and then at most one end-to-end
 /// extension. There is none where one of these isn't wholly there
-/// (draft-dekater-scion-dataplane, "SCION Extension Header").
+/// (draft-dekater-scion-dataplane, "Extension Headers").
 pub fn upper_place(next_header: u8, bytes: &[u8]) -> Option<UpperPlace>
     ensures layer { option_map (layer_at bytes.now) result ≡ upper_layer next_header bytes.now }
     ensures inside { IfSome result (λ p. p.at ≤ length bytes.now) }

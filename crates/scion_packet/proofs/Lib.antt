@@ -9,3 +9,4 @@ pub mod HeaderSpelled
 pub mod HeaderBack
 pub mod PacketLaws
 pub mod Offsets
+pub mod Reversing

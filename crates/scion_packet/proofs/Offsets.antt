@@ -1,5 +1,5 @@
 -- The info field and the hop field at a place stand at one offset each.
-use Rattle.std.proofs.Common.{◌≡◌, ◌≢◌, ◌==◌, ◌&&◌, not, Bool, true, false, ltb, ◌<◌, ◌≤◌, ◌-◌, ℕ, zero, suc, ◌+◌, ◌*◌, None, List, [], ◌∷◌, length, map, refl, sym, ap, subst, ◌∙◌, arith, inl, inr, slice_index_or, slice_index}
+use Rattle.std.proofs.Common.{◌≡◌, ◌≢◌, ◌==◌, true, false, ltb, ◌<◌, ◌-◌, ℕ, zero, suc, ◌+◌, None, List, [], ◌∷◌, length, refl, sym, ap, subst, ◌∙◌, arith, inl, inr, slice_index_or, slice_index}
 use Rattle.std.proofs.lemmas.List.FromFn.{get_or-map-range_with_len, length-map-range_with_len}
 use Rattle.std.proofs.lemmas.Bool.{and_right, cases_eq, cases_lt, eq-eqb, le-ltb, lt-ltb, ne_eqb}
 use Rattle.field_rows.specs.Place.{IsBytes}
@@ -22,7 +22,7 @@ hop_stands path lengths k i below inside =
     ap (λ (s : Segment). slice_index_or s.hops i no_hop) (segment_stands path lengths k i below)
     ∙ get_or-map-range_with_len (λ hop. hop_at path (hop_place lengths hop)) (first_hop lengths k) (slice_index lengths k) i (first_hop lengths k + i) no_hop inside refl
 
-hops_in_is : (ss : List Segment) (k : ℕ) → hops_in ss k ≡ length (slice_index_or ss k no_segment).hops
+pub hops_in_is : (ss : List Segment) (k : ℕ) → hops_in ss k ≡ length (slice_index_or ss k no_segment).hops
 hops_in_is [] k = refl
 hops_in_is (s ∷ ss) zero = refl
 hops_in_is (s ∷ ss) (suc k) = hops_in_is ss k

@@ -1,4 +1,4 @@
--- What stands behind the extension headers of a packet (draft-dekater-scion-dataplane, "SCION Extension Header").
+-- What stands behind the extension headers of a packet (draft-dekater-scion-dataplane, "Extension Headers").
 use Rattle.std.specs.Prelude.{ℕ, ◌+◌, ◌*◌, ◌==◌, nat_le, List, length, drop, slice_index, Option, Some, None, if◌then◌else◌}
 
 -- a protocol by its number, and the bytes from its first one to the end of the datagram

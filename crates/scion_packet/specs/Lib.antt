@@ -4,6 +4,7 @@ pub mod Lengths
 pub mod Path
 pub mod Places
 pub mod Extensions
+pub mod Reversed
 pub mod Packet
 pub mod Laws
 pub mod Example

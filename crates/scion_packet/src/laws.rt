@@ -1,6 +1,7 @@
 //! The laws of reading and spelling: nothing here runs.
 
 ghost use Rattle.scion_packet.specs.Laws.{HeaderLaws, OffsetLaws, PacketLaws, PathLaws, PathWrittenOver};
+ghost use Rattle.scion_packet.specs.Reversed.{ReversedLaws};
 
 /// A datagram that passes the header's tests begins with the header that is read from it; one that
 /// begins with any header passes them, and begins with no other.
@@ -30,4 +31,10 @@ pub fn offset_laws()
 /// rest of it as it was.
 pub fn path_written_over()
     ensures { PathWrittenOver }
+{}
+
+/// The way back over a path meets the same hops in the other order: where a hop follows another, the
+/// other follows it on the way back; and the hop with which the path begins is the last one there.
+pub fn reversed_laws()
+    ensures { ReversedLaws }
 {}

@@ -5,4 +5,6 @@
 
 mod laws;
 
-pub use laws::{header_laws, offset_laws, packet_laws, path_laws, path_written_over};
+pub use laws::{
+    header_laws, offset_laws, packet_laws, path_laws, path_written_over, reversed_laws,
+};

@@ -1,4 +1,3 @@
-use Rattle.std.proofs.Common.{refl}
 use Rattle.path_fields.proofs.PlaceLemmas.{last_is}
 use Rattle.path_fields.proofs.path.Path.is_last_of_segment.Goals as goal
 
