@@ -1,5 +1,5 @@
 -- The info field and the hop field at a place stand at one offset each.
-use Rattle.std.proofs.Common.{◌≡◌, ◌≢◌, ◌==◌, true, false, ltb, ◌<◌, ◌-◌, ℕ, zero, suc, ◌+◌, None, List, [], ◌∷◌, length, refl, sym, ap, subst, ◌∙◌, arith, inl, inr, slice_index_or, slice_index}
+use Rattle.std.proofs.Common.{◌≤◌, ◌≡◌, ◌≢◌, ◌==◌, true, false, ltb, ◌<◌, ◌-◌, ℕ, zero, suc, ◌+◌, None, List, [], ◌∷◌, length, refl, sym, ap, subst, ◌∙◌, arith, inl, inr, slice_index_or, slice_index}
 use Rattle.std.proofs.lemmas.List.FromFn.{get_or-map-range_with_len, length-map-range_with_len}
 use Rattle.std.proofs.lemmas.Bool.{and_right, cases_eq, cases_lt, eq-eqb, le-ltb, lt-ltb, ne_eqb}
 use Rattle.field_rows.specs.Place.{IsBytes}

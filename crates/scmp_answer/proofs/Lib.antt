@@ -1,0 +1,2 @@
+pub mod ChecksumLemmas
+pub mod MessageLemmas

@@ -1,0 +1,30 @@
+use Rattle.std.proofs.Common.{◌≡◌, ◌*◌, ◌≤◌, ◌-◌, ℕ, length, sym, ap, ◌∙◌, arith}
+use Rattle.path_fields.specs.Path.{fields_of}
+use Rattle.process_packet.proofs.FrontLemmas.{path_between, path_lies}
+use Rattle.scion_packet.specs.Path.{path_fault, path_of}
+use Rattle.scmp_answer.proofs.arriving.Arriving.behind.Goals as goal
+
+pub returns-clause-path : goal.returns-clause-path
+returns-clause-path c =
+    let bytes = c.args.bytes.now in
+    let lies = path_lies bytes _ c.requires.are c.requires.sound c.requires.header in
+    let begin = c.front_len-begin.ensures ∙ lies.begin in
+    let end = ap (λ (n : ℕ). 4 * n) c.from-payload.ensures ∙ lies.end in
+    c.in-Ok.ensures.path ∙ ap path_of (path_between bytes _ _ begin end)
+
+pub returns-clause-inside : goal.returns-clause-inside
+returns-clause-inside c =
+    let bytes = c.args.bytes.now in
+    let lies = path_lies bytes _ c.requires.are c.requires.sound c.requires.header in
+    omega (arith, lies.end, lies.inside, c.from-payload.ensures)
+
+pub unreachable-requires : goal.unreachable-requires
+unreachable-requires c =
+    let bytes = c.args.bytes.now in
+    let lies = path_lies bytes _ c.requires.are c.requires.sound c.requires.header in
+    let begin = c.front_len-begin.ensures ∙ lies.begin in
+    let end = ap (λ (n : ℕ). 4 * n) c.from-payload.ensures ∙ lies.end in
+    let none = c.requires.path in
+    let same = ap path_fault (path_between bytes _ _ begin end) in
+    let some = c.in_default.ensures.fault in
+    ?
