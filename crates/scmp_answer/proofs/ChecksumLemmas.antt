@@ -1,9 +1,9 @@
 -- A sum of words in one's complement is the sum of the words, with its carries added at the low end.
-use Rattle.std.proofs.Common.{◌≡◌, ◌≤◌, ◌<◌, ℕ, zero, suc, ◌+◌, ◌*◌, ◌-◌, ◌%◌, ◌/◌, List, [], ◌∷◌, ◌++◌, length, get_or, slice_index, drop, sum, refl, sym, subst, ap, ◌∙◌, arith, inl, inr, length-drop}
+use Rattle.std.proofs.Common.{◌≡◌, ◌≤◌, ◌<◌, ℕ, zero, suc, ◌+◌, ◌*◌, ◌-◌, ◌%◌, ◌/◌, List, [], ◌∷◌, ◌++◌, length, get_or, slice_index, drop, sum, refl, sym, subst, ap, ◌∙◌, arith, inl, inr, length-append, length-drop}
 use Rattle.std.proofs.lemmas.Bool.{cases_eq, cases_lt, lt-ltb, le-ltb, cond-true, cond-false}
 use Rattle.std.proofs.lemmas.List.Sums.{sum_by-cons}
 use Rattle.std.proofs.lemmas.List.{drop_more, drop-drop}
-use Rattle.byteorder.specs.Endian.{big_number}
+use Rattle.byteorder.specs.Endian.{big_bytes, big_number}
 use Rattle.field_rows.specs.Place.{IsBytes, number_at}
 use Rattle.field_rows.specs.Row.{rows}
 use Rattle.scmp_answer.specs.Checksum.{Carried, checksum, ones_complement_sum, plus, pseudo_table, words}
@@ -100,7 +100,7 @@ bytes-append [] b are-a are-b i = are-b i
 bytes-append (x ∷ a) b are-a are-b zero = are-a 0
 bytes-append (x ∷ a) b are-a are-b (suc i) = bytes-append a b (λ j. are-a (suc j)) are-b i
 
-pseudo_bytes : (n : ℕ) (m : List ℕ) → IsBytes m → IsBytes (rows (pseudo_table n) ++ m)
+pub pseudo_bytes : (n : ℕ) (m : List ℕ) → IsBytes m → IsBytes (rows (pseudo_table n) ++ m)
 pseudo_bytes n m are =
     let b0 : n / 16777216 % 256 < 256 = omega arith in
     let b1 : n / 65536 % 256 < 256 = omega arith in
@@ -128,3 +128,43 @@ all_summed a m even short =
     let pseudo : sum (words (rows (pseudo_table n) ++ m)) ≡ n + 202 + sum (words m) =
     omega (arith, sum-cons a0 (a1 ∷ 0 ∷ 202 ∷ words m), sum-cons a1 (0 ∷ 202 ∷ words m), sum-cons 0 (202 ∷ words m), sum-cons 202 (words m)) in
     words-append k a (rows (pseudo_table n) ++ m) halves ∙ omega (arith, pseudo)
+
+-- ---- a checksum that is right
+
+-- the checksum stands behind the first two bytes of the message
+pub message_sum : (f t : List ℕ) (c : ℕ) → length f ≡ 2 → c < 65536 → sum (words (f ++ (big_bytes 2 c ++ t))) ≡ sum (words f) + (c + sum (words t))
+message_sum f t c two fits =
+    let rest = big_bytes 2 c ++ t in
+    let word : c / 256 % 256 * 256 + c % 256 ≡ c = omega arith in
+    let behind : sum (words rest) ≡ c + sum (words t) = sum-cons (c / 256 % 256 * 256 + c % 256) (words t) ∙ ap (λ (n : ℕ). n + sum (words t)) word in
+    omega (arith, words-append 1 f rest two, behind)
+
+all_ones : (d e total : ℕ) → Carried d total → Carried e (total + (65535 - d)) → e ≡ 65535
+all_ones d e total before after =
+    let k = before.carries in
+    let m = after.carries in
+    elim (cases_eq e 0) [
+      | inl none ↦ let zero-is : total + (65535 - d) ≡ 0 = after.zero_of_zero none in absurd (omega (arith, zero-is, before.parts, before.fits))
+      | inr some ↦ omega (arith, some, before.parts, before.fits, after.parts, after.fits)
+    ]
+
+pub verifies : (a f t : List ℕ) (c : ℕ) → length a % 2 ≡ 0 → length f ≡ 2 → length f + 2 + length t ≤ 1232
+    → (let m0 = f ++ (big_bytes 2 0 ++ t) in let mc = f ++ (big_bytes 2 c ++ t) in
+      IsBytes (a ++ (rows (pseudo_table (length m0)) ++ m0)) → IsBytes (a ++ (rows (pseudo_table (length mc)) ++ mc))
+      → c ≡ checksum (a ++ (rows (pseudo_table (length m0)) ++ m0))
+      → ones_complement_sum (words (a ++ (rows (pseudo_table (length mc)) ++ mc))) ≡ 65535)
+verifies a f t c even two short are-0 are-c c-is =
+    let m0 = f ++ (big_bytes 2 0 ++ t) in
+    let mc = f ++ (big_bytes 2 c ++ t) in
+    let all0 = a ++ (rows (pseudo_table (length m0)) ++ m0) in
+    let allc = a ++ (rows (pseudo_table (length mc)) ++ mc) in
+    let d = ones_complement_sum (words all0) in
+    let before = sum_carried all0 are-0 in
+    let fits : c < 65536 = omega (arith, c-is) in
+    let len0 : length m0 ≡ length f + (2 + length t) = omega (arith, length-append f (big_bytes 2 0 ++ t)) in
+    let lenc : length mc ≡ length f + (2 + length t) = omega (arith, length-append f (big_bytes 2 c ++ t)) in
+    let s0 = all_summed a m0 even (omega (arith, len0, short)) in
+    let sc = all_summed a mc even (omega (arith, lenc, short)) in
+    let more : sum (words allc) ≡ sum (words all0) + (65535 - d) =
+    omega (arith, s0, sc, len0, lenc, message_sum f t 0 two (omega arith), message_sum f t c two fits, c-is) in
+    all_ones d (ones_complement_sum (words allc)) (sum (words all0)) before (subst (λ (n : ℕ). Carried (ones_complement_sum (words allc)) n) more (sum_carried allc are-c))

@@ -49,3 +49,9 @@ pub record IsGood (p : Packet) : Type 0 where
 abbrev pub IfSent : Reply → (Packet → Type 0) → Type 0
 IfSent (Sent link to p) P = P p
 IfSent (Dropped cause) P = Unit {0}
+
+-- The first bytes of the buffer are the answer.
+pub record IsWritten (p : Packet) (len : ℕ) (buffer : List ℕ) : Type 0 where
+  pub whole : len ≡ length (spelling p)
+  pub text : take len buffer ≡ spelling p
+  pub good : IsGood p

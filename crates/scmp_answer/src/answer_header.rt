@@ -23,6 +23,15 @@ fn host_of(ip: Ip) -> Host
     }
 }
 
+/// How many bytes the host of an address has.
+pub(crate) fn host_len(address: &Address) -> usize
+    ensures len { result ≡ length (host_bytes address.now.host) }
+    ensures fours { result ≡ 4 * (result / 4) }
+    ensures small { result ≤ 16 }
+{
+    4 * (usize::from(address.host.length_code()) + 1)
+}
+
 /// The address of this router within its AS.
 pub(crate) fn local_address(config: &Config) -> Address
     ensures { host_address result ≡ local_address config.now }

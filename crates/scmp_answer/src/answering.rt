@@ -1,32 +1,34 @@
 //! The answer to a datagram.
 
-ghost use Rattle.std.specs.Prelude.{◌≡◌, ◌+◌, ◌≤◌, ◌++◌, None, IfOk, OnErr, IsTrue, length, take};
-ghost use Rattle.field_rows.specs.Place.{Puts};
+ghost use Rattle.std.specs.Prelude.{◌≡◌, ◌≤◌, true, None, Some, IfOk, OnErr, length, if◌then◌else◌};
 ghost use Rattle.path_fields.specs.Path.{fields_of};
 ghost use Rattle.scion_header.specs.Address.{host_address};
 ghost use Rattle.scion_header.specs.Header.{header_fields};
-ghost use Rattle.scion_packet.specs.Header.{front_len, header_text};
-ghost use Rattle.scion_packet.specs.Packet.{first_fault, packet_of, spelling};
-ghost use Rattle.scion_packet.specs.Path.{path_text};
+ghost use Rattle.scion_packet.specs.Packet.{Packet, first_fault};
 ghost use Rattle.scmp_answer.specs.Message.{longest};
-ghost use Rattle.scmp_answer.specs.Outcome.{IfSent, IsGood, is_sent, outcome, outcome_in, outcome_of, used};
+ghost use Rattle.scmp_answer.specs.Outcome.{IfSent, IsGood, IsWritten, is_sent, outcome, outcome_in, outcome_of, used};
 ghost use Rattle.scmp_answer.specs.Reply.{answer_packet, is_left_unanswered, local_address, reply};
+ghost use Rattle.scmp_answer.specs.WayBack.{is_external};
 
-use crate::answer_header::{answer_header, local_address};
+use crate::answer_header::{answer_header, host_len, local_address};
 use crate::arriving::Arriving;
-use crate::checksum::checksum;
-use crate::message::{fixed_len, quote, write_fixed};
+use crate::message::{fixed_len, quote};
 use crate::outcome::{AnswerLen, Answered};
 use crate::way_back::{has_no_way_back, way_back};
-use field_rows::{put, put_u16};
-use path_fields::{Path, write_path};
+use crate::writing::{path_len, seal, write_front, write_message};
+use path_fields::Path;
 use process_packet::{Arrival, Cause, Config, NoMemory, Problem, Underlay};
-use scion_header::{Address, Header, Upper, upper_layer, write_header};
+use scion_header::{Address, Header, Upper, lawful, upper_layer};
 use std::alloc::Global;
+
+/// The most bytes that an answer has.
+const LONGEST: usize = 1232;
 
 /// Whether the packet is an SCMP error message, or can't be told from one, and the answer would be
 /// another.
-fn is_left_unanswered(header: &Header, payload: &[u8], problem: &Problem) -> bool {
+fn is_left_unanswered(header: &Header, payload: &[u8], problem: &Problem) -> bool
+    ensures { (p : Packet) → header_fields header.now ≡ p.header → payload.now ≡ p.payload → result ≡ is_left_unanswered p problem.now }
+{
     if problem.kind == 131 {
         return false;
     }
@@ -37,47 +39,36 @@ fn is_left_unanswered(header: &Header, payload: &[u8], problem: &Problem) -> boo
     }
 }
 
-/// How many bytes a path has.
-fn path_len(path: &Path) -> usize {
-    4 + 8 * path.infos.len() + 12 * path.hops.len()
-}
-
-/// Writes a header and its path at the front.
-fn write_front(header: &Header, way: &Path, out: &mut [u8]) {
-    let Ok(front) = write_header(header, out) else {
-        unreachable!()
-    };
-    let end = front + path_len(way);
-    let Ok(_) = write_path(way, &mut out[front..end]) else {
-        unreachable!()
-    };
+/// The underlay address to which an answer leaves by the link by which its packet came.
+fn back_to(link: u16, source: Underlay) -> Option<Underlay>
+    ensures { result ≡ (if is_external link then None else Some source) }
+{
+    if link == 0 { Some(source) } else { None }
 }
 
 /// Writes the answer that takes this way at the front, and says how many bytes it is.
 fn write_answer(
-    here: Address,
-    arriving: &Arriving,
+    here: &Address,
+    arriving: &Header,
+    payload: &[u8],
     way: &Path,
     bytes: &[u8],
     problem: &Problem,
     out: &mut [u8],
-) -> usize {
-    let source = arriving.header.source.host.as_slice().len();
-    let front = 28 + source + here.host.as_slice().len();
+) -> usize
+    requires { length out.old ≡ longest }
+    ensures { (p : Packet) → header_fields arriving.now ≡ p.header → payload.now ≡ p.payload
+        → IsWritten (answer_packet (host_address here.now) p (fields_of way.now) bytes.now problem.now) result out.new }
+{
+    let front = 28 + host_len(&arriving.source) + host_len(here);
     let header_len = front + path_len(way);
     let quote = quote(problem, header_len, bytes);
-    let fixed = fixed_len(problem);
-    let len = fixed + quote.len();
-    write_front(
-        &answer_header(here, &arriving.header, header_len, len),
-        way,
-        out,
-    );
-    let payload = &bytes[arriving.payload..];
-    write_fixed(&here, &arriving.header, payload, problem, out, header_len);
-    put(out, header_len + fixed, quote);
-    let sum = checksum(&out[12..front], &out[header_len..header_len + len]);
-    put_u16(out, header_len + 2, sum);
+    let len = fixed_len(problem) + quote.len();
+    let header = answer_header(*here, arriving, header_len, len);
+    lawful();
+    write_front(&header, way, out);
+    write_message(here, arriving, payload, problem, quote, out, header_len);
+    seal(out, front, header_len, len);
     header_len + len
 }
 
@@ -90,12 +81,17 @@ pub fn answer_into(
     source: Underlay,
     bytes: &[u8],
     problem: &Problem,
-    out: &mut [u8; 1232],
+    out: &mut [u8; LONGEST],
 ) -> AnswerLen
     requires { first_fault bytes.now ≡ None }
+    ensures answer { outcome_in out.new result ≡ outcome (reply (local_address config.now) link source bytes.now problem.now) }
+    // what holds of each answer
+    ensures good { IfSent (reply (local_address config.now) link source bytes.now problem.now) IsGood }
+    ensures len { used result ≤ longest }
 {
     let arriving = Arriving::read(bytes);
-    if is_left_unanswered(&arriving.header, &bytes[arriving.payload..], problem) {
+    let payload = &bytes[arriving.payload..];
+    if is_left_unanswered(&arriving.header, payload, problem) {
         return AnswerLen::Drop(Cause::NoAnswer);
     }
     if has_no_way_back(link, &arriving.path) {
@@ -103,9 +99,20 @@ pub fn answer_into(
     }
     let way = way_back(link, &arriving.path);
     let here = local_address(config);
-    let len = write_answer(here, &arriving, &way, bytes, problem, out);
-    let to = if link == 0 { Some(source) } else { None };
-    AnswerLen::Send { link, to, len }
+    let len = write_answer(
+        &here,
+        &arriving.header,
+        payload,
+        &way,
+        bytes,
+        problem,
+        out,
+    );
+    AnswerLen::Send {
+        link,
+        to: back_to(link, source),
+        len,
+    }
 }
 
 /// The same with the answer's bytes in memory of their own.
@@ -116,8 +123,10 @@ pub fn answer(
     problem: &Problem,
 ) -> Result<Answered, NoMemory>
     requires { first_fault arrival.now.bytes.items ≡ None }
+    ensures answer { IfOk result (λ a. outcome_of a ≡ outcome (reply (local_address config.now) arrival.now.link arrival.now.source arrival.now.bytes.items problem.now)) }
+    ensures refused { OnErr result (is_sent (reply (local_address config.now) arrival.now.link arrival.now.source arrival.now.bytes.items problem.now) ≡ true) }
 {
-    let mut out = [0; 1232];
+    let mut out = [0; LONGEST];
     let bytes = arrival.bytes.as_slice();
     match answer_into(config, arrival.link, arrival.source, bytes, problem, &mut out) {
         AnswerLen::Drop(cause) => Ok(Answered::Drop(cause)),

@@ -11,6 +11,7 @@ mod outcome;
 #[cfg(test)]
 mod tests;
 mod way_back;
+mod writing;
 
 pub use answering::{answer, answer_into};
 pub use outcome::{AnswerLen, Answered};

@@ -1,8 +1,12 @@
-use Rattle.std.proofs.Common.{◌≡◌, ◌*◌, ◌≤◌, ◌-◌, ℕ, length, sym, ap, ◌∙◌, arith}
+use Rattle.std.proofs.Common.{Option, Some, None, ◌≡◌, ◌*◌, ◌≤◌, ◌-◌, ℕ, length, sym, ap, ◌∙◌, arith}
 use Rattle.path_fields.specs.Path.{fields_of}
 use Rattle.process_packet.proofs.FrontLemmas.{path_between, path_lies}
+use Rattle.scion_packet.specs.Fault.{Fault}
 use Rattle.scion_packet.specs.Path.{path_fault, path_of}
 use Rattle.scmp_answer.proofs.arriving.Arriving.behind.Goals as goal
+
+not_both : (o : Option Fault) (f : Fault) → o ≡ None → o ≡ Some f → ⊥
+not_both o f none some = cc
 
 pub returns-clause-path : goal.returns-clause-path
 returns-clause-path c =
@@ -24,7 +28,4 @@ unreachable-requires c =
     let lies = path_lies bytes _ c.requires.are c.requires.sound c.requires.header in
     let begin = c.front_len-begin.ensures ∙ lies.begin in
     let end = ap (λ (n : ℕ). 4 * n) c.from-payload.ensures ∙ lies.end in
-    let none = c.requires.path in
-    let same = ap path_fault (path_between bytes _ _ begin end) in
-    let some = c.in_default.ensures.fault in
-    ?
+    not_both _ _ (ap path_fault (path_between bytes _ _ begin end) ∙ c.requires.path) c.in_default.ensures.fault
