@@ -21,7 +21,7 @@ header_text_len h =
     let s = h.source.host in
     omega (arith, length-append d s)
 
-address_text_len : (h : HeaderFields) → length (address_text h) ≡ front_len h - 12
+pub address_text_len : (h : HeaderFields) → length (address_text h) ≡ front_len h - 12
 address_text_len h =
     let d = h.destination.host in
     let s = h.source.host in

@@ -123,8 +123,10 @@ pub fn answer(
     problem: &Problem,
 ) -> Result<Answered, NoMemory>
     requires { first_fault arrival.now.bytes.items ≡ None }
-    ensures answer { IfOk result (λ a. outcome_of a ≡ outcome (reply (local_address config.now) arrival.now.link arrival.now.source arrival.now.bytes.items problem.now)) }
-    ensures refused { OnErr result (is_sent (reply (local_address config.now) arrival.now.link arrival.now.source arrival.now.bytes.items problem.now) ≡ true) }
+    ensures answer { let a = arrival.entry.now in
+        IfOk result (λ answered. outcome_of answered ≡ outcome (reply (local_address config.now) a.link a.source a.bytes.items problem.now)) }
+    ensures refused { let a = arrival.entry.now in
+        OnErr result (is_sent (reply (local_address config.now) a.link a.source a.bytes.items problem.now) ≡ true) }
 {
     let mut out = [0; LONGEST];
     let bytes = arrival.bytes.as_slice();

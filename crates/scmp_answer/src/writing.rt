@@ -12,7 +12,7 @@ ghost use Rattle.scion_packet.specs.Header.{front_len, header_text};
 ghost use Rattle.scion_packet.specs.Lengths.{path_len};
 ghost use Rattle.scion_packet.specs.Path.{IsPath, path_text};
 ghost use Rattle.scmp_answer.specs.Checksum.{checksum, pseudo_table};
-ghost use Rattle.scmp_answer.specs.Message.{numbers_of, table_of};
+ghost use Rattle.scmp_answer.specs.Message.{fixed_len, numbers_of, table_of};
 
 use crate::checksum::checksum;
 use crate::message::{fixed_len, write_fixed};
@@ -57,7 +57,7 @@ pub(crate) fn write_message(
     out: &mut [u8],
     at: usize,
 )
-    requires { at + 24 + length quote.now ≤ length out.old }
+    requires { at + fixed_len problem.now + length quote.now ≤ length out.old }
     ensures text { Puts out.old out.new at
         (rows (table_of (host_address here.now) (numbers_of (request arriving.now.next_header payload.now)) problem.now 0) ++ quote.now) }
     ensures are { IsBytes out.new }
