@@ -1,0 +1,8 @@
+pub mod ChecksumLemmas
+pub mod MessageLemmas
+pub mod SizeLemmas
+pub mod PlaceLemmas
+pub mod TableLemmas
+pub mod AnswerLemmas
+pub mod GoodLemmas
+pub mod ReplyLemmas

@@ -1,0 +1,5 @@
+pub mod Checksum
+pub mod Message
+pub mod WayBack
+pub mod Reply
+pub mod Outcome

@@ -1,0 +1,17 @@
+//! The answers of a border router: SCMP error messages and traceroute replies, byte for byte (SCMP
+//! specification).
+#![tactic(auto)]
+
+mod answer_header;
+mod answering;
+mod arriving;
+mod checksum;
+mod message;
+mod outcome;
+#[cfg(test)]
+mod tests;
+mod way_back;
+mod writing;
+
+pub use answering::{answer, answer_into};
+pub use outcome::{AnswerLen, Answered};
