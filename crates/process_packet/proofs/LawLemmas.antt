@@ -4,18 +4,22 @@ use Rattle.std.specs.Prelude.{is_some, option_map}
 use Rattle.std.proofs.lemmas.Bool.Decides.{Decides-eqb}
 use Rattle.field_rows.specs.Place.{number_at}
 use Rattle.scion_packet.specs.Header.{header_fault, host_code}
-use Rattle.scion_packet.specs.Packet.{Packet, path_bytes}
+use Rattle.scion_packet.proofs.PacketLaws.{pass_both}
+use Rattle.scion_packet.specs.Fault.{Fault}
+use Rattle.scion_packet.specs.Packet.{Packet, path_bytes, first_fault}
 use Rattle.scion_packet.specs.Path.{Place, Segment, path_fault}
+use Rattle.process_packet.specs.declared.cause.Cause.{Cause}
 use Rattle.process_packet.specs.declared.cause.Cause.TheVariants as cause
 use Rattle.process_packet.specs.declared.decision.Problem.{Problem}
 use Rattle.process_packet.specs.declared.underlay.Ip.TheVariants.{V4, V6}
 use Rattle.process_packet.specs.declared.underlay.Underlay.{Underlay}
-use Rattle.process_packet.specs.Decide.{decision_table, verdict}
+use Rattle.process_packet.specs.Decide.{decision_of, decision_table, verdict, verdict_of}
 use Rattle.process_packet.specs.Laws.{IsAuthorised, IsMoved, LeavesByItsEgress, LeftLawfully, changes}
 use Rattle.process_packet.specs.Neighbours.{service_at, sibling_at}
 use Rattle.process_packet.specs.Network.{Network, interface_kind, is_local, own_link, service, sibling}
 use Rattle.process_packet.specs.Request.{is_request}
-use Rattle.process_packet.specs.Rows.{Sent, Answered, Dropped, GoesOn, Ends, Row, came_lawfully, delivered, ends_where, expired, is_destination_lawful, is_pair_lawful, is_source_lawful, sent_on, sent_out, then_rows, to_service, wrong_mac}
+use Rattle.process_packet.specs.Rows.{Sent, Answered, Dropped, Turn, GoesOn, Ends, Row, came_lawfully, delivered, ends_where, expired, faulty, is_destination_lawful, is_pair_lawful, is_source_lawful, sent_on, sent_out, then_rows, to_service, wrong_mac}
+use Rattle.process_packet.specs.Routed.{IsAnswer}
 use Rattle.process_packet.specs.Sight.{with_id}
 use Rattle.process_packet.specs.Standing.{Standing, arrives, chained, chained_id, changed_over, egress, egress_alert, hop_pointer, info_pointer, ingress, ingress_alert, is_along, is_authentic, is_expired, is_external, is_first_of_path, is_last_of_path, next_place, packet, turned_back, with_place}
 use Rattle.process_packet.proofs.PassingLemmas.{Passed, Sends, and_not, answer_passed, answer_passed_within, answered_not_sent, both_true, drop_passed, dropped_not_sent, fault_passed, not_false, not_true, parameter, same_sent}
@@ -283,3 +287,27 @@ pub told : (n : Network) (link : ℕ) (source : Underlay) (moment : ℕ) (bytes 
     → verdict n link source moment bytes ≡ Sent out to p → Sends (GoesOn (arrives n link source moment bytes)) decision_table out to p
 unfolding verdict
 told n link source moment bytes out to p sent = sent
+
+-- ---- what is answered
+
+-- rows beginning with a turn end in an answer
+abbrev Asks : Turn → List Row → Type 0
+Asks t rows = IsAnswer (decision_of (verdict_of (then_rows t rows)))
+
+not_dropped : (b : Bool) (c : Cause) (s : Standing) (rows : List Row) → Asks (ends_where b (Dropped c) s) rows → Asks (GoesOn s) rows
+not_dropped true c s rows asks = absurd asks
+not_dropped false c s rows asks = asks
+
+no_fault : (f : Option Fault) (s : Standing) (rows : List Row) → Asks (faulty f s) rows → (f ≡ None) × Asks (GoesOn s) rows
+no_fault None s rows asks = (refl, asks)
+no_fault (Some f) s rows asks = absurd asks
+
+pub answers_sound : (n : Network) (link : ℕ) (source : Underlay) (moment : ℕ) (bytes : List ℕ) → IsAnswer (decision_of (verdict n link source moment bytes))
+    → first_fault bytes ≡ None
+unfolding verdict
+answers_sound n link source moment bytes asks =
+    let s = arrives n link source moment bytes in
+    let short = not_dropped (nat_lt 9216 (length s.bytes)) cause.TooLong s (rest 1) asks in
+    let header = no_fault (header_fault s.bytes) s (rest 2) short in
+    let path = no_fault (path_fault (path_bytes s.bytes)) s (rest 3) header.1 in
+    pass_both bytes header.0 path.0

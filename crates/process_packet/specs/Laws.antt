@@ -1,10 +1,11 @@
 -- What the decision table says as a whole: packets keep to authorised paths.
 use Rattle.std.specs.Prelude.{◌≡◌, ◌⊎◌, ◌≤◌, ◌+◌, ◌&&◌, ℕ, Bool, true, false, List, Option, None, is_some, option_map}
-use Rattle.scion_packet.specs.Packet.{Packet, packet_of}
+use Rattle.scion_packet.specs.Packet.{Packet, first_fault, packet_of}
 use Rattle.process_packet.specs.declared.underlay.Underlay.{Underlay}
-use Rattle.process_packet.specs.Decide.{verdict}
+use Rattle.process_packet.specs.Decide.{decide, verdict}
 use Rattle.process_packet.specs.Neighbours.{sibling_at}
 use Rattle.process_packet.specs.Network.{Network, is_local, own_link, sibling}
+use Rattle.process_packet.specs.Routed.{IsAnswer}
 use Rattle.process_packet.specs.Rows.{Sent, is_pair_lawful}
 use Rattle.process_packet.specs.Sight.{with_id}
 use Rattle.process_packet.specs.Standing.{Standing, arrives, changed_over, egress, ingress, is_authentic, is_expired, is_external, is_followed, is_last_of_path, is_last_of_segment, turned_back}
@@ -83,3 +84,8 @@ abbrev pub NothingElseChanges : Type 0
 NothingElseChanges =
     (n : Network) (link : ℕ) (source : Underlay) (moment : ℕ) (bytes : List ℕ) (out : ℕ) (to : Option Underlay) (p : Packet)
     → verdict n link source moment bytes ≡ Sent out to p → IsMoved (packet_of bytes) p
+
+-- Only a datagram without a fault is answered.
+abbrev pub AnswersAreSound : Type 0
+AnswersAreSound =
+    (n : Network) (link : ℕ) (source : Underlay) (moment : ℕ) (bytes : List ℕ) → IsAnswer (decide n link source moment bytes) → first_fault bytes ≡ None

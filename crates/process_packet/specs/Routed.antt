@@ -19,6 +19,11 @@ IsSend (decision.Send link to) = Unit {0}
 IsSend (decision.Answer problem) = ⊥
 IsSend (decision.Drop cause) = ⊥
 
+abbrev pub IsAnswer : Decision → Type 0
+IsAnswer (decision.Send link to) = ⊥
+IsAnswer (decision.Answer problem) = Unit {0}
+IsAnswer (decision.Drop cause) = ⊥
+
 abbrev pub decision_for : Network → Arrival → Decision
 decision_for n a = decide n a.link a.source a.now a.bytes.items
 

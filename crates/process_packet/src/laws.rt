@@ -1,6 +1,6 @@
 //! What the decision table says as a whole: nothing here runs.
 
-ghost use Rattle.process_packet.specs.Laws.{NothingElseChanges, OnlyAuthorised, OnlyLawfulWays};
+ghost use Rattle.process_packet.specs.Laws.{AnswersAreSound, NothingElseChanges, OnlyAuthorised, OnlyLawfulWays};
 
 /// A packet is sent only if the hop field at its cursor was within its time, named the link by which the
 /// packet came from outside, and carried the MAC that the AS's key gives for it. From outside it claims
@@ -20,4 +20,9 @@ pub fn only_lawful_ways()
 /// and in nothing else.
 pub fn nothing_else_changes()
     ensures { NothingElseChanges }
+{}
+
+/// Only a datagram without a fault of its header and its path is answered.
+pub fn answers_are_sound()
+    ensures { AnswersAreSound }
 {}

@@ -1,3 +1,4 @@
 pub mod EngineLemmas
 pub mod HexLineLemmas
 pub mod WordsLemmas
+pub mod AnswerLemmas

@@ -4,12 +4,15 @@ use Rattle.hex.specs.Hex.{decode_of, encode_lower}
 use Rattle.process_packet.specs.Cause.{number_of}
 use Rattle.process_packet.specs.Decide.{decide, moved}
 use Rattle.process_packet.specs.Network.{network}
+use Rattle.process_packet.specs.declared.cause.Cause.{Cause}
 use Rattle.process_packet.specs.declared.config.Config.{Config}
 use Rattle.process_packet.specs.declared.decision.Decision.{Decision}
 use Rattle.process_packet.specs.declared.decision.Decision.TheVariants.{Send, Answer, Drop}
 use Rattle.process_packet.specs.declared.decision.Problem.{Problem}
 use Rattle.process_packet.specs.declared.underlay.Underlay.{Underlay}
 use Rattle.router_config.specs.Shown.{text_of}
+use Rattle.scmp_answer.specs.Outcome.{Leaves, Outcome, Stays, outcome}
+use Rattle.scmp_answer.specs.Reply.{local_address, reply}
 use Rattle.router_program.specs.declared.arriving.Arriving.{Arriving}
 
 -- where a packet is sent, `-` where its link leads to one place alone
@@ -21,19 +24,28 @@ to_text (Some to) = text_of to
 abbrev pub sent_text : ℕ → Option Underlay → List ℕ → List ℕ
 sent_text link to bytes = decimal link ++ (codes " " ++ (to_text to ++ (codes " " ++ encode_lower bytes)))
 
-abbrev pub problem_text : Problem → List ℕ
-problem_text p = decimal p.kind ++ (codes " " ++ (decimal p.code ++ (codes " " ++ decimal p.pointer)))
+abbrev pub drop_text : Cause → List ℕ
+drop_text cause = codes "drop " ++ decimal (number_of cause)
 
--- the line for a decision, where these bytes leave
-abbrev pub text_for : Decision → List ℕ → List ℕ
-text_for (Send link to) bytes = codes "send " ++ (sent_text link to bytes ++ codes "\n")
-text_for (Answer problem) bytes = codes "problem " ++ (problem_text problem ++ codes "\n")
-text_for (Drop cause) bytes = codes "drop " ++ (decimal (number_of cause) ++ codes "\n")
+-- an answer and where it is sent, or a drop
+abbrev pub outcome_text : Outcome → List ℕ
+outcome_text (Leaves link to bytes) = codes "answer " ++ sent_text link to bytes
+outcome_text (Stays cause) = drop_text cause
+
+-- what becomes of a problem of a datagram that arrived so
+abbrev pub reply_text : Config → Arriving → List ℕ → Problem → List ℕ
+reply_text config a bytes problem = outcome_text (outcome (reply (local_address config) a.link a.source bytes problem))
+
+-- the line for a decision, after which the datagram has these bytes: those that leave where it is sent, else as it arrived
+abbrev pub text_for : Config → Arriving → Decision → List ℕ → List ℕ
+text_for config a (Send link to) bytes = codes "send " ++ (sent_text link to bytes ++ codes "\n")
+text_for config a (Answer problem) bytes = reply_text config a bytes problem ++ codes "\n"
+text_for config a (Drop cause) bytes = drop_text cause ++ codes "\n"
 
 -- the line for a datagram that arrived so
 abbrev pub answer_for : Config → Arriving → List ℕ → List ℕ
 answer_for config a bytes =
-    text_for (decide (network config) a.link a.source a.moment bytes) (moved (network config) a.link a.source a.moment bytes)
+    text_for config a (decide (network config) a.link a.source a.moment bytes) (moved (network config) a.link a.source a.moment bytes)
 
 -- the bytes that a line of hex has, none where it is no hex
 abbrev pub decoded : {E : Type 0} → Result (List ℕ) E → Option (List ℕ)

@@ -1,12 +1,15 @@
 //! The line that is written for each line that is read.
 ghost use Rattle.std.specs.Prelude.{◌≡◌, ◌++◌, ◌*◌, length, IfOk, OnOk, Ok, Some, None, codes, decimal, if◌then◌else◌};
 ghost use Rattle.hex.specs.Hex.{encode_lower};
-ghost use Rattle.router_program.specs.Answers.{answer_to, bytes_of, problem_text, sent_text, text_for, to_text};
+ghost use Rattle.process_packet.specs.Routed.{IsAnswer};
+ghost use Rattle.scion_packet.specs.Packet.{first_fault};
+ghost use Rattle.router_program.specs.Answers.{answer_to, bytes_of, drop_text, reply_text, sent_text, text_for, to_text};
 
 use crate::arriving::Arriving;
 use itoa::Buffer;
-use process_packet::{Config, Decision, Problem, Underlay, route_in_place};
+use process_packet::{Cause, Config, Decision, Problem, Underlay, answers_are_sound, route_in_place};
 use router_config::push_underlay;
+use scmp_answer::{AnswerLen, answer_into};
 use std::alloc::AllocError;
 
 /// Adds a number's decimal digits to the text.
@@ -55,20 +58,52 @@ fn push_sent(text: &mut Vec<u8>, link: u16, to: Option<Underlay>, bytes: &[u8]) 
     push_hex(text, bytes)
 }
 
-/// Adds what the sender would be told.
-fn push_problem(text: &mut Vec<u8>, problem: &Problem) -> Result<(), AllocError>
-    ensures { OnOk result (text.new.items ≡ text.old.items ++ problem_text problem.now) }
+/// Adds a drop and its cause.
+fn push_drop(text: &mut Vec<u8>, cause: Cause) -> Result<(), AllocError>
+    ensures { OnOk result (text.new.items ≡ text.old.items ++ drop_text cause) }
 {
-    push_decimal(text, problem.kind.into())?;
-    text.extend_from_slice(b" ")?;
-    push_decimal(text, problem.code.into())?;
-    text.extend_from_slice(b" ")?;
-    push_decimal(text, problem.pointer)
+    text.extend_from_slice(b"drop ")?;
+    push_decimal(text, cause.number().into())
 }
 
-/// Replaces the text with the line for a decision, where these bytes leave.
-fn write_answer(decision: Decision, bytes: &[u8], text: &mut Vec<u8>) -> Result<(), AllocError>
-    ensures { OnOk result (text.new.items ≡ text_for decision bytes.now) }
+/// Adds what becomes of a problem of the datagram, which has no fault: the answer, or a drop.
+fn push_answer(
+    text: &mut Vec<u8>,
+    config: &Config,
+    arriving: &Arriving,
+    bytes: &[u8],
+    problem: &Problem,
+) -> Result<(), AllocError>
+    requires { first_fault bytes.now ≡ None }
+    ensures { OnOk result (text.new.items ≡ text.old.items ++ reply_text config.now arriving.now bytes.now problem.now) }
+{
+    let mut room = [0; 1232];
+    match answer_into(
+        config,
+        arriving.link,
+        arriving.source,
+        bytes,
+        problem,
+        &mut room,
+    ) {
+        AnswerLen::Send { link, to, len } => {
+            text.extend_from_slice(b"answer ")?;
+            push_sent(text, link, to, &room[..len])
+        }
+        AnswerLen::Drop(cause) => push_drop(text, cause),
+    }
+}
+
+/// Replaces the text with the line for a decision, after which the datagram has these bytes.
+fn write_answer(
+    config: &Config,
+    arriving: &Arriving,
+    decision: Decision,
+    bytes: &[u8],
+    text: &mut Vec<u8>,
+) -> Result<(), AllocError>
+    requires { IsAnswer decision → first_fault bytes.now ≡ None }
+    ensures { OnOk result (text.new.items ≡ text_for config.now arriving.now decision bytes.now) }
 {
     text.clear();
     match decision {
@@ -76,14 +111,8 @@ fn write_answer(decision: Decision, bytes: &[u8], text: &mut Vec<u8>) -> Result<
             text.extend_from_slice(b"send ")?;
             push_sent(text, link, to, bytes)?;
         }
-        Decision::Answer(problem) => {
-            text.extend_from_slice(b"problem ")?;
-            push_problem(text, &problem)?;
-        }
-        Decision::Drop(cause) => {
-            text.extend_from_slice(b"drop ")?;
-            push_decimal(text, cause.number().into())?;
-        }
+        Decision::Answer(problem) => push_answer(text, config, arriving, bytes, &problem)?,
+        Decision::Drop(cause) => push_drop(text, cause)?,
     }
     text.extend_from_slice(b"\n")
 }
@@ -122,6 +151,7 @@ pub fn answer_line(
         arriving.moment,
         bytes.as_mut_slice(),
     );
-    write_answer(decision, bytes.as_slice(), text)?;
+    answers_are_sound();
+    write_answer(config, arriving, decision, bytes.as_slice(), text)?;
     Ok(true)
 }
