@@ -3,7 +3,7 @@ ghost use Rattle.std.specs.Prelude.{◌≡◌, ◌++◌, ◌*◌, length, IfOk, 
 ghost use Rattle.hex.specs.Hex.{encode_lower};
 ghost use Rattle.process_packet.specs.Routed.{IsAnswer};
 ghost use Rattle.scion_packet.specs.Packet.{first_fault};
-ghost use Rattle.router_program.specs.Answers.{answer_to, bytes_of, drop_text, reply_text, sent_text, text_for, to_text};
+ghost use Rattle.router_program.specs.Answers.{answer_for, answer_to, bytes_of, drop_text, reply_text, sent_text, text_for, to_text};
 
 use crate::arriving::Arriving;
 use itoa::Buffer;
@@ -129,6 +129,26 @@ fn read_hex(line: &[u8], bytes: &mut Vec<u8>) -> Result<bool, AllocError>
     }
 }
 
+/// Decides on a datagram where it lies, and replaces the text with its line.
+fn decide_line(
+    config: &Config,
+    arriving: &Arriving,
+    bytes: &mut [u8],
+    text: &mut Vec<u8>,
+) -> Result<(), AllocError>
+    ensures { OnOk result (text.new.items ≡ answer_for config.now arriving.now bytes.old) }
+{
+    let decision = route_in_place(
+        config,
+        arriving.link,
+        arriving.source,
+        arriving.moment,
+        bytes,
+    );
+    answers_are_sound();
+    write_answer(config, arriving, decision, bytes, text)
+}
+
 /// Replaces the text with the answer to a line, by way of the datagram's bytes; false where the
 /// line is no hex.
 pub fn answer_line(
@@ -144,14 +164,6 @@ pub fn answer_line(
     if !read_hex(line, bytes)? {
         return Ok(false);
     }
-    let decision = route_in_place(
-        config,
-        arriving.link,
-        arriving.source,
-        arriving.moment,
-        bytes.as_mut_slice(),
-    );
-    answers_are_sound();
-    write_answer(config, arriving, decision, bytes.as_slice(), text)?;
+    decide_line(config, arriving, bytes.as_mut_slice(), text)?;
     Ok(true)
 }

@@ -504,7 +504,7 @@ pub const ROWS: [Row; 40] = [
          000000000000000000000000000000\n",
     },
     Row {
-        name: "40 second stop",
+        name: "the second of three routers",
         link: 1,
         now: 1694499816,
         from: "",
@@ -516,7 +516,7 @@ pub const ROWS: [Row; 40] = [
          850ac58d37559755900080000\n",
     },
     Row {
-        name: "41 the reply",
+        name: "an answer by the second of three routers",
         link: 1,
         now: 1694499816,
         from: "",
@@ -530,7 +530,7 @@ pub const ROWS: [Row; 40] = [
          f1e003f0012000026d850ac58d37559755900080000\n",
     },
     Row {
-        name: "41 hop 1's flags 02",
+        name: "a traceroute request to the second of three routers",
         link: 1,
         now: 1694499816,
         from: "",

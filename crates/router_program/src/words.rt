@@ -143,7 +143,7 @@ fn grammar<'a>(alloc: Global) -> Result<Command<'a>, AllocError>
 
 /// The address that a word names, if it is one; no word names none.
 fn read_from(word: Option<&str>) -> Option<Option<Underlay>>
-    ensures { result ≡ from_of (option_map (λ text. text.now) word) }
+    ensures { result ≡ from_of (option_map (λ text. text.now) word.entry) }
 {
     match word {
         None => Some(None),
