@@ -1,14 +1,12 @@
 -- A configuration, part by part.
-use Rattle.std.proofs.Common.{◌≡◌, ℕ, List, Result, Ok, Err, ℤ, pos, refl, ap, sym, ◌∙◌, inl, inr}
+use Rattle.std.proofs.Common.{◌≡◌, List, Ok, Err, ℤ, pos, refl, inl, inr}
 use Rattle.std.specs.Prelude.{◌⊎◌, ◌≢◌, codes}
 use Rattle.toml.specs.Data.{Members, as_integer}
-use Rattle.process_packet.specs.declared.config.Config.{Config}
 use Rattle.process_packet.specs.declared.neighbours.Link.{Link}
 use Rattle.process_packet.specs.declared.neighbours.Sibling.{Sibling}
 use Rattle.process_packet.specs.declared.neighbours.Service.{Service}
 use Rattle.router_config.specs.Config.{AroundValues, InternalValues, LocalValues, SizeValues, Values, around_at, buffers_at, internal_at, local_at, sizes_at, values_at}
 use Rattle.router_config.specs.Entry.{in_range, value_at, version_at}
-use Rattle.router_config.specs.Fault.{or_when_missing, ◌>>=◌}
 use Rattle.router_config.specs.Neighbours.{links_at, services_at, siblings_at}
 use Rattle.router_config.specs.declared.entry.Version.{Version}
 use Rattle.router_config.specs.declared.fault.ConfigFault.{ConfigFault}

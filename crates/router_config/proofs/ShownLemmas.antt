@@ -1,5 +1,5 @@
 -- Hex digits of a group of 16 bits.
-use Rattle.std.proofs.Common.{◌≡◌, ℕ, ◌<◌, ◌≤◌, ◌/◌, ◌%◌, ◌==◌, List, [], ◌∷◌, ◌++◌, Bool, true, false, Ok, Err, Result, append_assoc, refl, sym, ap, ◌∙◌, arith}
+use Rattle.std.proofs.Common.{◌≡◌, ℕ, ◌<◌, ◌≤◌, ◌/◌, ◌%◌, ◌==◌, List, [], ◌∷◌, ◌++◌, true, false, Ok, Err, Result, append_assoc, refl, ap, ◌∙◌, arith}
 use Rattle.std.specs.Prelude.{OnOk, is_ok, if◌then◌else◌}
 use Rattle.std.specs.Fmt.{digit_glyph, digits}
 use Rattle.std.proofs.lemmas.Bool.Decides.{nat_tests}

@@ -1,6 +1,5 @@
 -- Addresses of the underlay as text, as in `10.0.0.1:30000` or `[fd00:0:0:0:0:0:0:77]:30041`.
 use Rattle.std.specs.Prelude.{ℕ, ◌/◌, ◌%◌, List, [], ◌∷◌, Option, Some, None}
-use Rattle.process_packet.specs.declared.underlay.Ip.{Ip}
 use Rattle.process_packet.specs.declared.underlay.Ip.TheVariants.{V4, V6}
 use Rattle.process_packet.specs.declared.underlay.Underlay.{Underlay}
 use Rattle.router_config.specs.Pieces.{behind, cut, group_of, number_up_to, unless_zero, ◌>>=◌}

@@ -1,6 +1,6 @@
 -- What a configuration gives, and the first fault of one that gives nothing: its keys are read in this order, the
 -- members of its lists one after the other, and a value is tested for its type, its form, 0 or doubled, and its range.
-use Rattle.std.specs.Prelude.{ℕ, ℤ, pos, List, Option, Some, None, Result, Ok, Err, codes}
+use Rattle.std.specs.Prelude.{ℕ, pos, List, Option, Some, None, Result, Ok, Err, codes}
 use Rattle.hex.specs.Hex.{decode_sized}
 use Rattle.toml.specs.Data.{Members, as_integer, as_str}
 use Rattle.toml.specs.Parse.{parse_document}

@@ -1,5 +1,5 @@
 -- The parts of a configuration as they are read: their values, and what holds of each.
-use Rattle.std.specs.Prelude.{◌<◌, ◌≤◌, ◌^◌, ◌++◌, IsTrue, List, length, map}
+use Rattle.std.specs.Prelude.{◌<◌, ◌≤◌, ◌^◌, IsTrue, length, map}
 use Rattle.std.specs.List.{list_all}
 use Rattle.process_packet.specs.Neighbours.{are_distinct, has_port, is_link, is_service, is_sibling, service_number}
 use Rattle.router_config.specs.Config.{AroundValues, InternalValues, LocalValues, SizeValues}

@@ -1,6 +1,4 @@
 use Rattle.toml.specs.View.{table_view}
-use Rattle.std.proofs.Common.{ap, sym, ◌∙◌}
-use Rattle.router_config.specs.Neighbours.{siblings_at}
 use Rattle.router_config.proofs.ConfigLemmas.{all_around, bad_links, bad_services, bad_siblings}
 use Rattle.router_config.proofs.config.around_at.Goals as goal
 

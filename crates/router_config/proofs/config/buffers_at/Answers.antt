@@ -1,7 +1,6 @@
 use Rattle.toml.specs.View.{table_view}
-use Rattle.router_config.proofs.ConfigLemmas.{bad_buffers, buffers_there, usual_buffers}
+use Rattle.router_config.proofs.ConfigLemmas.{bad_buffers, usual_buffers}
 use Rattle.router_config.proofs.config.buffers_at.Goals as goal
-use Rattle.std.proofs.Common.{◌∙◌}
 
 pub returns-in-Missing-clause-value : goal.returns-in-Missing-clause-value
 returns-in-Missing-clause-value c = usual_buffers (table_view c.args.table.now) (rw c.in-Missing.is at c.in-Err.ensures)

@@ -1,5 +1,4 @@
-use Rattle.std.proofs.Common.{◌≡◌, ◌∙◌, inr, refl}
-use Rattle.std.specs.Prelude.{codes, Ok, Err}
+use Rattle.std.proofs.Common.{inr}
 use Rattle.toml.specs.View.{array_view, table_view}
 use Rattle.router_config.proofs.ListLemmas.{links_there, no_links_there}
 use Rattle.router_config.proofs.lists.links_at.Goals as goal

@@ -1,8 +1,8 @@
 use Rattle.std.proofs.Common.{◌≡◌, ◌∙◌, ◌+◌, ◌<◌, ◌++◌, ◌∷◌, [], drop, get_or, length, length-append, map, inr, rules, sym, ap}
 use Rattle.toml.specs.View.{items_view, view}
-use Rattle.process_packet.specs.Neighbours.{is_link, is_service, is_sibling, service_number}
-use Rattle.router_config.specs.Neighbours.{link_of, members_from, service_of, sibling_of, taken}
-use Rattle.router_config.proofs.ListLemmas.{bad_member, distinct_push, last_member, link_push, next_member, no_links, not_too_many, number_push, sibling_push, some_links, too_many, whole_push}
+use Rattle.process_packet.specs.Neighbours.{is_service, service_number}
+use Rattle.router_config.specs.Neighbours.{members_from, service_of}
+use Rattle.router_config.proofs.ListLemmas.{bad_member, distinct_push, last_member, next_member, not_too_many, number_push, too_many, whole_push}
 use Rattle.router_config.proofs.lists.read_services.Goals as goal
 
 pub returns-then-len-gt-MOST_SERVICES-clause-value : goal.returns-then-len-gt-MOST_SERVICES-clause-value

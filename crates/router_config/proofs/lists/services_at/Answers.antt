@@ -1,4 +1,4 @@
-use Rattle.std.proofs.Common.{◌≡◌, ◌∙◌, Ok, ap, inr, sym}
+use Rattle.std.proofs.Common.{◌∙◌, Ok, ap, inr, sym}
 use Rattle.toml.specs.View.{array_view, table_view}
 use Rattle.router_config.proofs.ListLemmas.{bad_services, no_services, services_there}
 use Rattle.router_config.proofs.lists.services_at.Goals as goal

@@ -1,4 +1,4 @@
-use Rattle.std.proofs.Common.{◌≡◌, true, false, sym, ◌∙◌}
+use Rattle.std.proofs.Common.{sym, ◌∙◌}
 use Rattle.router_config.proofs.IdLemmas.{not_linked, taken_linked}
 use Rattle.router_config.proofs.neighbours.is_taken.Goals as goal
 

@@ -1,4 +1,4 @@
-use Rattle.std.proofs.Common.{map, true, false, sym, ◌∙◌, arith}
+use Rattle.std.proofs.Common.{map, true, false, sym, ◌∙◌}
 use Rattle.process_packet.specs.Neighbours.{service_number}
 use Rattle.router_config.proofs.IdLemmas.{service_read}
 use Rattle.router_config.proofs.neighbours.read_number.Goals as goal

@@ -1,5 +1,4 @@
-use Rattle.std.proofs.Common.{◌≡◌, ◌<◌, ◌^◌, Some, None, ap, ◌∙◌, sym, arith, rules}
-use Rattle.std.specs.Prelude.{IfNone, IfSome}
+use Rattle.std.proofs.Common.{◌≡◌, arith, rules}
 use Rattle.router_config.proofs.NumberLemmas.{number_is}
 use Rattle.router_config.proofs.pieces.read_number.Goals as goal
 
