@@ -150,9 +150,9 @@ all_ones d e total before after =
 
 pub verifies : (a f t : List ℕ) (c : ℕ) → length a % 2 ≡ 0 → length f ≡ 2 → length f + 2 + length t ≤ 1232
     → (let m0 = f ++ (big_bytes 2 0 ++ t) in let mc = f ++ (big_bytes 2 c ++ t) in
-      IsBytes (a ++ (rows (pseudo_table (length m0)) ++ m0)) → IsBytes (a ++ (rows (pseudo_table (length mc)) ++ mc))
-      → c ≡ checksum (a ++ (rows (pseudo_table (length m0)) ++ m0))
-      → ones_complement_sum (words (a ++ (rows (pseudo_table (length mc)) ++ mc))) ≡ 65535)
+    IsBytes (a ++ (rows (pseudo_table (length m0)) ++ m0)) → IsBytes (a ++ (rows (pseudo_table (length mc)) ++ mc))
+    → c ≡ checksum (a ++ (rows (pseudo_table (length m0)) ++ m0))
+    → ones_complement_sum (words (a ++ (rows (pseudo_table (length mc)) ++ mc))) ≡ 65535)
 verifies a f t c even two short are-0 are-c c-is =
     let m0 = f ++ (big_bytes 2 0 ++ t) in
     let mc = f ++ (big_bytes 2 c ++ t) in

@@ -12,15 +12,18 @@ use Rattle.scmp_answer.specs.WayBack.{has_no_way_back, is_external, way_back}
 
 pub unanswered : (here : HostAddress) (link : ℕ) (source : Underlay) (bytes : List ℕ) (problem : Problem)
     → is_left_unanswered (packet_of bytes) problem ≡ true → reply here link source bytes problem ≡ Dropped NoAnswer
+unfolding reply
 unanswered here link source bytes problem is = cond-true _ _ _ is
 
 pub no_way : (here : HostAddress) (link : ℕ) (source : Underlay) (bytes : List ℕ) (problem : Problem)
     → is_left_unanswered (packet_of bytes) problem ≡ false → has_no_way_back link (packet_of bytes).path ≡ true → reply here link source bytes problem ≡ Dropped NoWayBack
+unfolding reply
 no_way here link source bytes problem answered is = cond-false _ _ _ answered ∙ cond-true _ _ _ is
 
 pub sent : (here : HostAddress) (link : ℕ) (source : Underlay) (bytes : List ℕ) (problem : Problem)
     → is_left_unanswered (packet_of bytes) problem ≡ false → has_no_way_back link (packet_of bytes).path ≡ false
     → reply here link source bytes problem ≡ sent_back link source (answer_packet here (packet_of bytes) (way_back link (packet_of bytes).path) bytes problem)
+unfolding reply
 sent here link source bytes problem answered back = cond-false _ _ _ answered ∙ cond-false _ _ _ back
 
 -- what leaves was sent

@@ -76,14 +76,9 @@ pub data Reply : Type 0 where
 abbrev pub sent_back : ℕ → Underlay → Packet → Reply
 sent_back link source answer = Sent link (if is_external link then None else Some source) answer
 
-abbrev pub reply : HostAddress → ℕ → Underlay → List ℕ → Problem → Reply
+unfoldable pub reply : HostAddress → ℕ → Underlay → List ℕ → Problem → Reply
 reply here link source bytes problem =
     let p = packet_of bytes in
     if is_left_unanswered p problem then Dropped NoAnswer
     else if has_no_way_back link p.path then Dropped NoWayBack
     else sent_back link source (answer_packet here p (way_back link p.path) bytes problem)
-
--- the bytes that are sent; none for a drop
-abbrev pub reply_text : Reply → List ℕ
-reply_text (Sent link to p) = spelling p
-reply_text (Dropped cause) = []
