@@ -1,6 +1,11 @@
+ghost use Rattle.std.specs.Prelude.{◌≡◌, None, true};
+ghost use Rattle.scion_packet.specs.Packet.{first_fault};
+
 use crate::{AnswerLen, Answered, answer, answer_into};
 use cmac_core::Cmac;
+use path_fields::check_path;
 use process_packet::{Arrival, Bands, Cause, Config, Ip, Link, Problem, Underlay};
+use scion_header::check_header;
 use segment_switch::LinkKind;
 use std::alloc::{AllocError, Global};
 use std::test::*;
@@ -64,6 +69,19 @@ fn config(alloc: Global) -> Result<Config, AllocError> {
         siblings: Vec::new(alloc),
         services: Vec::new(alloc),
     })
+}
+
+/// Whether a datagram has no fault.
+fn is_sound(bytes: &[u8]) -> bool
+    ensures { result ≡ true → first_fault bytes.now ≡ None }
+{
+    let Ok(ends) = check_header(bytes) else {
+        return false;
+    };
+    match check_path(&bytes[ends.addresses..ends.header]) {
+        Ok(_) => true,
+        Err(_) => false,
+    }
 }
 
 fn problem(kind: u8, code: u8, pointer: u16) -> Problem {
@@ -174,13 +192,14 @@ fn answers_one_path(rt: HostRuntime) -> Result<(), Fail> {
     for (edits, len, link, problem, message) in rows {
         let bytes = changed(edits);
         let bytes = bytes.get(..len).expect(&rt, "the datagram");
+        assert!(rt; is_sound(bytes));
         let mut out = [0x55; 1232];
         let result = answer_into(&config, link, neighbour(), bytes, &problem, &mut out);
         assert_eq!(rt; result, sent(link, None, 92 + len), "{problem:?}");
         let mut front = EXPIRED;
         front[7] = if len == 92 { 100 } else { 92 };
-        assert_eq!(rt; &out[..84], &front[..84], "{problem:?}");
-        assert_eq!(rt; &out[84..92], message.as_slice(), "{problem:?}");
+        assert_eq!(rt; out.get(..84), front.get(..84), "{problem:?}");
+        assert_eq!(rt; out.get(84..92), Some(message.as_slice()), "{problem:?}");
         assert_eq!(rt; out[92..].get(..len), Some(bytes), "{problem:?}");
     }
     Ok(())
@@ -200,19 +219,21 @@ fn request() -> [u8; 108] {
 #[test]
 fn replies_to_traceroute_requests(rt: HostRuntime) -> Result<(), Fail> {
     let config = config(rt.alloc())?;
+    let bytes = request();
+    assert!(rt; is_sound(&bytes));
     for (interface, checksum) in [(1, b"\x67\xd4"), (2, b"\x67\xd3")] {
         let mut out = [0x55; 1232];
         let problem = problem(131, 0, interface);
-        let result = answer_into(&config, 1, neighbour(), &request(), &problem, &mut out);
+        let result = answer_into(&config, 1, neighbour(), &bytes, &problem, &mut out);
         assert_eq!(rt; result, sent(1, None, 108));
         let mut front = EXPIRED;
         front[7] = 24;
-        assert_eq!(rt; &out[..84], &front[..84]);
+        assert_eq!(rt; out.get(..84), front.get(..84));
         let mut message =
             *b"\x83\x00\x00\x00\x00\x07\x00\x03\x00\x01\xff\x00\x00\x00\x01\x10\x00\x00\x00\x00\x00\x00\x00\x00";
         message[2..4].copy_from_slice(checksum);
         message[23] = interface as u8;
-        assert_eq!(rt; &out[84..108], message.as_slice());
+        assert_eq!(rt; out.get(84..108), Some(message.as_slice()));
         assert_eq!(rt; out[108], 0x55);
     }
     Ok(())
@@ -241,6 +262,7 @@ fn drops_what_is_not_answered(rt: HostRuntime) -> Result<(), Fail> {
     for (edits, len, problem, cause) in rows {
         let bytes = changed(&edits);
         let bytes = bytes.get(..len).expect(&rt, "the datagram");
+        assert!(rt; is_sound(bytes));
         let mut out = [0x55; 1232];
         let result = answer_into(&config, 1, neighbour(), bytes, &problem, &mut out);
         assert_eq!(rt; result, AnswerLen::Drop(cause), "{edits:?} {len}");
@@ -283,6 +305,7 @@ fn answers_within_the_as(rt: HostRuntime) -> Result<(), Fail> {
     let mut wanted = [0; 224];
     wanted[..112].copy_from_slice(&BACK);
     wanted[112..].copy_from_slice(&TWO_SEGMENTS);
+    assert!(rt; is_sound(arrival.bytes.as_slice()));
     match answer(rt.alloc(), &config, &arrival, &problem(4, 52, 80))? {
         Answered::Send { link, to, bytes } => {
             assert_eq!(rt; (link, to), (0, Some(source)));
@@ -292,6 +315,7 @@ fn answers_within_the_as(rt: HostRuntime) -> Result<(), Fail> {
     }
     // from outside the same hop is the first of its segment
     let arrival = Arrival { link: 1, ..arrival };
+    assert!(rt; is_sound(arrival.bytes.as_slice()));
     match answer(rt.alloc(), &config, &arrival, &problem(4, 52, 80))? {
         Answered::Send { link, .. } => assert!(rt; false, "{link}"),
         Answered::Drop(cause) => assert_eq!(rt; cause, Cause::NoWayBack),
@@ -318,6 +342,7 @@ fn longest() -> [u8; 9216] {
 fn cuts_the_quote_to_the_longest_answer(rt: HostRuntime) -> Result<(), Fail> {
     let config = config(rt.alloc())?;
     let bytes = longest();
+    assert!(rt; is_sound(&bytes));
     let mut out = [0x55; 1232];
     let result = answer_into(
         &config,
@@ -332,14 +357,14 @@ fn cuts_the_quote_to_the_longest_answer(rt: HostRuntime) -> Result<(), Fail> {
         \x00\x01\xff\x00\x00\x00\x01\x11\x00\x01\xff\x00\x00\x00\x01\x10\
         \xfd\x00\x00\x00\x00\x00\x00\x00\x00\x00\x00\x00\x00\x00\x00\x05\x0a\x00\x00\x01\
         \xbf\x01\x55\x56";
-    assert_eq!(rt; &out[..52], header.as_slice());
+    assert_eq!(rt; out.get(..52), Some(header.as_slice()));
     for k in 0..64u8 {
         assert_eq!(rt; out[81 + 12 * usize::from(k)], 63 - k);
     }
     assert_eq!(rt;
-        &out[844..852],
-        b"\x04\x13\x5a\x20\x00\x00\x00\x00".as_slice()
+        out.get(844..852),
+        Some(b"\x04\x13\x5a\x20\x00\x00\x00\x00".as_slice())
     );
-    assert_eq!(rt; &out[852..], &bytes[..380]);
+    assert_eq!(rt; out.get(852..), bytes.get(..380));
     Ok(())
 }
