@@ -1,5 +1,5 @@
 -- The answer to a datagram.
-use Rattle.std.specs.Prelude.{◌≡◌, ◌≤◌, ℕ, Bool, true, false, not, ◌+◌, ◌*◌, ◌/◌, ◌&&◌, ◌==◌, nat_lt, List, [], ◌∷◌, length, Option, Some, None, if◌then◌else◌}
+use Rattle.std.specs.Prelude.{ℕ, Bool, true, false, not, ◌+◌, ◌/◌, ◌&&◌, ◌==◌, nat_lt, List, length, Option, Some, None, if◌then◌else◌}
 use Rattle.process_packet.specs.declared.cause.Cause.{Cause}
 use Rattle.process_packet.specs.declared.cause.Cause.TheVariants.{NoAnswer, NoWayBack}
 use Rattle.process_packet.specs.declared.config.Config.{Config}
@@ -12,9 +12,9 @@ use Rattle.scion_header.specs.declared.upper.Upper.{Upper}
 use Rattle.scion_header.specs.declared.upper.Upper.TheVariants.{Scmp, Other, Cut}
 use Rattle.scion_packet.specs.Extensions.{upper_layer}
 use Rattle.scion_packet.specs.Header.{HeaderFields, HostAddress}
-use Rattle.scion_packet.specs.Packet.{IsPacket, Packet, packet_of, spelling}
+use Rattle.scion_packet.specs.Packet.{Packet, packet_of}
 use Rattle.scion_packet.specs.Path.{PathFields, path_text}
-use Rattle.scmp_answer.specs.Checksum.{checksum, ones_complement_sum, summed, words}
+use Rattle.scmp_answer.specs.Checksum.{checksum, summed}
 use Rattle.scmp_answer.specs.Message.{message}
 use Rattle.scmp_answer.specs.WayBack.{has_no_way_back, is_external, way_back}
 
