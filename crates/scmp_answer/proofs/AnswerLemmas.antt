@@ -1,5 +1,5 @@
 -- What is written one after the other is the text of the answer.
-use Rattle.std.proofs.Common.{◌≡◌, ◌≤◌, ℕ, ◌+◌, ◌-◌, ◌*◌, List, ◌++◌, length, take, drop, refl, sym, subst, ap, ap₂, ◌∙◌, append_assoc, arith, length-append}
+use Rattle.std.proofs.Common.{◌≡◌, ℕ, ◌+◌, ◌-◌, List, ◌++◌, length, refl, sym, subst, ap, ap₂, ◌∙◌, append_assoc, arith, length-append}
 use Rattle.byteorder.specs.Endian.{big_bytes}
 use Rattle.field_rows.specs.Place.{Puts, StandsAt, text_at}
 use Rattle.field_rows.specs.Row.{rows}
@@ -13,7 +13,7 @@ use Rattle.scmp_answer.specs.Checksum.{address_text, checksum, pseudo_table, sum
 use Rattle.scmp_answer.specs.Message.{message, message_table, numbers_of, quote, table_of}
 use Rattle.scmp_answer.specs.Reply.{answer_header, answer_packet, header_len}
 use Rattle.scmp_answer.proofs.PlaceLemmas.{written_over}
-use Rattle.scmp_answer.proofs.TableLemmas.{Parts, parts}
+use Rattle.scmp_answer.proofs.TableLemmas.{parts}
 
 pub header_text_len : (h : HeaderFields) → length (header_text h) ≡ front_len h
 header_text_len h =

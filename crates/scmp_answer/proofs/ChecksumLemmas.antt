@@ -2,7 +2,7 @@
 use Rattle.std.proofs.Common.{◌≡◌, ◌≤◌, ◌<◌, ℕ, zero, suc, ◌+◌, ◌*◌, ◌-◌, ◌%◌, ◌/◌, List, [], ◌∷◌, ◌++◌, length, get_or, slice_index, drop, sum, refl, sym, subst, ap, ◌∙◌, arith, inl, inr, length-append, length-drop}
 use Rattle.std.proofs.lemmas.Bool.{cases_eq, cases_lt, lt-ltb, le-ltb, cond-true, cond-false}
 use Rattle.std.proofs.lemmas.List.Sums.{sum_by-cons}
-use Rattle.std.proofs.lemmas.List.{drop_more, drop-drop}
+use Rattle.std.proofs.lemmas.List.{drop_more}
 use Rattle.byteorder.specs.Endian.{big_bytes, big_number}
 use Rattle.field_rows.specs.Place.{IsBytes, number_at}
 use Rattle.field_rows.specs.Row.{rows}
@@ -150,9 +150,9 @@ all_ones d e total before after =
 
 pub verifies : (a f t : List ℕ) (c : ℕ) → length a % 2 ≡ 0 → length f ≡ 2 → length f + 2 + length t ≤ 1232
     → (let m0 = f ++ (big_bytes 2 0 ++ t) in let mc = f ++ (big_bytes 2 c ++ t) in
-      IsBytes (a ++ (rows (pseudo_table (length m0)) ++ m0)) → IsBytes (a ++ (rows (pseudo_table (length mc)) ++ mc))
-      → c ≡ checksum (a ++ (rows (pseudo_table (length m0)) ++ m0))
-      → ones_complement_sum (words (a ++ (rows (pseudo_table (length mc)) ++ mc))) ≡ 65535)
+    IsBytes (a ++ (rows (pseudo_table (length m0)) ++ m0)) → IsBytes (a ++ (rows (pseudo_table (length mc)) ++ mc))
+    → c ≡ checksum (a ++ (rows (pseudo_table (length m0)) ++ m0))
+    → ones_complement_sum (words (a ++ (rows (pseudo_table (length mc)) ++ mc))) ≡ 65535)
 verifies a f t c even two short are-0 are-c c-is =
     let m0 = f ++ (big_bytes 2 0 ++ t) in
     let mc = f ++ (big_bytes 2 c ++ t) in

@@ -11,12 +11,12 @@ use Rattle.scion_packet.specs.Packet.{IsPacket, Packet, spelling}
 use Rattle.scion_packet.specs.Path.{IsPath, PathFields, path_text}
 use Rattle.scion_packet.proofs.PacketLaws.{packet_passes, part-are}
 use Rattle.scmp_answer.specs.Checksum.{address_text, checksum, ones_complement_sum, pseudo_table, summed, words}
-use Rattle.scmp_answer.specs.Message.{fixed_len, longest, message, message_table, numbers_of, quote, table_of}
-use Rattle.scmp_answer.specs.Outcome.{IsGood, IsWritten}
+use Rattle.scmp_answer.specs.Message.{fixed_len, message, message_table, numbers_of, quote, table_of}
+use Rattle.scmp_answer.specs.Outcome.{IsWritten}
 use Rattle.scmp_answer.specs.Reply.{answer_header, answer_packet, header_len}
 use Rattle.scmp_answer.proofs.AnswerLemmas.{address_text_len, answer_is, header_text_len, summed_there}
 use Rattle.scmp_answer.proofs.ChecksumLemmas.{bytes-append, pseudo_bytes, verifies}
-use Rattle.scmp_answer.proofs.TableLemmas.{Parts, parts, table_len}
+use Rattle.scmp_answer.proofs.TableLemmas.{parts, table_len}
 
 fits_of : (x : Bool) (all : ℕ) (bytes : List ℕ) → all + 24 ≤ 1232 → all + cond x 24 8 + length (cond x [] (take (1232 - all - 8) bytes)) ≤ 1232
 fits_of true all bytes room = omega arith

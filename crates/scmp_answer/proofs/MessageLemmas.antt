@@ -1,5 +1,5 @@
 -- The fields of a message, written one after the other, and its quote.
-use Rattle.std.proofs.Common.{◌≡◌, ◌≤◌, ◌<◌, ℕ, ◌+◌, ◌/◌, ◌%◌, List, [], ◌∷◌, ◌++◌, length, refl, sym, ap, ◌∙◌, arith}
+use Rattle.std.proofs.Common.{◌≡◌, ◌<◌, ℕ, ◌/◌, ◌%◌, [], ◌++◌, refl, arith}
 use Rattle.byteorder.specs.Endian.{big_bytes}
 
 -- an interface as a number of 64 bits

@@ -1,5 +1,5 @@
 -- Writes into a part of a buffer, and over a part of a text.
-use Rattle.std.proofs.Common.{◌≡◌, ◌≤◌, ℕ, ◌+◌, ◌-◌, List, [], ◌++◌, length, take, drop, refl, sym, subst, ap, ap₂, ◌∙◌, append_assoc, arith, length-append, length-drop}
+use Rattle.std.proofs.Common.{◌≡◌, ◌≤◌, ℕ, ◌+◌, ◌-◌, List, ◌++◌, length, take, drop, sym, subst, ap, ap₂, ◌∙◌, arith, length-drop}
 use Rattle.std.proofs.lemmas.List.{drop-drop, length-take-le, take_all, take-take}
 use Rattle.field_rows.specs.Place.{Puts, StandsAt}
 use Rattle.field_rows.proofs.Rows.{Puts-before, Puts-behind, Puts-length, Puts-stands, StandsAt-back, StandsAt-front, StandsAt-then}

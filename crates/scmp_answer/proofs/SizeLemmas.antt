@@ -1,5 +1,5 @@
 -- How many bytes a path has.
-use Rattle.std.proofs.Common.{◌≡◌, ◌≤◌, ℕ, ◌+◌, ◌*◌, true, List, [], ◌∷◌, ◌++◌, length, map, take, drop, slice_index, ap, ◌∙◌, arith, length-append, length-drop}
+use Rattle.std.proofs.Common.{◌≡◌, ◌≤◌, ℕ, ◌+◌, ◌*◌, true, List, [], ◌∷◌, length, map, take, drop, slice_index, ◌∙◌, arith, length-append, length-drop}
 use Rattle.std.proofs.lemmas.List.{length-map, length-take-le}
 use Rattle.path_fields.specs.Fields.{hop_field}
 use Rattle.path_fields.specs.Path.{fields_of, segments, segments_from}
@@ -60,5 +60,11 @@ hops_counted l (x ∷ y ∷ z ∷ w ∷ infos) hops lawful n m =
 
 pub path_text_len : (p : Path) → IsPath (fields_of p) → length (path_text (fields_of p)) ≡ 4 + 8 * length p.infos.items + 12 * length p.hops.items
 path_text_len p lawful =
-    omega (arith, length-append (infos_text (segments p)) (hops_text (segments p)), infos_len (segments p), hops_len (segments p) lawful.segments,
-    segments_len 0 p.lengths p.infos.items p.hops.items, hops_counted p.lengths p.infos.items p.hops.items p.lengths_are_lawful p.has_infos p.has_hops)
+    omega (
+      arith,
+      length-append (infos_text (segments p)) (hops_text (segments p)),
+      infos_len (segments p),
+      hops_len (segments p) lawful.segments,
+      segments_len 0 p.lengths p.infos.items p.hops.items,
+      hops_counted p.lengths p.infos.items p.hops.items p.lengths_are_lawful p.has_infos p.has_hops,
+    )

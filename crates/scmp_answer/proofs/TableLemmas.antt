@@ -1,5 +1,5 @@
 -- The parts of a message: its type and code, its checksum, and what stands behind them.
-use Rattle.std.proofs.Common.{◌≡◌, ℕ, Bool, true, false, List, [], ◌∷◌, ◌++◌, length, refl, cond, eqb, arith}
+use Rattle.std.proofs.Common.{◌≡◌, ℕ, Bool, true, false, List, [], ◌∷◌, ◌++◌, length, refl, cond, eqb}
 use Rattle.byteorder.specs.Endian.{big_bytes}
 use Rattle.field_rows.specs.Row.{Field, field, rows}
 use Rattle.process_packet.specs.declared.decision.Problem.{Problem}

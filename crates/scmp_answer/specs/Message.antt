@@ -1,6 +1,6 @@
 -- The SCMP messages that a router answers with (SCMP specification, "Message Format", "Destination Unreachable", "Parameter
 -- Problem", "Traceroute Reply").
-use Rattle.std.specs.Prelude.{ℕ, ◌+◌, ◌-◌, ◌==◌, List, [], ◌∷◌, ◌++◌, length, take, Option, Some, None, if◌then◌else◌}
+use Rattle.std.specs.Prelude.{ℕ, ◌-◌, ◌==◌, List, [], ◌∷◌, ◌++◌, take, Option, Some, None, if◌then◌else◌}
 use Rattle.field_rows.specs.Row.{Field, field, rows}
 use Rattle.process_packet.specs.declared.decision.Problem.{Problem}
 use Rattle.process_packet.specs.Request.{request}

@@ -1,5 +1,5 @@
 -- The answer to a datagram.
-use Rattle.std.specs.Prelude.{◌≡◌, ◌≤◌, ℕ, Bool, true, false, not, ◌+◌, ◌*◌, ◌/◌, ◌&&◌, ◌==◌, nat_lt, List, [], ◌∷◌, length, Option, Some, None, if◌then◌else◌}
+use Rattle.std.specs.Prelude.{ℕ, Bool, true, false, not, ◌+◌, ◌/◌, ◌&&◌, ◌==◌, nat_lt, List, length, Option, Some, None, if◌then◌else◌}
 use Rattle.process_packet.specs.declared.cause.Cause.{Cause}
 use Rattle.process_packet.specs.declared.cause.Cause.TheVariants.{NoAnswer, NoWayBack}
 use Rattle.process_packet.specs.declared.config.Config.{Config}
@@ -12,9 +12,9 @@ use Rattle.scion_header.specs.declared.upper.Upper.{Upper}
 use Rattle.scion_header.specs.declared.upper.Upper.TheVariants.{Scmp, Other, Cut}
 use Rattle.scion_packet.specs.Extensions.{upper_layer}
 use Rattle.scion_packet.specs.Header.{HeaderFields, HostAddress}
-use Rattle.scion_packet.specs.Packet.{IsPacket, Packet, packet_of, spelling}
+use Rattle.scion_packet.specs.Packet.{Packet, packet_of}
 use Rattle.scion_packet.specs.Path.{PathFields, path_text}
-use Rattle.scmp_answer.specs.Checksum.{checksum, ones_complement_sum, summed, words}
+use Rattle.scmp_answer.specs.Checksum.{checksum, summed}
 use Rattle.scmp_answer.specs.Message.{message}
 use Rattle.scmp_answer.specs.WayBack.{has_no_way_back, is_external, way_back}
 
@@ -76,14 +76,9 @@ pub data Reply : Type 0 where
 abbrev pub sent_back : ℕ → Underlay → Packet → Reply
 sent_back link source answer = Sent link (if is_external link then None else Some source) answer
 
-abbrev pub reply : HostAddress → ℕ → Underlay → List ℕ → Problem → Reply
+unfoldable pub reply : HostAddress → ℕ → Underlay → List ℕ → Problem → Reply
 reply here link source bytes problem =
     let p = packet_of bytes in
     if is_left_unanswered p problem then Dropped NoAnswer
     else if has_no_way_back link p.path then Dropped NoWayBack
     else sent_back link source (answer_packet here p (way_back link p.path) bytes problem)
-
--- the bytes that are sent; none for a drop
-abbrev pub reply_text : Reply → List ℕ
-reply_text (Sent link to p) = spelling p
-reply_text (Dropped cause) = []

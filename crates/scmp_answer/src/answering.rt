@@ -99,15 +99,7 @@ pub fn answer_into(
     }
     let way = way_back(link, &arriving.path);
     let here = local_address(config);
-    let len = write_answer(
-        &here,
-        &arriving.header,
-        payload,
-        &way,
-        bytes,
-        problem,
-        out,
-    );
+    let len = write_answer(&here, &arriving.header, payload, &way, bytes, problem, out);
     AnswerLen::Send {
         link,
         to: back_to(link, source),
@@ -130,7 +122,14 @@ pub fn answer(
 {
     let mut out = [0; LONGEST];
     let bytes = arrival.bytes.as_slice();
-    match answer_into(config, arrival.link, arrival.source, bytes, problem, &mut out) {
+    match answer_into(
+        config,
+        arrival.link,
+        arrival.source,
+        bytes,
+        problem,
+        &mut out,
+    ) {
         AnswerLen::Drop(cause) => Ok(Answered::Drop(cause)),
         AnswerLen::Send { link, to, len } => match Vec::from_slice(alloc, &out[..len]) {
             Ok(bytes) => Ok(Answered::Send { link, to, bytes }),

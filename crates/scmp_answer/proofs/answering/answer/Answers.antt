@@ -1,4 +1,4 @@
-use Rattle.std.proofs.Common.{◌≡◌, ◌∙◌, ℕ, List, ap}
+use Rattle.std.proofs.Common.{◌∙◌, ℕ, List, ap}
 use Rattle.scmp_answer.specs.Outcome.{Leaves, outcome}
 use Rattle.scmp_answer.specs.Reply.{local_address, reply}
 use Rattle.scmp_answer.proofs.ReplyLemmas.{was_sent}

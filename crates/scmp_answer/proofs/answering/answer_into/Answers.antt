@@ -1,4 +1,4 @@
-use Rattle.std.proofs.Common.{◌≡◌, ◌≤◌, ◌∙◌, ℕ, List, Option, sym, subst, ap, ap₂, arith}
+use Rattle.std.proofs.Common.{◌∙◌, ℕ, List, Option, sym, subst, ap, ap₂, arith}
 use Rattle.process_packet.proofs.FrontLemmas.{rest_of}
 use Rattle.process_packet.specs.declared.underlay.Underlay.{Underlay}
 use Rattle.scion_packet.specs.Header.{HostAddress}

@@ -1,4 +1,4 @@
-use Rattle.std.proofs.Common.{◌≡◌, ◌+◌, ◌-◌, ◌++◌, ℕ, length, sum, sym, ap, subst, ◌∙◌, arith}
+use Rattle.std.proofs.Common.{◌≡◌, ◌+◌, ◌-◌, ◌++◌, ℕ, length, sum, ap, subst, ◌∙◌, arith}
 use Rattle.field_rows.specs.Place.{IsBytes}
 use Rattle.field_rows.specs.Row.{rows}
 use Rattle.scmp_answer.specs.Checksum.{Carried, ones_complement_sum, pseudo_table, words}

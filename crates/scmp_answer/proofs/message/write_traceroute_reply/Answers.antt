@@ -1,5 +1,4 @@
-use Rattle.std.proofs.Common.{◌≡◌, ◌+◌, ◌++◌, [], ◌∷◌, sym, subst, arith}
-use Rattle.byteorder.specs.Endian.{big_bytes}
+use Rattle.std.proofs.Common.{◌+◌, subst, arith}
 use Rattle.field_rows.specs.Place.{Puts}
 use Rattle.field_rows.proofs.Rows.{Puts-next}
 use Rattle.scmp_answer.proofs.MessageLemmas.{interface_bytes}

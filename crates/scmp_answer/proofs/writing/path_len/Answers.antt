@@ -1,4 +1,4 @@
-use Rattle.std.proofs.Common.{◌≡◌, arith}
+use Rattle.std.proofs.Common.{arith}
 use Rattle.scmp_answer.proofs.SizeLemmas.{path_text_len}
 use Rattle.scmp_answer.proofs.writing.path_len.Goals as goal
 

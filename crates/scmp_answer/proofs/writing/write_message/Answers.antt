@@ -1,4 +1,4 @@
-use Rattle.std.proofs.Common.{◌≡◌, ◌+◌, ℕ, sym, ap, ◌∙◌, arith}
+use Rattle.std.proofs.Common.{◌+◌, ℕ, sym, ap, ◌∙◌}
 use Rattle.field_rows.proofs.Rows.{Puts-next}
 use Rattle.process_packet.specs.Request.{request}
 use Rattle.scion_header.specs.Address.{host_address}

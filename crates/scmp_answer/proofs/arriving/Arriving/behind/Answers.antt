@@ -1,5 +1,4 @@
-use Rattle.std.proofs.Common.{Option, Some, None, ◌≡◌, ◌*◌, ◌≤◌, ◌-◌, ℕ, length, sym, ap, ◌∙◌, arith}
-use Rattle.path_fields.specs.Path.{fields_of}
+use Rattle.std.proofs.Common.{Option, Some, None, ◌≡◌, ◌*◌, ℕ, ap, ◌∙◌, arith}
 use Rattle.process_packet.proofs.FrontLemmas.{path_between, path_lies}
 use Rattle.scion_packet.specs.Fault.{Fault}
 use Rattle.scion_packet.specs.Path.{path_fault, path_of}

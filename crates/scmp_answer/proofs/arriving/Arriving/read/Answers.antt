@@ -1,5 +1,3 @@
-use Rattle.std.proofs.Common.{arith}
-use Rattle.field_rows.specs.Place.{IsBytes}
 use Rattle.scion_packet.proofs.PacketLaws.{both_pass}
 use Rattle.scmp_answer.proofs.arriving.Arriving.read.Goals as goal
 
