@@ -7,7 +7,9 @@ ghost use Rattle.router_program.specs.Answers.{answer_for, answer_to, bytes_of, 
 
 use crate::arriving::Arriving;
 use itoa::Buffer;
-use process_packet::{Cause, Config, Decision, Problem, Underlay, answers_are_sound, route_in_place};
+use process_packet::{
+    Cause, Config, Decision, Problem, Underlay, answers_are_sound, route_in_place,
+};
 use router_config::push_underlay;
 use scmp_answer::{AnswerLen, answer_into};
 use std::alloc::AllocError;
@@ -48,7 +50,12 @@ fn push_to(text: &mut Vec<u8>, to: Option<Underlay>) -> Result<(), AllocError>
 }
 
 /// Adds the link, where the packet is sent there, and its bytes.
-fn push_sent(text: &mut Vec<u8>, link: u16, to: Option<Underlay>, bytes: &[u8]) -> Result<(), AllocError>
+fn push_sent(
+    text: &mut Vec<u8>,
+    link: u16,
+    to: Option<Underlay>,
+    bytes: &[u8],
+) -> Result<(), AllocError>
     ensures { OnOk result (text.new.items ≡ text.old.items ++ sent_text link to bytes.now) }
 {
     push_decimal(text, link)?;

@@ -46,14 +46,7 @@ fn route<R: Files + Input + Print + AllocGlobal>(rt: &R, order: Order<'_>) -> Re
     };
     let mut reader = BufReader::new(alloc, rt.reader()).map_err(|_| Fault::Memory)?;
     let mut writer = io::writer(rt);
-    route_lines(
-        alloc,
-        &config,
-        &arriving,
-        &mut reader,
-        &mut writer,
-    )
-    .map_err(Fault::Lines)
+    route_lines(alloc, &config, &arriving, &mut reader, &mut writer).map_err(Fault::Lines)
 }
 
 /// Does what the command line asks for.

@@ -1,7 +1,8 @@
 //! Worked datagrams with the lines that they must give, from an independent model over OpenSSL.
 
 /// The configuration of the examples.
-pub const CONFIG: &str = "version = 1\nisd_as = \"1-ff00:0:110\"\nkey = \"2b7e151628aed2a6abf7158809cf4f3c\"\n\
+pub const CONFIG: &str =
+    "version = 1\nisd_as = \"1-ff00:0:110\"\nkey = \"2b7e151628aed2a6abf7158809cf4f3c\"\n\
     internal = \"10.0.0.1:30000\"\nhost_port = 30041\nprocessors = 1\ncapacity = 4\nseed = 0\nlink = [\n\
     {id=1, kind=\"parent\", local=\"10.1.0.1:40000\", remote=\"10.1.0.2:40000\"},\n\
     {id=2, kind=\"child\", local=\"10.2.0.1:40000\", remote=\"10.2.0.2:40000\"},\n\
@@ -10,6 +11,7 @@ pub const CONFIG: &str = "version = 1\nisd_as = \"1-ff00:0:110\"\nkey = \"2b7e15
     service = [{number=2, at=\"10.0.0.9:30252\"}]\n";
 
 /// A worked example: how its datagrams arrive, and what they give.
+#[derive(Clone, Copy)]
 pub struct Row {
     pub name: &'static str,
     pub link: u16,

@@ -177,7 +177,10 @@ fn reads_words(rt: HostRuntime) {
             Some((65535, 1099511627775)),
         ),
         ("route --config c --link 0 --now 1", Some((0, 1))),
-        ("route --config c --link 0 --now 1 --from 10.0.0.3:1", Some((0, 1))),
+        (
+            "route --config c --link 0 --now 1 --from 10.0.0.3:1",
+            Some((0, 1)),
+        ),
         ("route --config c --link 0 --now 1 --from 10.0.0.3", None),
         ("route --config c --link 0 --now 1 --from 10.0.0.03:1", None),
         ("route --config c --link 01 --now 1", None),

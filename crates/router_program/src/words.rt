@@ -194,7 +194,8 @@ pub fn read_words<'a>(alloc: Global, words: &'a [String]) -> Result<Order<'a>, W
     match order_of(&matches) {
         Some(order) => Ok(order),
         None => {
-            let message = "N is a decimal number up to 65535, S one up to 1099511627775, and ADDR an address and port";
+            let message =
+                "N is a decimal number up to 65535, S one up to 1099511627775, and ADDR an address and port";
             match command.error(ErrorKind::ValueValidation, message) {
                 Ok(error) => Err(fault_of(error)),
                 Err(_) => Err(WordsFault::Memory),
