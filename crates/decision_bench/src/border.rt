@@ -38,16 +38,24 @@ fn link(id: u8, kind: LinkKind) -> Link
 
 /// The configuration of 1-ff00:0:110.
 pub(crate) fn border(alloc: Global) -> Result<Config, AllocError> {
-    let links = vec![in alloc; link(1, LinkKind::Parent), link(2, LinkKind::Child), link(3, LinkKind::Core)]?;
-    let siblings = vec![in alloc; Sibling {
-        id: 4,
-        kind: LinkKind::Child,
-        at: at(0, 2, 30000),
-    }]?;
-    let services = vec![in alloc; Service {
-        number: 2,
-        at: at(0, 9, 30252),
-    }]?;
+    let links = vec![in alloc;
+        link(1, LinkKind::Parent),
+        link(2, LinkKind::Child),
+        link(3, LinkKind::Core),
+    ]?;
+    let siblings = vec![in alloc;
+        Sibling {
+            id: 4,
+            kind: LinkKind::Child,
+            at: at(0, 2, 30000),
+        },
+    ]?;
+    let services = vec![in alloc;
+        Service {
+            number: 2,
+            at: at(0, 9, 30252),
+        },
+    ]?;
     Ok(Config {
         isd: 1,
         autonomous_system: 0xff00_0000_0110,

@@ -3,9 +3,9 @@
 
 mod arrived;
 mod border;
+#[cfg(test)]
+mod tests;
 mod told;
-
-ghost use Rattle.std.specs.Prelude.{◌≡◌};
 
 use crate::arrived::Arrived;
 use crate::border::border;
@@ -18,7 +18,13 @@ fn turn(config: &Config, arrived: &Arrived, bytes: &mut [u8]) -> u64 {
     let Some(datagram) = bytes.get_mut(arrived.begin..arrived.end) else {
         return 0;
     };
-    let decision = route_in_place(config, arrived.link, arrived.source(), arrived.moment, datagram);
+    let decision = route_in_place(
+        config,
+        arrived.link,
+        arrived.source(),
+        arrived.moment,
+        datagram,
+    );
     arrived.restore(datagram);
     Told::of(decision).sum()
 }

@@ -1,7 +1,7 @@
 //! A decision as the timing program reads it.
 
 ghost use Rattle.std.specs.Prelude.{◌≡◌};
-ghost use Rattle.decision_bench.specs.Told.{kind_of};
+ghost use Rattle.decision_bench.specs.Told.{kind_of, what_of};
 
 use process_packet::{Decision, Ip, Underlay};
 
@@ -34,6 +34,7 @@ impl Told {
     /// The decision in numbers.
     pub(crate) fn of(decision: Decision) -> Told
         ensures kind { result.kind ≡ kind_of decision }
+        ensures what { result.what ≡ what_of decision }
     {
         match decision {
             Decision::Send { link, to: None } => Told {
@@ -61,12 +62,16 @@ impl Told {
 
     fn sent(link: u16, to: Underlay) -> Told
         ensures kind { result.kind ≡ 2 }
+        ensures what { result.what ≡ link }
     {
         let (high, low) = match to.ip {
             Ip::V4(ip) => (0, u64::from(u32::from_be_bytes(ip))),
             Ip::V6(ip) => {
                 let number = u128::from_be_bytes(ip);
-                ((number >> 64) as u64, (number & 0xffff_ffff_ffff_ffff) as u64)
+                (
+                    (number >> 64) as u64,
+                    (number & 0xffff_ffff_ffff_ffff) as u64,
+                )
             }
         };
         Told {
