@@ -36,12 +36,8 @@ const fn s_box() -> [u8; 256] {
             k += 1;
         }
         let i: u8 = inverse;
-        table[b] = i
-            ^ i.rotate_left(1)
-            ^ i.rotate_left(2)
-            ^ i.rotate_left(3)
-            ^ i.rotate_left(4)
-            ^ 0x63;
+        table[b] =
+            i ^ i.rotate_left(1) ^ i.rotate_left(2) ^ i.rotate_left(3) ^ i.rotate_left(4) ^ 0x63;
         b += 1;
     }
     table

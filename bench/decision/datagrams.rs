@@ -92,7 +92,10 @@ fn parts(link: u16, segments: &[Segment], current: usize) -> Parts {
 
 impl Parts {
     fn to(self, destination: u64) -> Parts {
-        Parts { destination, ..self }
+        Parts {
+            destination,
+            ..self
+        }
     }
 
     fn coming_from(self, source: u64) -> Parts {
@@ -208,7 +211,10 @@ fn sent_inside(ip: impl Into<IpAddr>, port: u16) -> Decision {
         ip: ip.into(),
         port,
     };
-    Decision::Send { link: 0, to: Some(to) }
+    Decision::Send {
+        link: 0,
+        to: Some(to),
+    }
 }
 
 fn answered(kind: u8, code: u8, pointer: u16) -> Decision {
@@ -261,13 +267,24 @@ pub fn timed() -> Vec<Datagram> {
     vec![
         transit.clone(),
         against.make("transit against, 3 hops", sent(1)),
-        parts(1, &[segment(true, 63, &[(31, 1, 2)]), segment(true, 1, &[])], 31)
-            .make("transit along, 64 hops", sent(2)),
-        parts(2, &[segment(false, 63, &[(31, 1, 2)]), segment(true, 1, &[])], 31)
-            .make("transit against, 64 hops", sent(1)),
+        parts(
+            1,
+            &[segment(true, 63, &[(31, 1, 2)]), segment(true, 1, &[])],
+            31,
+        )
+        .make("transit along, 64 hops", sent(2)),
+        parts(
+            2,
+            &[segment(false, 63, &[(31, 1, 2)]), segment(true, 1, &[])],
+            31,
+        )
+        .make("transit against, 64 hops", sent(1)),
         switch(2, 2).make("segment switch, 4 hops", sent(2)),
         switch(32, 2).make("segment switch, 64 hops", sent(2)),
-        switch(2, 4).make("segment switch to a sibling", sent_inside([10, 0, 0, 2], 30000)),
+        switch(2, 4).make(
+            "segment switch to a sibling",
+            sent_inside([10, 0, 0, 2], 30000),
+        ),
         delivery
             .clone()
             .for_host(0, &[10, 0, 0, 77])
@@ -277,9 +294,10 @@ pub fn timed() -> Vec<Datagram> {
             .make("from inside, first hop", sent(2)),
         parts(0, &[segment(true, 3, &[(1, 4, 2)])], 1).make("from inside, by a sibling", sent(2)),
         transit.with("problem: wrong MAC", 71, &[0], answered(4, 51, 60)),
-        along
-            .by(at(1, 3, 40000))
-            .make("drop: underlay source", Decision::Drop(Cause::UnderlaySource)),
+        along.by(at(1, 3, 40000)).make(
+            "drop: underlay source",
+            Decision::Drop(Cause::UnderlaySource),
+        ),
     ]
 }
 
@@ -292,7 +310,7 @@ pub fn compared() -> Vec<Datagram> {
     let six = [0xfd, 0, 0, 0, 0, 0, 0, 0, 0, 0, 0, 0, 0, 0, 0, 0x77];
     let dropped = Decision::Drop;
     let drop = |name, place, bytes: &[u8], cause| transit.with(name, place, bytes, dropped(cause));
-    all.extend([
+    let more = [
         delivery
             .clone()
             .for_host(0x30, &six)
@@ -318,25 +336,51 @@ pub fn compared() -> Vec<Datagram> {
             wanted: answered(4, 49, 60),
             ..transit.clone()
         },
+        Datagram {
+            name: "wrong link, against",
+            link: 1,
+            wanted: answered(4, 50, 60),
+            ..all[1].clone()
+        },
         transit.with("payload length", 7, &[9], answered(4, 19, 0)),
-        transit.with("local source", 20, &LOCAL.to_be_bytes(), answered(4, 33, 20)),
-        transit.with("local destination", 12, &LOCAL.to_be_bytes(), answered(4, 34, 12)),
+        transit.with(
+            "local source",
+            20,
+            &LOCAL.to_be_bytes(),
+            answered(4, 33, 20),
+        ),
+        transit.with(
+            "local destination",
+            12,
+            &LOCAL.to_be_bytes(),
+            answered(4, 34, 12),
+        ),
         delivery.clone().make("ends elsewhere", answered(4, 34, 12)),
         parts(0, &[segment(true, 3, &[(0, 0, 2)])], 0)
             .make("starts inside with a source outside", answered(4, 33, 20)),
+        parts(0, &[segment(true, 3, &[(0, 0, 2)])], 0)
+            .coming_from(LOCAL)
+            .to(LOCAL)
+            .make("stays inside", answered(4, 34, 12)),
         parts(1, &[segment(true, 3, &[(1, 1, 9)])], 1).make("no such egress", answered(4, 50, 60)),
         parts(2, &[segment(false, 3, &[(1, 9, 2)])], 1)
             .make("no such egress, against", answered(4, 49, 60)),
         parts(1, &[segment(true, 3, &[(1, 1, 3)])], 1).make("no such pair", answered(4, 48, 60)),
         parts(
             1,
-            &[segment(true, 2, &[(1, 1, 0)]), segment(true, 2, &[(0, 0, 3)])],
+            &[
+                segment(true, 2, &[(1, 1, 0)]),
+                segment(true, 2, &[(0, 0, 3)]),
+            ],
             1,
         )
         .make("no such pair at a switch", answered(4, 53, 48)),
         parts(
             3,
-            &[segment(true, 2, &[(1, 3, 0)]), segment(true, 2, &[(0, 0, 2)])],
+            &[
+                segment(true, 2, &[(1, 3, 0)]),
+                segment(true, 2, &[(0, 0, 2)]),
+            ],
             1,
         )
         .make("core to child", sent(2)),
@@ -348,24 +392,38 @@ pub fn compared() -> Vec<Datagram> {
         .make("wrong MAC behind a switch", answered(4, 51, 80)),
         parts(
             0,
-            &[segment(false, 2, &[(1, 0, 4)]), segment(true, 2, &[(0, 0, 2)])],
+            &[
+                segment(false, 2, &[(1, 0, 4)]),
+                segment(true, 2, &[(0, 0, 2)]),
+            ],
             2,
         )
         .make("from inside, behind a switch", sent(2)),
         parts(
             0,
-            &[segment(false, 2, &[(1, 0, 2)]), segment(true, 2, &[(0, 0, 2)])],
+            &[
+                segment(false, 2, &[(1, 0, 2)]),
+                segment(true, 2, &[(0, 0, 2)]),
+            ],
             2,
         )
-        .make("from inside, by another router", dropped(Cause::UnderlaySource)),
-        along.clone().asking(2).make("asked at the ingress", answered(131, 0, 1)),
-        along.clone().asking(1).make("asked at the egress", answered(131, 0, 2)),
+        .make(
+            "from inside, by another router",
+            dropped(Cause::UnderlaySource),
+        ),
+        along
+            .clone()
+            .asking(2)
+            .make("asked at the ingress", answered(131, 0, 1)),
+        along
+            .clone()
+            .asking(1)
+            .make("asked at the egress", answered(131, 0, 2)),
         along.clone().asking(0).make("asked elsewhere", sent(2)),
         parts(1, &[segment(true, 2, &[(1, 1, 2)])], 1)
             .to(LOCAL)
             .make("delivery with an egress", sent_inside([10, 2, 0, 7], 30041)),
-        parts(0, &[segment(true, 2, &[(1, 4, 2)])], 1)
-            .make("path ends", dropped(Cause::PathEnd)),
+        parts(0, &[segment(true, 2, &[(1, 4, 2)])], 1).make("path ends", dropped(Cause::PathEnd)),
         transit.cut("no byte", 0, dropped(Cause::Short)),
         transit.cut("11 bytes", 11, dropped(Cause::Short)),
         transit.cut("cut", 83, dropped(Cause::Short)),
@@ -378,7 +436,8 @@ pub fn compared() -> Vec<Datagram> {
         drop("65 hops", 36, &[1, 3, 0xf0, 0x80], Cause::Path),
         drop("past the end", 36, &[3], Cause::Path),
         drop("peering", 40, &[3], Cause::Peering),
-    ]);
+    ];
+    all.extend(more);
     let mut long = transit;
     long.name = "too long";
     long.bytes.resize(9217, 0);

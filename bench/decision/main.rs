@@ -199,30 +199,65 @@ fn columns() -> Vec<(&'static str, Rounds)> {
         ("Rattle", proved::rounds),
         ("Rust", plain_rounds::<BlockCmac>),
         #[cfg(openssl)]
-        ("Rust with OpenSSL's CMAC", plain_rounds::<openssl::OpensslCmac>),
+        (
+            "Rust with OpenSSL's CMAC",
+            plain_rounds::<openssl::OpensslCmac>,
+        ),
     ]
 }
 
-/// The least time of a decision in each column, in nanoseconds; the columns take turns.
-fn times(datagrams: &[&Datagram], columns: &[(&str, Rounds)]) -> Vec<f64> {
-    let (arrivals, mut bytes) = laid_out(datagrams);
-    let before = bytes.clone();
-    let rounds = (DECISIONS / arrivals.len()) as u64;
-    let decisions = rounds as f64 * arrivals.len() as f64;
-    let mut best = vec![Duration::MAX; columns.len()];
-    let mut sums = vec![0; columns.len()];
-    for _ in 0..TRIES {
-        for (k, (_, run)) in columns.iter().enumerate() {
-            let begin = Instant::now();
-            sums[k] = run(black_box(rounds), black_box(&arrivals), black_box(&mut bytes));
-            best[k] = best[k].min(begin.elapsed());
+/// Datagrams that are timed together, and the least time of each column so far.
+struct Set {
+    name: &'static str,
+    arrivals: Vec<Arrived>,
+    bytes: Vec<u8>,
+    before: Vec<u8>,
+    best: Vec<Duration>,
+}
+
+impl Set {
+    fn new(name: &'static str, datagrams: &[&Datagram], columns: usize) -> Set {
+        let (arrivals, bytes) = laid_out(datagrams);
+        Set {
+            name,
+            arrivals,
+            before: bytes.clone(),
+            bytes,
+            best: vec![Duration::MAX; columns],
         }
     }
-    assert!(sums.iter().all(|sum| *sum == sums[0]), "all columns decide alike");
-    assert_eq!(bytes, before, "all bytes are restored");
-    best.iter()
-        .map(|time| time.as_nanos() as f64 / decisions)
-        .collect()
+
+    fn rounds(&self) -> u64 {
+        (DECISIONS / self.arrivals.len()) as u64
+    }
+
+    /// Times each column once.
+    fn time(&mut self, columns: &[(&str, Rounds)]) {
+        let rounds = self.rounds();
+        let mut sums = Vec::new();
+        for (k, (_, run)) in columns.iter().enumerate() {
+            let begin = Instant::now();
+            let sum = run(
+                black_box(rounds),
+                black_box(&self.arrivals),
+                black_box(&mut self.bytes),
+            );
+            self.best[k] = self.best[k].min(begin.elapsed());
+            sums.push(sum);
+            assert_eq!(self.bytes, self.before, "restored bytes, {}", self.name);
+        }
+        assert!(
+            sums.iter().all(|sum| *sum == sums[0]),
+            "all columns decide alike, {}",
+            self.name
+        );
+    }
+
+    /// The least time of a decision in a column, in nanoseconds.
+    fn least(&self, column: usize) -> f64 {
+        let decisions = self.rounds() as f64 * self.arrivals.len() as f64;
+        self.best[column].as_nanos() as f64 / decisions
+    }
 }
 
 fn main() {
@@ -230,10 +265,25 @@ fn main() {
     for datagram in &all {
         compare(datagram);
     }
-    println!("{} datagrams: the same decisions, the same bytes", all.len());
+    println!(
+        "{} datagrams: the same decisions, the same bytes",
+        all.len()
+    );
 
     let columns = columns();
     let datagrams = timed();
+    let each: Vec<_> = datagrams.iter().collect();
+    let mut sets: Vec<_> = datagrams
+        .iter()
+        .map(|datagram| Set::new(datagram.name, &[datagram; COPIES], columns.len()))
+        .collect();
+    sets.push(Set::new("all of these by turns", &each, columns.len()));
+    for _ in 0..TRIES {
+        for set in &mut sets {
+            set.time(&columns);
+        }
+    }
+
     println!();
     print!("| ns per decision |");
     for (name, _) in &columns {
@@ -241,28 +291,26 @@ fn main() {
     }
     println!(" Rattle/Rust |");
     println!("|---|{}", "---|".repeat(columns.len() + 1));
-    let row = |name: &str, set: &[&Datagram]| {
-        let times = times(set, &columns);
-        print!("| {name} |");
-        for time in &times {
-            print!(" {time:.1} |");
+    for set in &sets {
+        print!("| {} |", set.name);
+        for column in 0..columns.len() {
+            print!(" {:.1} |", set.least(column));
         }
-        println!(" {:.2} |", times[0] / times[1]);
-        times
-    };
-    let mut rattle = Vec::new();
-    for datagram in &datagrams {
-        rattle.push(row(datagram.name, &[datagram; COPIES])[0]);
+        println!(" {:.2} |", set.least(0) / set.least(1));
     }
-    let each: Vec<_> = datagrams.iter().collect();
-    let mixed = row("all of these by turns", &each);
-    let of = |name| {
-        let k = datagrams.iter().position(|datagram| datagram.name == name);
-        rattle[k.expect("it is timed")]
+
+    // Rattle's transit, along and against.
+    let transit = |hops: &str| -> f64 {
+        sets.iter()
+            .filter(|set| set.name.starts_with("transit") && set.name.ends_with(hops))
+            .map(|set| set.least(0))
+            .sum()
     };
-    let three = of("transit along, 3 hops") + of("transit against, 3 hops");
-    let many = of("transit along, 64 hops") + of("transit against, 64 hops");
+    let mixed = &sets[sets.len() - 1];
     println!();
-    println!("decision/rust {:.2}", mixed[0] / mixed[1]);
-    println!("hops64/hops3 {:.2}", many / three);
+    println!("decision/rust {:.2}", mixed.least(0) / mixed.least(1));
+    println!(
+        "hops64/hops3 {:.2}",
+        transit(" 64 hops") / transit(" 3 hops")
+    );
 }

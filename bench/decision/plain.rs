@@ -183,14 +183,10 @@ fn may_pass(from: Option<LinkKind>, to: LinkKind, switched: bool) -> bool {
     use LinkKind::*;
     match from {
         None => !switched,
-        Some(from) if switched => matches!(
-            (from, to),
-            (Core, Child) | (Child, Core) | (Child, Child)
-        ),
-        Some(from) => matches!(
-            (from, to),
-            (Core, Core) | (Child, Parent) | (Parent, Child)
-        ),
+        Some(from) if switched => {
+            matches!((from, to), (Core, Child) | (Child, Core) | (Child, Child))
+        }
+        Some(from) => matches!((from, to), (Core, Core) | (Child, Parent) | (Parent, Child)),
     }
 }
 
@@ -209,10 +205,12 @@ impl<M> Config<M> {
     }
 
     fn delivered(&self, bytes: &[u8]) -> Decision {
-        let host = |ip| Some(Underlay {
-            ip,
-            port: self.host_port,
-        });
+        let host = |ip| {
+            Some(Underlay {
+                ip,
+                port: self.host_port,
+            })
+        };
         let to = match bytes[9] >> 4 {
             0b0000 => {
                 let four: [u8; 4] = bytes[28..32].try_into().unwrap();
@@ -224,7 +222,11 @@ impl<M> Config<M> {
             }
             0b0100 => {
                 let number = u16_at(bytes, 28);
-                match self.services.iter().find(|service| service.number == number) {
+                match self
+                    .services
+                    .iter()
+                    .find(|service| service.number == number)
+                {
                     Some(service) => Some(service.at),
                     None => {
                         return Decision::Answer {
