@@ -7,6 +7,8 @@ mod border;
 mod tests;
 mod told;
 
+ghost use Rattle.std.specs.Prelude.{◌≡◌, ◌≤◌, length};
+
 use crate::arrived::Arrived;
 use crate::border::border;
 use crate::told::Told;
@@ -37,7 +39,9 @@ pub extern "C" fn decision_bench_rounds(
     rounds: u64,
     arrivals: &[Arrived],
     bytes: &mut [u8],
-) -> u64 {
+) -> u64
+    ensures { length bytes.new ≡ length bytes.old }
+{
     let Ok(config) = border(alloc) else {
         return 0;
     };
@@ -53,11 +57,9 @@ pub extern "C" fn decision_bench_rounds(
 /// Decides one datagram, whose bytes are then those that leave, and tells it. Without memory the kind
 /// is 0.
 #[unsafe(no_mangle)]
-pub extern "C" fn decision_bench_once(
-    alloc: Global,
-    arrived: &Arrived,
-    datagram: &mut [u8],
-) -> Told {
+pub extern "C" fn decision_bench_once(alloc: Global, arrived: &Arrived, datagram: &mut [u8]) -> Told
+    ensures { result.kind ≤ 4 }
+{
     let Ok(config) = border(alloc) else {
         return Told::nothing();
     };

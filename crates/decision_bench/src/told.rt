@@ -1,6 +1,6 @@
 //! A decision as the timing program reads it.
 
-ghost use Rattle.std.specs.Prelude.{◌≡◌};
+ghost use Rattle.std.specs.Prelude.{◌≡◌, ◌≤◌};
 ghost use Rattle.decision_bench.specs.Told.{kind_of, what_of};
 
 use process_packet::{Decision, Ip, Underlay};
@@ -21,7 +21,9 @@ pub struct Told {
 }
 
 impl Told {
-    pub(crate) fn nothing() -> Told {
+    pub(crate) fn nothing() -> Told
+        ensures { result.kind ≡ 0 }
+    {
         Told {
             kind: 0,
             what: 0,
@@ -35,6 +37,7 @@ impl Told {
     pub(crate) fn of(decision: Decision) -> Told
         ensures kind { result.kind ≡ kind_of decision }
         ensures what { result.what ≡ what_of decision }
+        ensures small { result.kind ≤ 4 }
     {
         match decision {
             Decision::Send { link, to: None } => Told {
