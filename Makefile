@@ -3,7 +3,7 @@ RT ?= rt
 PREFIX ?= /usr/local
 PROGRAM = crates/router_program/out/router_program
 
-.PHONY: all demo test install clean
+.PHONY: all demo test bench-decision install clean
 
 all: bin/router
 
@@ -20,6 +20,11 @@ demo: bin/router
 # The merge gate.
 test:
 	$(RT) ci
+
+# Times the decision beside plain Rust.
+bench-decision:
+	cd crates/decision_bench && $(RT) lib
+	RT="$(RT)" bench/decision/run.sh
 
 install: bin/router
 	install -d $(DESTDIR)$(PREFIX)/bin

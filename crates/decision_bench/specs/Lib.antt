@@ -1,0 +1,2 @@
+-- What a decision tells in numbers.
+pub mod Told
