@@ -2,10 +2,12 @@
 use crate::arriving::{Arriving, usual_source};
 use crate::engine::route_lines;
 use crate::fault::LinesFault;
-use crate::rows::{CONFIG, ROWS};
+use crate::rows::{CONFIG, LONG_ANSWER, LONG_HEADER, ROWS};
 use crate::words::{WordsFault, read_words};
+use path_fields::read_path;
 use process_packet::{Config, Ip, Underlay};
 use router_config::{ConfigFault, read_config, read_underlay};
+use scion_header::read_header;
 use std::io::{self, Read, Write};
 use std::process::Abort;
 
@@ -72,6 +74,110 @@ fn answers_the_worked_examples(rt: HostRuntime) {
         let result = route_lines(alloc, &config, &arriving, &mut reader, &mut writer);
         assert_eq!(rt; result, Ok(()), "{}", row.name);
         assert_eq!(rt; writer.as_slice(), row.lines.as_bytes(), "{}", row.name);
+    }
+}
+
+/// The line that the engine writes for one datagram in hex.
+fn line_of(
+    rt: &(impl AllocGlobal + Abort),
+    config: &Config,
+    arriving: &Arriving,
+    input: &[u8],
+) -> Vec<u8> {
+    let alloc = rt.alloc();
+    let mut reader = input;
+    let mut writer = Vec::new(alloc);
+    let result = route_lines(alloc, config, arriving, &mut reader, &mut writer);
+    assert!(rt; result == Ok(()), "the line is read");
+    writer
+}
+
+/// A datagram of 9,216 bytes with 64 hops is answered in 1,232 bytes; one byte more is too long.
+#[test]
+fn answers_the_longest_datagram(rt: HostRuntime) {
+    let config = config(&rt);
+    let arriving = Arriving {
+        moment: 1694499816,
+        ..ARRIVING
+    };
+    let mut input = Vec::new(rt.alloc());
+    input
+        .extend_from_slice(LONG_HEADER.as_bytes())
+        .expect(&rt, "header");
+    for _ in 0..8360 {
+        input.extend_from_slice(b"5a").expect(&rt, "payload");
+    }
+    let line = line_of(&rt, &config, &arriving, input.as_slice());
+    assert!(rt; line.as_slice() == LONG_ANSWER.as_bytes(), "9,216 bytes");
+    input.extend_from_slice(b"5a").expect(&rt, "payload");
+    let line = line_of(&rt, &config, &arriving, input.as_slice());
+    assert!(rt; line.as_slice() == b"drop 11\n".as_slice(), "9,217 bytes");
+}
+
+/// Whether the bytes are a datagram whose header and path are read, and whose message has the right
+/// checksum: the sum of all words is then a multiple of 65,535.
+fn reads_back(answer: &[u8]) -> bool {
+    let Ok(header) = read_header(answer) else {
+        return false;
+    };
+    let begin = header.front_len();
+    let end = 4 * usize::from(header.header_length);
+    let (Some(addresses), Some(path), Some(message)) = (
+        answer.get(12..begin),
+        answer.get(begin..end),
+        answer.get(end..),
+    ) else {
+        return false;
+    };
+    let mut sum = u64::from(header.payload_length).wrapping_add(202);
+    for part in [addresses, message] {
+        for (at, byte) in part.iter().enumerate() {
+            let word = if at % 2 == 0 { 256 } else { 1 };
+            sum = sum.wrapping_add(u64::from(*byte).wrapping_mul(word));
+        }
+    }
+    read_path(path).is_ok() && sum % 65535 == 0
+}
+
+/// Each datagram that differs from a valid one in one byte gives one line, and each answer reads back.
+#[test]
+fn answers_every_changed_byte(rt: HostRuntime) {
+    let alloc = rt.alloc();
+    let config = config(&rt);
+    let arriving = Arriving {
+        moment: 1694520417,
+        ..ARRIVING
+    };
+    let mut datagram = [0; 92];
+    let first = ROWS.first().expect(&rt, "row");
+    let digits = first.input.as_bytes().get(..184).expect(&rt, "digits");
+    assert!(rt;
+        hex::decode_to_slice(digits, &mut datagram) == Ok(()),
+        "hex"
+    );
+    let mut text = Vec::new(alloc);
+    let mut answer = [0; 1232];
+    for at in 0..92 {
+        for turn in 1..=255u8 {
+            let mut changed = datagram;
+            changed[at] ^= turn;
+            text.clear();
+            text.resize(184, 0).expect(&rt, "room");
+            assert!(rt;
+                hex::encode_to_slice(&changed, text.as_mut_slice()) == Ok(()),
+                "hex"
+            );
+            let line = line_of(&rt, &config, &arriving, text.as_slice());
+            let line = line.as_slice();
+            let ends = line.iter().filter(|byte| **byte == b'\n').count();
+            assert!(rt; ends == 1 && line.last() == Some(&b'\n'), "one line");
+            if let Some(hex) = line.strip_prefix(b"answer 1 - ".as_slice()) {
+                let digits = hex.get(..hex.len().saturating_sub(1)).expect(&rt, "digits");
+                let room = answer.get_mut(..digits.len() / 2).expect(&rt, "room");
+                assert!(rt; hex::decode_to_slice(digits, room) == Ok(()), "hex");
+                assert!(rt; reads_back(room), "byte {at} turned by {turn}");
+            }
+        }
     }
 }
 
