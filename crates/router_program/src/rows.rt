@@ -10,6 +10,12 @@ pub const CONFIG: &str =
     sibling = [{id=4, kind=\"child\", at=\"10.0.0.2:30000\"}]\n\
     service = [{number=2, at=\"10.0.0.9:30252\"}]\n";
 
+/// The first datagram: over three hops, at the second one.
+pub const DATAGRAM: &str =
+    "0000000111150008010000000001ff00000001120001ff00000001110a0200070a010005010030000100\
+    123465000000003f00000011a0a1a2a3a4a5003f000100020e66d2974536003f00120000b0b1b2b3b4b5\
+    7559755900080000";
+
 /// A worked example: how its datagrams arrive, and what they give.
 #[derive(Clone, Copy)]
 pub struct Row {

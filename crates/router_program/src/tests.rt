@@ -2,7 +2,7 @@
 use crate::arriving::{Arriving, usual_source};
 use crate::engine::route_lines;
 use crate::fault::LinesFault;
-use crate::rows::{CONFIG, LONG_ANSWER, LONG_HEADER, ROWS};
+use crate::rows::{CONFIG, DATAGRAM, LONG_ANSWER, LONG_HEADER, ROWS};
 use crate::words::{WordsFault, read_words};
 use path_fields::read_path;
 use process_packet::{Config, Ip, Underlay};
@@ -139,44 +139,63 @@ fn reads_back(answer: &[u8]) -> bool {
     read_path(path).is_ok() && sum % 65535 == 0
 }
 
+/// The bytes of a text of hex.
+fn bytes_of(rt: &(impl AllocGlobal + Abort), digits: &[u8]) -> Vec<u8> {
+    let mut bytes = Vec::new(rt.alloc());
+    bytes.resize(digits.len() / 2, 0).expect(rt, "room");
+    assert!(rt;
+        hex::decode_to_slice(digits, bytes.as_mut_slice()).is_ok(),
+        "hex"
+    );
+    bytes
+}
+
+/// The datagram gives one line, and an answer reads back.
+fn gives_one_line(
+    rt: &(impl AllocGlobal + Abort),
+    config: &Config,
+    arriving: &Arriving,
+    datagram: &[u8],
+    text: &mut Vec<u8>,
+) {
+    text.clear();
+    text.resize(184, 0).expect(rt, "room");
+    assert!(rt;
+        hex::encode_to_slice(datagram, text.as_mut_slice()).is_ok(),
+        "hex"
+    );
+    let line = line_of(rt, config, arriving, text.as_slice());
+    let line = line.as_slice();
+    assert!(rt;
+        line.iter().filter(|byte| **byte == b'\n').count() == 1,
+        "one line"
+    );
+    assert!(rt; line.last() == Some(&b'\n'), "a whole line");
+    if let Some(hex) = line.strip_prefix(b"answer 1 - ".as_slice()) {
+        let digits = hex.get(..hex.len().saturating_sub(1)).expect(rt, "digits");
+        let answer = bytes_of(rt, digits);
+        assert!(rt; reads_back(answer.as_slice()), "it reads back");
+    }
+}
+
 /// Each datagram that differs from a valid one in one byte gives one line, and each answer reads back.
 #[test]
 fn answers_every_changed_byte(rt: HostRuntime) {
-    let alloc = rt.alloc();
     let config = config(&rt);
     let arriving = Arriving {
         moment: 1694520417,
         ..ARRIVING
     };
-    let mut datagram = [0; 92];
-    let first = ROWS.first().expect(&rt, "row");
-    let digits = first.input.as_bytes().get(..184).expect(&rt, "digits");
-    assert!(rt;
-        hex::decode_to_slice(digits, &mut datagram) == Ok(()),
-        "hex"
-    );
-    let mut text = Vec::new(alloc);
-    let mut answer = [0; 1232];
-    for at in 0..92 {
+    let digits = DATAGRAM.as_bytes();
+    let datagram = bytes_of(&rt, digits);
+    let mut text = Vec::new(rt.alloc());
+    for at in 0..datagram.len() {
         for turn in 1..=255u8 {
-            let mut changed = datagram;
-            changed[at] ^= turn;
-            text.clear();
-            text.resize(184, 0).expect(&rt, "room");
-            assert!(rt;
-                hex::encode_to_slice(&changed, text.as_mut_slice()) == Ok(()),
-                "hex"
-            );
-            let line = line_of(&rt, &config, &arriving, text.as_slice());
-            let line = line.as_slice();
-            let ends = line.iter().filter(|byte| **byte == b'\n').count();
-            assert!(rt; ends == 1 && line.last() == Some(&b'\n'), "one line");
-            if let Some(hex) = line.strip_prefix(b"answer 1 - ".as_slice()) {
-                let digits = hex.get(..hex.len().saturating_sub(1)).expect(&rt, "digits");
-                let room = answer.get_mut(..digits.len() / 2).expect(&rt, "room");
-                assert!(rt; hex::decode_to_slice(digits, room) == Ok(()), "hex");
-                assert!(rt; reads_back(room), "byte {at} turned by {turn}");
+            let mut changed = bytes_of(&rt, digits);
+            if let Some(byte) = changed.get_mut(at) {
+                *byte ^= turn;
             }
+            gives_one_line(&rt, &config, &arriving, changed.as_slice(), &mut text);
         }
     }
 }
