@@ -178,6 +178,31 @@ fn gives_one_line(
     }
 }
 
+/// Each beginning of a datagram that is cut in its header is dropped; one that is cut behind it is answered.
+#[test]
+fn answers_every_beginning(rt: HostRuntime) {
+    let config = config(&rt);
+    let arriving = Arriving {
+        moment: 1694499816,
+        ..ARRIVING
+    };
+    let mut input = Vec::new(rt.alloc());
+    for len in 0..92usize {
+        input.clear();
+        let digits = len.saturating_mul(2);
+        let beginning = DATAGRAM.as_bytes().get(..digits).expect(&rt, "digits");
+        input.extend_from_slice(beginning).expect(&rt, "input");
+        input.push(b'\n').expect(&rt, "input");
+        let line = line_of(&rt, &config, &arriving, input.as_slice());
+        let line = line.as_slice();
+        if len < 84 {
+            assert!(rt; line == b"drop 1\n".as_slice(), "{len} bytes");
+        } else {
+            assert!(rt; line.starts_with(b"answer 1 - "), "{len} bytes");
+        }
+    }
+}
+
 /// Each datagram that differs from a valid one in one byte gives one line, and each answer reads back.
 #[test]
 fn answers_every_changed_byte(rt: HostRuntime) {
