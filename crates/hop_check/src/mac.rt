@@ -11,6 +11,7 @@ use path_fields::{Hop, Info};
 
 /// What the MAC of a hop field is made over: the segment's identifier (SegID) and timestamp, the hop's
 /// expiry and its two interfaces, in sixteen bytes.
+#[inline(always)]
 pub fn mac_input(info: &Info, hop: &Hop) -> [u8; 16]
     ensures { result ≡ mac_input info.now.segment_id (info_field info.now) (hop_field hop.now) }
 {
@@ -25,6 +26,7 @@ pub fn mac_input(info: &Info, hop: &Hop) -> [u8; 16]
 
 /// Whether all six bytes of the hop field's MAC are those that the AS's key gives for the segment's
 /// identifier as it stands in the info field.
+#[inline(always)]
 pub fn verify(cmac: &Cmac, info: &Info, hop: &Hop) -> bool
     ensures { result ≡ is_authentic cmac.now (info_field info.now) (hop_field hop.now) }
 {
@@ -33,6 +35,7 @@ pub fn verify(cmac: &Cmac, info: &Info, hop: &Hop) -> bool
 
 /// The segment identifier behind a hop with this MAC, in the direction of construction; from that one,
 /// the one before it. It is the identifier with the MAC's first two bytes xored in.
+#[inline(always)]
 pub fn chain(seg_id: u16, mac: &[u8; 6]) -> u16
     ensures { result ≡ chain seg_id mac.now }
 {

@@ -2,7 +2,6 @@
 use Rattle.std.proofs.Common.{◌≡◌, ◌≢◌, ◌&&◌, true, ℕ, ◌+◌, List, [], ◌∷◌, sym, ap, ap₂, subst, ◌∙◌, arith}
 use Rattle.std.specs.Prelude.{Result}
 use Rattle.std.proofs.lemmas.Bool.{and_from, cond-true}
-use Rattle.scion_header.specs.Header.{header_fields}
 use Rattle.scion_packet.specs.Path.{Place, Segment, place_at}
 use Rattle.process_packet.specs.Rows.{Turn, GoesOn, expired, switch, then_rows, wrong_mac}
 use Rattle.process_packet.specs.Sight.{IsAlike, Says, Sees}
@@ -17,9 +16,8 @@ use Rattle.process_packet.proofs.AlikeLemmas.{spot_alike}
 -- Two sights of which the second one stands at another place.
 pub record IsMoved (v w : Sight) : Type 0 where
   pub link : w.link ≡ v.link
-  pub source : w.source ≡ v.source
   pub moment : w.moment ≡ v.moment
-  pub header : w.header ≡ v.header
+  pub begin : w.path_begin ≡ v.path_begin
   pub payload : w.payload ≡ v.payload
   pub segments : w.segments ≡ v.segments
   pub switched : w.switched ≡ true
@@ -34,9 +32,8 @@ sees_changed v w s ss k i sees moved alike is k-is i-is =
     let other : at.segment ≢ s.path.place.segment = omega arith in
     record {
       link = moved.link ∙ sees.link;
-      source = moved.source ∙ sees.source;
       moment = moved.moment ∙ sees.moment;
-      header = ap header_fields moved.header ∙ sees.header;
+      begin = moved.begin ∙ sees.begin;
       payload = moved.payload ∙ sees.payload;
       count = moved.segments ∙ sees.count;
       spot = spot_alike w.spot s.path.place.segment ss s.path.segments at there alike other;

@@ -4,7 +4,6 @@ use Rattle.std.proofs.lemmas.Bool.{and_from}
 use Rattle.hop_check.specs.Mac.{chain}
 use Rattle.path_fields.specs.Fields.{hop_field, info_field}
 use Rattle.path_fields.specs.InPlace.{with_segment_id}
-use Rattle.scion_header.specs.Header.{header_fields}
 use Rattle.scion_packet.specs.Packet.{Packet}
 use Rattle.scion_packet.specs.Path.{HopField, InfoField, Place, Segment}
 use Rattle.process_packet.specs.Departure.{Keeps}
@@ -16,9 +15,8 @@ use Rattle.process_packet.proofs.AlikeLemmas.{alike_set, alike_with, info_set, w
 -- Two sights that differ in the identifier at most.
 pub record IsSameBut (v w : Sight) : Type 0 where
   pub link : w.link ≡ v.link
-  pub source : w.source ≡ v.source
   pub moment : w.moment ≡ v.moment
-  pub header : w.header ≡ v.header
+  pub begin : w.path_begin ≡ v.path_begin
   pub payload : w.payload ≡ v.payload
   pub segments : w.segments ≡ v.segments
   pub switched : w.switched ≡ v.switched
@@ -39,9 +37,8 @@ sees_chained v w s id sees same id-is info-is =
     let named : id ≡ chained_id s = id-is ∙ ap₂ (λ (i : InfoField) (h : HopField). chain i.segment_id h.mac) sees.spot.info sees.spot.hop in
     record {
       link = same.link ∙ sees.link;
-      source = same.source ∙ sees.source;
       moment = same.moment ∙ sees.moment;
-      header = ap header_fields same.header ∙ sees.header;
+      begin = same.begin ∙ sees.begin;
       payload = same.payload ∙ sees.payload;
       count = same.segments ∙ sees.count ∙ sym alike.count;
       spot = record {

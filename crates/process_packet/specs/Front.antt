@@ -1,8 +1,7 @@
--- What is read of a datagram before its rows: its header, and where its path lies.
+-- What is read of a datagram before its rows: where its path lies, and the path's meta header.
 use Rattle.std.specs.Prelude.{◌≡◌, ◌≤◌, ℕ, List, None, length}
 use Rattle.field_rows.specs.Place.{IsBytes}
-use Rattle.scion_header.specs.Header.{header_fields}
-use Rattle.scion_packet.specs.Header.{front_end, header_end, header_fault, header_of}
+use Rattle.scion_packet.specs.Header.{front_end, header_end, header_fault}
 use Rattle.scion_packet.specs.Packet.{path_bytes}
 use Rattle.process_packet.specs.declared.front.Front.{Front}
 use Rattle.process_packet.specs.Spot.{IsMetaOf}
@@ -10,7 +9,6 @@ use Rattle.process_packet.specs.Spot.{IsMetaOf}
 pub record IsFront (f : Front) (bytes : List ℕ) : Type 0 where
   pub are : IsBytes bytes
   pub sound : header_fault bytes ≡ None
-  pub header : header_fields f.header ≡ header_of bytes
   pub begin : f.path_begin ≡ front_end bytes
   pub end : f.path_end ≡ header_end bytes
   pub order : f.path_begin ≤ f.path_end

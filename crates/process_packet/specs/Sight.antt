@@ -1,7 +1,7 @@
 -- What the code holds of a standing packet, and what its rows say.
 use Rattle.std.specs.Prelude.{◌≡◌, ◌≢◌, ◌≤◌, ◌<◌, ℕ, List, length, Option, Some, None, Result, MatchResult}
 use Rattle.path_fields.specs.InPlace.{with_segment_id}
-use Rattle.scion_header.specs.Header.{header_fields}
+use Rattle.scion_packet.specs.Header.{front_len}
 use Rattle.scion_packet.specs.Path.{Place, Segment, count_hops, hop_number, hops_in}
 use Rattle.scion_packet.specs.Places.{hop_there, info_there}
 use Rattle.process_packet.specs.declared.refusal.Refusal.{Refusal}
@@ -20,9 +20,8 @@ pub record IsWhole (ss : List Segment) : Type 0 where
 -- The sight shows the packet as it stands.
 pub record Sees (v : Sight) (s : Standing) : Type 0 where
   pub link : v.link ≡ s.link
-  pub source : v.source ≡ s.source
   pub moment : v.moment ≡ s.moment
-  pub header : header_fields v.header ≡ s.header
+  pub begin : v.path_begin ≡ front_len s.header
   pub payload : v.payload ≡ length s.payload
   pub count : v.segments ≡ length s.path.segments
   pub spot : IsSpot v.spot s.path.segments s.path.place

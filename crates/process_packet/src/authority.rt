@@ -1,6 +1,7 @@
 //! The rows that look at what the hop field is authorised for.
 
 ghost use Rattle.std.specs.Prelude.{◌≡◌, [], ◌∷◌, None, List};
+ghost use Rattle.scion_packet.specs.Header.{header_fault, header_of};
 ghost use Rattle.scion_packet.specs.Path.{Segment};
 ghost use Rattle.process_packet.specs.Network.{network};
 ghost use Rattle.process_packet.specs.Rows as row;
@@ -9,13 +10,14 @@ ghost use Rattle.process_packet.specs.Standing.{Standing, turned_back};
 
 use crate::config::Config;
 use crate::refusal::{Refusal, parameter_problem, traceroute_reply};
-use crate::request::trace_request;
+use crate::request::carries_request;
 use crate::sight::Sight;
 use hop_check::{chain, verify};
 
 impl Sight {
     /// From outside against the direction of construction, the segment's identifier is turned back to
     /// that of the current hop.
+    #[inline(always)]
     pub(crate) fn turn_back_segment_id(&mut self)
         ensures sees { (s : Standing) → Sees self.old s → Sees self.new (turned_back s) }
         ensures turned { (s : Standing) → Sees self.old s → self.old.turned ≡ None → self.old.entered ≡ s.path.place.segment
@@ -33,6 +35,7 @@ impl Sight {
     }
 
     /// It doesn't carry the MAC that the AS's key gives for it.
+    #[inline(always)]
     pub(crate) fn wrong_mac(&self, config: &Config) -> Result<(), Refusal>
         ensures { (s : Standing) → Sees self.now s → network config.now ≡ s.network → Says (row.wrong_mac s) s result }
     {
@@ -43,24 +46,30 @@ impl Sight {
     }
 
     /// It asks the router at its ingress interface, which is this one.
-    fn ingress_request(&self, payload: &[u8]) -> Result<(), Refusal>
-        ensures { (s : Standing) → Sees self.now s → payload.now ≡ s.payload → Says (row.ingress_request s) s result }
+    #[inline(always)]
+    fn ingress_request(&self, bytes: &[u8], payload: &[u8]) -> Result<(), Refusal>
+        requires sound { header_fault bytes.now ≡ None }
+        ensures { (s : Standing) → Sees self.now s → header_of bytes.now ≡ s.header → payload.now ≡ s.payload → Says (row.ingress_request s) s result }
     {
-        if self.is_external()
-            && self.ingress_alert()
-            && trace_request(&self.header, payload).is_some()
-        {
+        if self.is_external() && self.ingress_alert() && carries_request(bytes, payload) {
             return Err(traceroute_reply(self.ingress()));
         }
         Ok(())
     }
 
     /// Both rows, in the table's order.
-    pub(crate) fn is_authorised(&self, config: &Config, payload: &[u8]) -> Result<(), Refusal>
-        ensures { (s : Standing) → Sees self.now s → network config.now ≡ s.network → payload.now ≡ s.payload
+    #[inline(always)]
+    pub(crate) fn is_authorised(
+        &self,
+        config: &Config,
+        bytes: &[u8],
+        payload: &[u8],
+    ) -> Result<(), Refusal>
+        requires sound { header_fault bytes.now ≡ None }
+        ensures { (s : Standing) → Sees self.now s → network config.now ≡ s.network → header_of bytes.now ≡ s.header → payload.now ≡ s.payload
             → Says (row.then_rows (row.GoesOn s) (row.wrong_mac ∷ row.ingress_request ∷ [])) s result }
     {
         self.wrong_mac(config)?;
-        self.ingress_request(payload)
+        self.ingress_request(bytes, payload)
     }
 }

@@ -1,17 +1,17 @@
 //! Look-ups in the configuration.
 
-ghost use Rattle.std.specs.Prelude.{◌≡◌, ◌==◌, ◌||◌, is_some, map, option_map};
+ghost use Rattle.std.specs.Prelude.{◌≡◌, ◌==◌, ◌&&◌, ◌||◌, None, is_some, map, option_copied, option_map};
 ghost use Rattle.std.specs.List.{list_any};
 ghost use Rattle.process_packet.specs.Neighbours.{are_two, is_banded, link_bands, link_kind, service_at};
 ghost use Rattle.process_packet.specs.Exit.{exit_of};
 ghost use Rattle.process_packet.specs.Network.{has_link, is_local, is_owner, is_remote, network, own_link, service, sibling};
-ghost use Rattle.scion_header.specs.Address.{host_address};
+ghost use Rattle.scion_packet.specs.Header.{header_fault, header_of};
 
 use crate::config::Config;
 use crate::exit::Exit;
 use crate::neighbours::{Link, Service, Sibling};
 use crate::underlay::Underlay;
-use scion_header::Address;
+use scion_header::{Domain, destination_domain, source_domain};
 use segment_switch::LinkKind;
 
 /// Whether one of the links has two bands.
@@ -40,33 +40,32 @@ impl Config {
     }
 
     /// The link of this router with a number.
-    fn own_link(&self, id: u16) -> Option<Link>
-        ensures { result ≡ own_link (network self.now) id }
+    #[inline(always)]
+    fn own_link(&self, id: u16) -> Option<&Link>
+        ensures { option_copied result ≡ own_link (network self.now) id }
     {
-        self.links.iter().copied().find(|link| link.id == id)
+        self.links.iter().find(|link| link.id == id)
     }
 
     /// The interface of another router of this AS with a number.
-    fn sibling(&self, id: u16) -> Option<Sibling>
-        ensures { result ≡ sibling (network self.now) id }
+    #[inline(always)]
+    fn sibling(&self, id: u16) -> Option<&Sibling>
+        ensures { option_copied result ≡ sibling (network self.now) id }
     {
-        self.siblings
-            .iter()
-            .copied()
-            .find(|sibling| sibling.id == id)
+        self.siblings.iter().find(|sibling| sibling.id == id)
     }
 
     /// The service with a number.
-    fn service(&self, number: u16) -> Option<Service>
-        ensures { result ≡ service (network self.now) number }
+    fn service(&self, number: u16) -> Option<&Service>
+        ensures { option_copied result ≡ service (network self.now) number }
     {
         self.services
             .iter()
-            .copied()
             .find(|service| service.number == number)
     }
 
     /// What the AS at the end of this router's link is.
+    #[inline(always)]
     pub(crate) fn link_kind(&self, id: u16) -> Option<LinkKind>
         ensures { result ≡ option_map link_kind (own_link (network self.now) id) }
     {
@@ -74,6 +73,7 @@ impl Config {
     }
 
     /// The way out by an interface of this AS.
+    #[inline(always)]
     pub(crate) fn exit(&self, id: u16) -> Option<Exit>
         ensures { result ≡ exit_of (network self.now) id }
     {
@@ -94,6 +94,7 @@ impl Config {
     }
 
     /// Whether the datagram came from the other end of this router's link.
+    #[inline(always)]
     pub(crate) fn is_remote(&self, link: u16, source: &Underlay) -> bool
         ensures { result ≡ is_remote (own_link (network self.now) link) source.now }
     {
@@ -104,6 +105,7 @@ impl Config {
     }
 
     /// Whether the datagram came from the router of this AS that owns the interface.
+    #[inline(always)]
     pub(crate) fn is_owner(&self, interface: u16, source: &Underlay) -> bool
         ensures { result ≡ is_owner (sibling (network self.now) interface) source.now }
     {
@@ -113,10 +115,29 @@ impl Config {
         }
     }
 
-    /// Whether the address is one of this AS.
-    pub(crate) fn is_local(&self, address: &Address) -> bool
-        ensures { result ≡ is_local (network self.now) (host_address address.now) }
+    /// Whether the AS is this one.
+    #[inline(always)]
+    fn is_here(&self, domain: Domain) -> bool
+        ensures { result ≡ (domain.isd == self.now.isd && domain.autonomous_system == self.now.autonomous_system) }
     {
-        address.isd == self.isd && address.autonomous_system == self.autonomous_system
+        domain.isd == self.isd && domain.autonomous_system == self.autonomous_system
+    }
+
+    /// Whether the source of a datagram is in this AS.
+    #[inline(always)]
+    pub(crate) fn is_source_local(&self, bytes: &[u8]) -> bool
+        requires sound { header_fault bytes.now ≡ None }
+        ensures { result ≡ is_local (network self.now) (header_of bytes.now).source }
+    {
+        self.is_here(source_domain(bytes))
+    }
+
+    /// Whether its destination is.
+    #[inline(always)]
+    pub(crate) fn is_destination_local(&self, bytes: &[u8]) -> bool
+        requires sound { header_fault bytes.now ≡ None }
+        ensures { result ≡ is_local (network self.now) (header_of bytes.now).destination }
+    {
+        self.is_here(destination_domain(bytes))
     }
 }

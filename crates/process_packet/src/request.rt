@@ -1,10 +1,11 @@
 //! Traceroute requests.
 
-ghost use Rattle.std.specs.Prelude.{◌≡◌};
-ghost use Rattle.process_packet.specs.Request.{request};
+ghost use Rattle.std.specs.Prelude.{◌≡◌, None};
+ghost use Rattle.scion_packet.specs.Header.{header_fault, header_of};
+ghost use Rattle.process_packet.specs.Request.{is_request, request};
 
 use field_rows::u16_at;
-use scion_header::{Header, upper_place};
+use scion_header::{Header, next_header, upper_place};
 
 /// The next header of SCMP messages, the type of a traceroute request, and its length in bytes.
 const SCMP: u8 = 202;
@@ -19,7 +20,14 @@ const REQUEST_LEN: usize = 24;
 pub fn trace_request(header: &Header, bytes: &[u8]) -> Option<(u16, u16)>
     ensures { result ≡ request header.now.next_header bytes.now }
 {
-    let place = upper_place(header.next_header, bytes)?;
+    request_behind(header.next_header, bytes)
+}
+
+/// The same by the protocol that the header names for these bytes.
+fn request_behind(next_header: u8, bytes: &[u8]) -> Option<(u16, u16)>
+    ensures { result ≡ request next_header bytes.now }
+{
+    let place = upper_place(next_header, bytes)?;
     let message = &bytes[place.at..];
     if place.protocol != SCMP || message.len() < REQUEST_LEN {
         return None;
@@ -28,4 +36,12 @@ pub fn trace_request(header: &Header, bytes: &[u8]) -> Option<(u16, u16)>
         return None;
     }
     Some((u16_at(message, 4), u16_at(message, 6)))
+}
+
+/// Whether a datagram, whose header has no fault, carries such a request behind it.
+pub(crate) fn carries_request(bytes: &[u8], payload: &[u8]) -> bool
+    requires sound { header_fault bytes.now ≡ None }
+    ensures { result ≡ is_request (header_of bytes.now).next_header payload.now }
+{
+    request_behind(next_header(bytes), payload).is_some()
 }

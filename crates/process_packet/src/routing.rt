@@ -11,6 +11,7 @@ ghost use Rattle.process_packet.specs.Rows as row;
 ghost use Rattle.process_packet.specs.Sight.{Sees};
 ghost use Rattle.process_packet.specs.Spot.{LiesOn};
 ghost use Rattle.process_packet.specs.Standing.{arrives};
+ghost use Rattle.process_packet.specs.declared.underlay.Underlay.{Underlay};
 
 use crate::config::Config;
 use crate::decision::Decision;
@@ -22,10 +23,11 @@ use crate::spot::Spot;
 use crate::underlay::Underlay;
 
 /// The packet of a datagram as its rows see it at first.
-fn sight_of(front: &Front, bytes: &[u8], link: u16, source: Underlay, now: u64) -> Sight
+#[inline(always)]
+fn sight_of(front: &Front, bytes: &[u8], link: u16, now: u64) -> Sight
     requires front { IsFront front.now bytes.now }
-    ensures sees { (n : Network) → Sees result (arrives n link source now bytes.now) }
-    ensures keeps { (n : Network) → Keeps result (arrives n link source now bytes.now) (packet_of bytes.now) }
+    ensures sees { (n : Network) (source : Underlay) → Sees result (arrives n link source now bytes.now) }
+    ensures keeps { (n : Network) (source : Underlay) → Keeps result (arrives n link source now bytes.now) (packet_of bytes.now) }
     ensures spot { LiesOn result.spot (path_of (path_bytes bytes.now)).segments }
     ensures count { result.segments ≡ length (path_of (path_bytes bytes.now)).segments }
     ensures turned { result.turned ≡ None }
@@ -35,9 +37,8 @@ fn sight_of(front: &Front, bytes: &[u8], link: u16, source: Underlay, now: u64) 
     let segment = usize::from(front.meta.current_info);
     Sight {
         link,
-        source,
         moment: now,
-        header: front.header,
+        path_begin: front.path_begin,
         payload: bytes.len() - front.path_end,
         segments: front.meta.segment_count(),
         spot: Spot::read(
@@ -53,16 +54,17 @@ fn sight_of(front: &Front, bytes: &[u8], link: u16, source: Underlay, now: u64) 
 }
 
 /// How a datagram with a sound front departs.
+#[inline(always)]
 fn depart(
     config: &Config,
     link: u16,
-    source: Underlay,
+    source: &Underlay,
     now: u64,
     front: &Front,
     bytes: &[u8],
 ) -> Result<Departure, Refusal>
     requires front { IsFront front.now bytes.now }
-    ensures { Tells (ends_as (arrives (network config.now) link source now bytes.now)
+    ensures { Tells (ends_as (arrives (network config.now) link source.now now bytes.now)
         (row.expired ∷ row.wrong_ingress ∷ row.wrong_payload_length ∷ row.wrong_underlay_source ∷ row.wrong_source ∷ row.wrong_destination
         ∷ row.turn_back_segment_id ∷ row.wrong_mac ∷ row.ingress_request
         ∷ row.delivery ∷ row.switch ∷ row.unknown_egress ∷ row.wrong_pair ∷ row.egress_request ∷ row.leave ∷ []))
@@ -70,15 +72,15 @@ fn depart(
 {
     let path = &bytes[front.path_begin..front.path_end];
     let payload = &bytes[front.path_end..];
-    let mut sight = sight_of(front, bytes, link, source, now);
-    if let Err(refusal) = sight.comes_in(config, path, &front.meta) {
+    let mut sight = sight_of(front, bytes, link, now);
+    if let Err(refusal) = sight.comes_in(config, source, bytes, path, &front.meta) {
         return Err(refusal);
     }
     sight.turn_back_segment_id();
-    if let Err(refusal) = sight.is_authorised(config, payload) {
+    if let Err(refusal) = sight.is_authorised(config, bytes, payload) {
         return Err(refusal);
     }
-    sight.goes(config, path, &front.meta, payload)
+    sight.goes(config, bytes, path, &front.meta, payload)
 }
 
 /// What is done with a datagram that arrived on the link (0 is the internal network) from the
@@ -100,7 +102,7 @@ pub fn route_in_place(
         Ok(front) => front,
         Err(refusal) => return refusal.decision(),
     };
-    match depart(config, link, source, now, &front, bytes) {
+    match depart(config, link, &source, now, &front, bytes) {
         Ok(departure) => {
             departure.write(&mut bytes[front.path_begin..front.path_end]);
             Decision::Send {

@@ -3,19 +3,16 @@
 ghost use Rattle.std.specs.Prelude.{◌<◌, ◌≤◌};
 
 use crate::spot::Spot;
-use crate::underlay::Underlay;
-use scion_header::Header;
 
 /// A packet at the router, as it stands.
 #[derive(Drop)]
 pub(crate) struct Sight {
     /// The link by which it came; 0 is the internal network.
     pub link: u16,
-    /// The underlay's source of the datagram.
-    pub source: Underlay,
     /// The moment, in seconds of Unix time.
     pub moment: u64,
-    pub header: Header,
+    /// Where the path begins in the datagram.
+    pub path_begin: usize,
     /// How many bytes stand behind the header.
     pub payload: usize,
     /// How many segments the path has.
@@ -27,6 +24,7 @@ pub(crate) struct Sight {
     /// The segment by which it came, and that segment's identifier where it was turned back.
     pub entered: usize,
     pub turned: Option<u16>,
+    pub ghost begins_early: { path_begin ≤ 60 },
     pub ghost few: { segments ≤ 3 },
     pub ghost entered_fits: { entered < 3 },
 }
@@ -36,6 +34,7 @@ impl Sight {
     ghost use Rattle.process_packet.specs.Sight.{Sees};
     ghost use Rattle.process_packet.specs.Standing.{Standing, egress, egress_alert, hop_pointer, info_pointer, ingress, ingress_alert, is_external, is_first_of_path, is_last_of_path, is_last_of_segment, is_followed};
 
+    #[inline(always)]
     pub(crate) fn is_external(&self) -> bool
         ensures { (s : Standing) → Sees self.now s → result ≡ is_external s }
     {
@@ -43,6 +42,7 @@ impl Sight {
     }
 
     /// The interface by which the packet comes in, in the direction of travel.
+    #[inline(always)]
     pub(crate) fn ingress(&self) -> u16
         ensures { (s : Standing) → Sees self.now s → result ≡ ingress s }
     {
@@ -50,6 +50,7 @@ impl Sight {
     }
 
     /// The interface by which it goes out.
+    #[inline(always)]
     pub(crate) fn egress(&self) -> u16
         ensures { (s : Standing) → Sees self.now s → result ≡ egress s }
     {
@@ -57,6 +58,7 @@ impl Sight {
     }
 
     /// Whether the router at the ingress interface is asked to answer.
+    #[inline(always)]
     pub(crate) fn ingress_alert(&self) -> bool
         ensures { (s : Standing) → Sees self.now s → result ≡ ingress_alert s }
     {
@@ -68,6 +70,7 @@ impl Sight {
     }
 
     /// The same of the egress interface.
+    #[inline(always)]
     pub(crate) fn egress_alert(&self) -> bool
         ensures { (s : Standing) → Sees self.now s → result ≡ egress_alert s }
     {
@@ -78,12 +81,14 @@ impl Sight {
         }
     }
 
+    #[inline(always)]
     pub(crate) fn is_first_of_path(&self) -> bool
         ensures { (s : Standing) → Sees self.now s → result ≡ is_first_of_path s.path.place }
     {
         self.spot.segment == 0 && self.spot.position == 0
     }
 
+    #[inline(always)]
     pub(crate) fn is_last_of_segment(&self) -> bool
         ensures value { result ≡ (self.now.spot.position + 1 == self.now.spot.hops) }
         ensures sees { (s : Standing) → Sees self.now s → result ≡ is_last_of_segment s }
@@ -92,6 +97,7 @@ impl Sight {
     }
 
     /// Whether another segment follows the current one.
+    #[inline(always)]
     pub(crate) fn is_followed(&self) -> bool
         ensures value { result ≡ nat_lt (self.now.spot.segment + 1) self.now.segments }
         ensures sees { (s : Standing) → Sees self.now s → result ≡ is_followed s }
@@ -99,6 +105,7 @@ impl Sight {
         self.spot.segment + 1 < self.segments
     }
 
+    #[inline(always)]
     pub(crate) fn is_last_of_path(&self) -> bool
         ensures value { result ≡ (self.now.spot.position + 1 == self.now.spot.hops && not (nat_lt (self.now.spot.segment + 1) self.now.segments)) }
         ensures sees { (s : Standing) → Sees self.now s → result ≡ is_last_of_path s }
@@ -107,16 +114,18 @@ impl Sight {
     }
 
     /// Where the current hop field stands in the datagram, in bytes.
+    #[inline(always)]
     pub(crate) fn hop_pointer(&self) -> u16
         ensures { (s : Standing) → Sees self.now s → result ≡ hop_pointer s }
     {
-        (self.header.front_len() + 4 + 8 * self.segments + 12 * self.spot.number) as u16
+        (self.path_begin + 4 + 8 * self.segments + 12 * self.spot.number) as u16
     }
 
     /// Where the current info field stands in the datagram, in bytes.
+    #[inline(always)]
     pub(crate) fn info_pointer(&self) -> u16
         ensures { (s : Standing) → Sees self.now s → result ≡ info_pointer s }
     {
-        (self.header.front_len() + 4 + 8 * self.spot.segment) as u16
+        (self.path_begin + 4 + 8 * self.spot.segment) as u16
     }
 }

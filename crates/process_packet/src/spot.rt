@@ -1,6 +1,6 @@
 //! A hop of a path, and what stands there: the cost is the same for every path.
 
-ghost use Rattle.std.specs.Prelude.{◌<◌, ◌≤◌};
+ghost use Rattle.std.specs.Prelude.{◌≡◌, ◌<◌, ◌≤◌, slice_index};
 
 use path_fields::{Hop, Info, Meta, read_hop, read_info};
 
@@ -24,6 +24,19 @@ pub(crate) struct Spot {
     pub ghost few: { number < 64 },
 }
 
+/// How many hops a segment has.
+#[inline(always)]
+fn hops_of(meta: &Meta, segment: usize) -> usize
+    requires { segment < 3 }
+    ensures { result ≡ slice_index meta.now.lengths segment }
+{
+    match segment {
+        0 => usize::from(meta.lengths[0]),
+        1 => usize::from(meta.lengths[1]),
+        _ => usize::from(meta.lengths[2]),
+    }
+}
+
 impl Spot {
     ghost use Rattle.std.specs.Prelude.{◌≡◌, ◌+◌, ◌-◌, ◌≤◌, slice_index};
     ghost use Rattle.path_fields.specs.Fields.{hop_field, info_field};
@@ -33,6 +46,7 @@ impl Spot {
     ghost use Rattle.process_packet.specs.Standing.{egress_of, ingress_of};
 
     /// The hop with a number, which is one of the segment.
+    #[inline(always)]
     pub(crate) fn read(path: &[u8], meta: &Meta, segment: usize, number: usize) -> Spot
         requires meta { IsMetaOf meta.now path.now }
         requires there { segment < segment_count meta.now.lengths }
@@ -43,7 +57,7 @@ impl Spot {
         Spot {
             segment,
             position: number - meta.first_hop(segment),
-            hops: usize::from(meta.lengths[segment]),
+            hops: hops_of(meta, segment),
             number,
             info: read_info(path, segment),
             hop: read_hop(path, meta.hops_place() + 12 * number),
@@ -51,6 +65,7 @@ impl Spot {
     }
 
     /// The interface by which a packet comes in at this hop, in the direction of travel.
+    #[inline(always)]
     pub(crate) fn ingress(&self) -> u16
         ensures { result ≡ ingress_of (info_field self.now.info) (hop_field self.now.hop) }
     {
@@ -62,6 +77,7 @@ impl Spot {
     }
 
     /// The interface by which it goes out.
+    #[inline(always)]
     pub(crate) fn egress(&self) -> u16
         ensures { result ≡ egress_of (info_field self.now.info) (hop_field self.now.hop) }
     {

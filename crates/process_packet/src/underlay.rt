@@ -19,6 +19,7 @@ impl Ip {
     ghost use Rattle.process_packet.specs.Underlay.{same_ip};
 
     /// Whether both are the same address, of the same version.
+    #[inline(always)]
     pub(crate) fn is_same(&self, other: &Ip) -> bool
         ensures { result ≡ same_ip self.now other.now }
     {
@@ -35,6 +36,7 @@ impl Underlay {
     ghost use Rattle.process_packet.specs.Underlay.{same_underlay};
 
     /// Whether both are the same address and port.
+    #[inline(always)]
     pub(crate) fn is_same(&self, other: &Underlay) -> bool
         ensures { result ≡ same_underlay self.now other.now }
     {

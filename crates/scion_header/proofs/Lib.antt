@@ -1,2 +1,3 @@
+mod FieldLemmas
 mod ReadingLemmas
 mod WritingLemmas

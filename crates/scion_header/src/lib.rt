@@ -7,9 +7,11 @@
 #![tactic(auto)]
 
 mod address;
+mod domain;
 mod ends;
 mod extensions;
 mod fault;
+mod fields;
 mod header;
 mod host;
 mod laws;
@@ -20,9 +22,13 @@ mod upper;
 mod writing;
 
 pub use address::Address;
+pub use domain::Domain;
 pub use ends::HeaderEnds;
 pub use extensions::{upper_layer, upper_place};
 pub use fault::{HeaderFault, NoRoom};
+pub use fields::{
+    destination_address, destination_domain, next_header, payload_length, source_domain,
+};
 pub use header::Header;
 pub use host::Host;
 pub use laws::lawful;

@@ -21,7 +21,7 @@ fn host_len(code: u8) -> usize
 }
 
 /// The address whose domain and host begin at these places, by its four bits of byte 9.
-fn address_at(bytes: &[u8], domain: usize, host: usize, bits: u8) -> Address
+pub(crate) fn address_at(bytes: &[u8], domain: usize, host: usize, bits: u8) -> Address
     requires bits { bits < 16 }
     requires domain_room { domain + 8 ≤ length bytes.now }
     requires host_room { host + host_len (bits % 4) ≤ length bytes.now }

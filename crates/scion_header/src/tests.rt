@@ -1,6 +1,7 @@
 use crate::{
-    Address, Header, HeaderEnds, HeaderFault, Host, NoRoom, Upper, UpperPlace, check_header,
-    lawful, read_header, upper_layer, upper_place, write_header,
+    Address, Domain, Header, HeaderEnds, HeaderFault, Host, NoRoom, Upper, UpperPlace,
+    check_header, destination_address, destination_domain, lawful, next_header, payload_length,
+    read_header, source_domain, upper_layer, upper_place, write_header,
 };
 
 /// A datagram from 1-ff00:0:111, 10.1.0.5 to 1-ff00:0:112, 10.2.0.7: one segment of three hops, 8
@@ -56,6 +57,22 @@ fn reads_and_writes_a_datagram(rt: HostRuntime) {
     written[..36].copy_from_slice(&DATAGRAM[..36]);
     assert_eq!(rt; room, written);
     lawful();
+}
+
+#[test]
+fn reads_single_fields(rt: HostRuntime) {
+    let domain = |number: u16| Domain {
+        isd: 1,
+        autonomous_system: 0xff00_0000_0000 + u64::from(number),
+    };
+    assert_eq!(rt; next_header(&DATAGRAM), 17);
+    assert_eq!(rt; payload_length(&DATAGRAM), 8);
+    assert_eq!(rt; destination_domain(&DATAGRAM), domain(0x112));
+    assert_eq!(rt; source_domain(&DATAGRAM), domain(0x111));
+    assert_eq!(rt;
+        destination_address(&DATAGRAM),
+        address(0x112, [10, 2, 0, 7])
+    );
 }
 
 #[test]

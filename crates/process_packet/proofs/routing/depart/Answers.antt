@@ -16,48 +16,48 @@ returns-in-Err c =
     let bytes = c.args.bytes.now in
     let f = c.args.front.now in
     let n = network c.args.config.now in
-    let s = arrives n c.args.link c.args.source c.args.now bytes in
+    let s = arrives n c.args.link c.args.source.now c.args.now bytes in
     let same = path_between bytes f.path_begin f.path_end c.requires.front.begin c.requires.front.end in
     stopped s _ (expired ∷ wrong_ingress ∷ wrong_payload_length ∷ wrong_underlay_source ∷ wrong_source ∷ wrong_destination ∷ [])
     (turn_back_segment_id ∷ wrong_mac ∷ ingress_request ∷ delivery ∷ switch ∷ unknown_egress ∷ wrong_pair ∷ egress_request ∷ leave ∷ [])
-    (c.in-Err.ensures s (c.sight_of-sight.ensures.sees n) refl (sym (ap (λ t. (path_of t).segments) same)))
+    (c.in-Err.ensures s (c.sight_of-sight.ensures.sees n c.args.source.now) refl refl refl (sym (ap (λ t. (path_of t).segments) same)))
 
 pub returns-in-Err-is_authorised : goal.returns-in-Err-is_authorised
 returns-in-Err-is_authorised c =
     let bytes = c.args.bytes.now in
     let f = c.args.front.now in
     let n = network c.args.config.now in
-    let s = arrives n c.args.link c.args.source c.args.now bytes in
-    let sees = c.sight_of-sight.ensures.sees n in
+    let s = arrives n c.args.link c.args.source.now c.args.now bytes in
+    let sees = c.sight_of-sight.ensures.sees n c.args.source.now in
     let same = path_between bytes f.path_begin f.path_end c.requires.front.begin c.requires.front.end in
     let stays = turned_stays s in
     let past = passed s s (expired ∷ wrong_ingress ∷ wrong_payload_length ∷ wrong_underlay_source ∷ wrong_source ∷ wrong_destination ∷ [])
     (turn_back_segment_id ∷ wrong_mac ∷ ingress_request ∷ delivery ∷ switch ∷ unknown_egress ∷ wrong_pair ∷ egress_request ∷ leave ∷ [])
-    (c.in_default.ensures s sees refl (sym (ap (λ t. (path_of t).segments) same))) in
+    (c.in_default.ensures s sees refl refl refl (sym (ap (λ t. (path_of t).segments) same))) in
     let payload = rest_of bytes _ _ c.requires.front.end ∙ sym stays.payload in
     past ∙ stopped (turned_back s) _ (wrong_mac ∷ ingress_request ∷ [])
     (delivery ∷ switch ∷ unknown_egress ∷ wrong_pair ∷ egress_request ∷ leave ∷ [])
-    (c.in-Err-is_authorised.ensures (turned_back s) (c.turn_back_segment_id.ensures.sees s sees) (sym stays.network) payload)
+    (c.in-Err-is_authorised.ensures (turned_back s) (c.turn_back_segment_id.ensures.sees s sees) (sym stays.network) (sym stays.header) payload)
 
 pub returns : goal.returns
 returns c =
     let bytes = c.args.bytes.now in
     let f = c.args.front.now in
     let n = network c.args.config.now in
-    let s = arrives n c.args.link c.args.source c.args.now bytes in
+    let s = arrives n c.args.link c.args.source.now c.args.now bytes in
     let p = packet_of bytes in
     let first = c.sight_of-sight in
     let turned = c.turn_back_segment_id in
-    let sees = first.ensures.sees n in
+    let sees = first.ensures.sees n c.args.source.now in
     let same = path_between bytes f.path_begin f.path_end c.requires.front.begin c.requires.front.end in
     let stays = turned_stays s in
     let past = passed s s (expired ∷ wrong_ingress ∷ wrong_payload_length ∷ wrong_underlay_source ∷ wrong_source ∷ wrong_destination ∷ [])
     (turn_back_segment_id ∷ wrong_mac ∷ ingress_request ∷ delivery ∷ switch ∷ unknown_egress ∷ wrong_pair ∷ egress_request ∷ leave ∷ [])
-    (c.in_default.ensures s sees refl (sym (ap (λ t. (path_of t).segments) same))) in
+    (c.in_default.ensures s sees refl refl refl (sym (ap (λ t. (path_of t).segments) same))) in
     let payload = rest_of bytes _ _ c.requires.front.end ∙ sym stays.payload in
     let through = passed (turned_back s) (turned_back s) (wrong_mac ∷ ingress_request ∷ [])
     (delivery ∷ switch ∷ unknown_egress ∷ wrong_pair ∷ egress_request ∷ leave ∷ [])
-    (c.in_default-is_authorised.ensures (turned_back s) (turned.ensures.sees s sees) (sym stays.network) payload) in
+    (c.in_default-is_authorised.ensures (turned_back s) (turned.ensures.sees s sees) (sym stays.network) (sym stays.header) payload) in
     let entered = first.ensures.entered ∙ sees.spot.place.segment in
     let segments = turned.ensures.turned s sees first.ensures.turned entered in
     let v = turned.new.self in
@@ -65,5 +65,5 @@ returns c =
     let keeps = keeps_turned v s p refl refl refl segments inside in
     let alike = alike_turned v s (path_of (path_bytes bytes)).segments (turned.ensures.entered ∙ entered) segments in
     subst (λ (w : Verdict). Tells w p c.goes.result) (sym (past ∙ through))
-    (c.goes.ensures (turned_back s) p (turned.ensures.sees s sees) (sym stays.network) payload keeps
+    (c.goes.ensures (turned_back s) p (turned.ensures.sees s sees) (sym stays.network) (sym stays.header) payload keeps
     (subst (λ ss. IsAlike (turned_back s).path.place.segment ss (turned_back s).path.segments) (sym (ap (λ t. (path_of t).segments) same)) alike))

@@ -1,8 +1,8 @@
-use Rattle.std.proofs.Common.{refl, arith, length-drop}
+use Rattle.std.proofs.Common.{refl, arith, length-drop, ◌∙◌}
 use Rattle.scion_packet.specs.Header.{header_end}
 use Rattle.scion_packet.specs.Packet.{path_bytes}
 use Rattle.scion_packet.proofs.Offsets.{fields_stand}
-use Rattle.process_packet.proofs.FrontLemmas.{path_between}
+use Rattle.process_packet.proofs.FrontLemmas.{begins_behind, path_between}
 use Rattle.process_packet.proofs.SpotLemmas.{count_of, first_spot, has_current, whole_path}
 use Rattle.process_packet.proofs.routing.sight_of.Goals as goal
 
@@ -19,16 +19,15 @@ read-requires-clause-ends c =
     let has = has_current c.args.front.now.meta (path_bytes c.args.bytes.now) c.requires.front.meta in rw (c.from-segment.ensures, c.from.ensures) has.ends
 
 pub returns-clause-sees : goal.returns-clause-sees
-returns-clause-sees c n =
+returns-clause-sees c n source =
     let bytes = c.args.bytes.now in
     let f = c.args.front.now in
     let front = c.requires.front in
     let same = path_between bytes f.path_begin f.path_end front.begin front.end in
     record {
       link = refl;
-      source = refl;
       moment = refl;
-      header = front.header;
+      begin = front.begin ∙ begins_behind bytes front.are front.sound;
       payload = omega (arith, length-drop (header_end bytes) bytes, front.end);
       count = count_of f.meta (path_bytes bytes) c.segment_count.result front.meta c.segment_count.ensures.count;
       spot = first_spot c.read.result f.meta _ (path_bytes bytes) _ _ same front.meta c.from-segment.ensures c.from.ensures c.read.ensures;

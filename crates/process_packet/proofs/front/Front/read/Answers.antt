@@ -6,4 +6,4 @@ use Rattle.process_packet.proofs.front.Front.read.Goals as goal
 
 pub returns-clause-says : goal.returns-clause-says
 returns-clause-says c s same =
-    subst (λ (t : Turn). Says t s c.sound_path.result) (sym (one_more s (too_long ∷ faulty_header ∷ []) faulty_path (c.in_ok-header.ensures.says s same))) (c.sound_path.ensures.says s same)
+    subst (λ (t : Turn). Says t s c.sound_path.result) (sym (one_more s (too_long ∷ faulty_header ∷ []) faulty_path (c.in_ok-ends.ensures.says s same))) (c.sound_path.ensures.says s same)

@@ -20,9 +20,8 @@ returns-clause-sees c s sees alike =
     let next = has_next c.args.self.now.spot c.args.meta.now c.args.path.now c.requires.meta c.requires.spot c.requires.last (omega (arith, c.requires.followed, c.requires.count)) in
     sees_changed c.args.self.now _ s _ _ _ sees (record {
       link = refl;
-      source = refl;
       moment = refl;
-      header = refl;
+      begin = refl;
       payload = refl;
       segments = refl;
       switched = refl;

@@ -10,9 +10,8 @@ returns-then-not-self-clause-sees c s sees =
     let against : not (is_along s) ≡ true = sym (ap (λ (i : InfoField). not i.along) sees.spot.info) ∙ ap not c.if-not-self.true in
     sees_turned c.args.self.now _ s c.chain-segment_id.result sees (record {
       link = refl;
-      source = refl;
       moment = refl;
-      header = refl;
+      begin = refl;
       payload = refl;
       segments = refl;
       switched = refl;
