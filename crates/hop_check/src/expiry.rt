@@ -9,7 +9,6 @@ use path_fields::{Hop, Info};
 /// Whether the hop field is good no more at `now`, in seconds of Unix time. It is good for 337.5
 /// seconds for each unit of its expiry and one more, from the segment's timestamp on; at the moment at
 /// which that time is over it still is.
-#[inline(always)]
 pub fn expired(info: &Info, hop: &Hop, now: u64) -> bool
     ensures { result ≡ is_expired (info_field info.now) (hop_field hop.now) now }
 {

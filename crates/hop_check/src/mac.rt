@@ -11,7 +11,6 @@ use path_fields::{Hop, Info};
 
 /// What the MAC of a hop field is made over: the segment's identifier (SegID) and timestamp, the hop's
 /// expiry and its two interfaces, in sixteen bytes.
-#[inline(always)]
 pub fn mac_input(info: &Info, hop: &Hop) -> [u8; 16]
     ensures { result ≡ mac_input info.now.segment_id (info_field info.now) (hop_field hop.now) }
 {
@@ -35,7 +34,6 @@ pub fn verify(cmac: &Cmac, info: &Info, hop: &Hop) -> bool
 
 /// The segment identifier behind a hop with this MAC, in the direction of construction; from that one,
 /// the one before it. It is the identifier with the MAC's first two bytes xored in.
-#[inline(always)]
 pub fn chain(seg_id: u16, mac: &[u8; 6]) -> u16
     ensures { result ≡ chain seg_id mac.now }
 {

@@ -11,7 +11,6 @@ use field_rows::{put_u8, put_u16};
 
 /// Sets the cursor of the path that the bytes spell: the segment of the current hop (CurrINF), and the
 /// number of the current hop (CurrHF).
-#[inline(always)]
 pub fn set_cursor(path: &mut [u8], current_info: u8, current_hop: u8)
     requires room { 1 ≤ length path.old }
     requires info { current_info < 4 }
@@ -24,7 +23,6 @@ pub fn set_cursor(path: &mut [u8], current_info: u8, current_hop: u8)
 }
 
 /// Sets the identifier of a segment (SegID) of the path that the bytes spell.
-#[inline(always)]
 pub fn set_seg_id(path: &mut [u8], segment: usize, segment_id: u16)
     requires few { segment < 3 }
     requires room { info_place segment + 8 ≤ length path.old }

@@ -6,7 +6,6 @@ ghost use Rattle.path_fields.specs.Reversed.{reversed_lengths};
 
 /// Whether a path may have these segment lengths: at least one hop, only zeros after a zero length,
 /// and at most 64 hops.
-#[inline(always)]
 pub(crate) fn are_lengths(lengths: &[u8; 3]) -> bool
     ensures { result ≡ are_lengths lengths.now }
 {
@@ -14,7 +13,6 @@ pub(crate) fn are_lengths(lengths: &[u8; 3]) -> bool
 }
 
 /// How many segments are used.
-#[inline(always)]
 pub(crate) fn segment_count(lengths: &[u8; 3]) -> usize
     ensures count { result ≡ segment_count lengths.now }
     ensures some { 1 ≤ result }
@@ -30,7 +28,6 @@ pub(crate) fn segment_count(lengths: &[u8; 3]) -> usize
 }
 
 /// How many hops there are.
-#[inline(always)]
 pub(crate) fn hop_count(lengths: &[u8; 3]) -> usize
     ensures { result ≡ hop_count lengths.now }
 {
@@ -38,7 +35,6 @@ pub(crate) fn hop_count(lengths: &[u8; 3]) -> usize
 }
 
 /// The segment in which a hop lies.
-#[inline(always)]
 pub(crate) fn segment_of(lengths: &[u8; 3], hop: usize) -> u8
     ensures segment { result ≡ segment_of lengths.now hop }
     ensures few { result < 3 }
@@ -53,7 +49,6 @@ pub(crate) fn segment_of(lengths: &[u8; 3], hop: usize) -> u8
 }
 
 /// The number of the first hop of a segment.
-#[inline(always)]
 pub(crate) fn first_hop(lengths: &[u8; 3], segment: usize) -> usize
     ensures { result ≡ first_hop lengths.now segment }
 {

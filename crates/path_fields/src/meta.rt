@@ -28,7 +28,6 @@ impl Meta {
     ghost use Rattle.scion_packet.specs.Lengths.{first_hop, hop_place, hops_place, segment_count};
 
     /// How many segments are used.
-    #[inline(always)]
     pub fn segment_count(&self) -> usize
         ensures count { result ≡ segment_count self.now.lengths }
         ensures some { 1 ≤ result }
@@ -38,7 +37,6 @@ impl Meta {
     }
 
     /// How many hops there are.
-    #[inline(always)]
     pub fn hop_count(&self) -> usize
         ensures { result ≡ hop_count self.now.lengths }
     {
@@ -46,7 +44,6 @@ impl Meta {
     }
 
     /// The segment in which a hop lies.
-    #[inline(always)]
     pub fn segment_of(&self, hop: usize) -> u8
         ensures segment { result ≡ segment_of self.now.lengths hop }
         ensures few { result < 3 }
@@ -55,7 +52,6 @@ impl Meta {
     }
 
     /// The number of the first hop of a segment.
-    #[inline(always)]
     pub fn first_hop(&self, segment: usize) -> usize
         ensures { result ≡ first_hop self.now.lengths segment }
     {
@@ -63,7 +59,6 @@ impl Meta {
     }
 
     /// Where the hop fields begin in the bytes of the path.
-    #[inline(always)]
     pub fn hops_place(&self) -> usize
         ensures { result ≡ hops_place self.now.lengths }
     {
@@ -71,7 +66,6 @@ impl Meta {
     }
 
     /// Where a hop field begins in the bytes of the path, by the number of the hop.
-    #[inline(always)]
     pub fn hop_place(&self, hop: u8) -> usize
         ensures { result ≡ hop_place self.now.lengths hop }
     {
@@ -79,7 +73,6 @@ impl Meta {
     }
 
     /// How many bytes the path has.
-    #[inline(always)]
     pub fn path_len(&self) -> usize
         ensures { result ≡ path_len self.now.lengths }
     {
@@ -88,7 +81,6 @@ impl Meta {
 }
 
 /// The meta header of a path.
-#[inline(always)]
 pub fn read_meta(path: &[u8]) -> Meta
     requires { 4 ≤ length path.now }
     ensures info { result.current_info ≡ current_info path.now }
@@ -110,7 +102,6 @@ pub fn read_meta(path: &[u8]) -> Meta
 }
 
 /// Whether the peering flag is clear in each of the first `count` info fields.
-#[inline(always)]
 fn no_peering(path: &[u8], count: usize) -> bool
     requires few { count ≤ 3 }
     requires room { info_place count ≤ length path.now }
@@ -128,7 +119,6 @@ fn no_peering(path: &[u8], count: usize) -> bool
 /// fails: the length of the meta header, the segment lengths, the length of the path, that the
 /// current hop is one of its hops and lies in the current segment, and that no segment is a peering
 /// one. No hop field is looked at, and one byte of each info field.
-#[inline(always)]
 pub fn check_path(path: &[u8]) -> Result<Meta, PathFault>
     ensures fault { MatchResult result (λ _. path_fault path.now ≡ None) (λ e. path_fault path.now ≡ Some (fault_of e)) }
     ensures info { IfOk result (λ m. m.current_info ≡ current_info path.now) }

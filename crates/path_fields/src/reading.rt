@@ -15,7 +15,6 @@ use arrayvec::ArrayVec;
 use field_rows::{array_at, u16_at, u32_at};
 
 /// The info field of a segment, where it lies in the bytes of a path.
-#[inline(always)]
 pub fn read_info(path: &[u8], segment: usize) -> Info
     requires { info_place segment + 8 ≤ length path.now }
     ensures { info_field result ≡ info_at path.now (info_place segment) }
@@ -32,7 +31,6 @@ pub fn read_info(path: &[u8], segment: usize) -> Info
 }
 
 /// The hop field that begins at `at` in the bytes of a path (`Meta::hop_place`).
-#[inline(always)]
 pub fn read_hop(path: &[u8], at: usize) -> Hop
     requires { at + 12 ≤ length path.now }
     ensures { hop_field result ≡ hop_at path.now at }

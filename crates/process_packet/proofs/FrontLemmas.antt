@@ -5,13 +5,13 @@ use Rattle.std.proofs.lemmas.List.{drop-drop, take_all}
 use Rattle.field_rows.specs.Place.{IsBytes, text_at}
 use Rattle.path_fields.specs.declared.meta.Meta.{Meta}
 use Rattle.scion_packet.specs.Fault.{Fault}
-use Rattle.scion_packet.specs.Header.{front_end, front_len, header_end, header_fault, header_of}
+use Rattle.scion_packet.specs.Header.{HeaderFields, front_end, front_len, header_end, header_fault, header_of}
 use Rattle.scion_packet.specs.Lengths.{info_place}
 use Rattle.scion_packet.specs.Packet.{packet_of, path_bytes}
 use Rattle.scion_packet.specs.Path as packet
 use Rattle.scion_packet.specs.Path.{PathFields, Place, hop_number, lengths_of, path_fault, path_of, path_text}
 use Rattle.scion_packet.proofs.HeaderBack.{front_is}
-use Rattle.scion_packet.proofs.HeaderSpelled.{header_spelled}
+use Rattle.scion_packet.proofs.HeaderSpelled.{header_passes, header_spelled}
 use Rattle.scion_packet.proofs.Offsets.{fields_stand}
 use Rattle.scion_packet.proofs.PacketLaws.{part-are, pass_both, path_written_over}
 use Rattle.scion_packet.proofs.PathSpelled.{path_spelled}
@@ -32,8 +32,22 @@ use borrow.Rule.Slice.PartMut.{put_mid}
 
 -- ---- where the path lies
 
-pub begins_behind : (bytes : List ℕ) → IsBytes bytes → header_fault bytes ≡ None → front_end bytes ≡ front_len (header_of bytes)
-begins_behind bytes are none = (front_is bytes (header_of bytes) (header_spelled bytes are none)).0
+pub record PathLies (bytes : List ℕ) (h : HeaderFields) : Type 0 where
+  pub begin : front_len h ≡ front_end bytes
+  pub end : 4 * h.header_length ≡ header_end bytes
+  pub order : front_end bytes ≤ header_end bytes
+  pub inside : header_end bytes ≤ length bytes
+
+pub path_lies : (bytes : List ℕ) (h : HeaderFields) → IsBytes bytes → header_fault bytes ≡ None → h ≡ header_of bytes → PathLies bytes h
+path_lies bytes h are none is =
+    let ends = front_is bytes (header_of bytes) (header_spelled bytes are none) in
+    let passes = header_passes bytes none in
+    record {
+      begin = ap front_len is ∙ sym ends.0;
+      end = ap (λ (g : HeaderFields). 4 * g.header_length) is ∙ sym ends.1;
+      order = passes.covers;
+      inside = passes.whole;
+    }
 
 -- the bytes between these places are those of the path
 pub path_between : (bytes : List ℕ) (begin end : ℕ) → begin ≡ front_end bytes → end ≡ header_end bytes → text_at bytes begin (end - begin) ≡ path_bytes bytes

@@ -1,5 +1,5 @@
 -- The change from one segment to the next.
-use Rattle.std.proofs.Common.{◌≡◌, ◌≢◌, ◌&&◌, true, ℕ, ◌+◌, List, [], ◌∷◌, sym, ap, ap₂, subst, ◌∙◌, arith}
+use Rattle.std.proofs.Common.{◌≡◌, ◌≢◌, ◌&&◌, true, ℕ, ◌+◌, List, [], ◌∷◌, sym, ap₂, subst, ◌∙◌, arith}
 use Rattle.std.specs.Prelude.{Result}
 use Rattle.std.proofs.lemmas.Bool.{and_from, cond-true}
 use Rattle.scion_packet.specs.Path.{Place, Segment, place_at}

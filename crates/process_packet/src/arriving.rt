@@ -21,7 +21,6 @@ use scion_header::payload_length;
 
 impl Sight {
     /// Its time is over.
-    #[inline(always)]
     pub(crate) fn expired(&self) -> Result<(), Refusal>
         ensures { (s : Standing) → Sees self.now s → Says (row.expired s) s result }
     {
@@ -32,7 +31,6 @@ impl Sight {
     }
 
     /// It came by another link than its hop field says.
-    #[inline(always)]
     fn wrong_ingress(&self) -> Result<(), Refusal>
         ensures { (s : Standing) → Sees self.now s → Says (row.wrong_ingress s) s result }
     {
@@ -44,7 +42,6 @@ impl Sight {
     }
 
     /// It has more or fewer bytes than its header says.
-    #[inline(always)]
     fn wrong_payload_length(&self, bytes: &[u8]) -> Result<(), Refusal>
         requires sound { header_fault bytes.now ≡ None }
         ensures { (s : Standing) → Sees self.now s → header_of bytes.now ≡ s.header → Says (row.wrong_payload_length s) s result }
@@ -57,7 +54,6 @@ impl Sight {
 
     /// The interface by which the packet, which didn't begin its path here, entered the AS: at a later
     /// segment's first hop that is the ingress of the last hop of the segment before.
-    #[inline(always)]
     fn entry(&self, path: &[u8], meta: &Meta) -> u16
         requires meta { IsMetaOf meta.now path.now }
         requires spot { LiesOn self.now.spot (path_of path.now).segments }
@@ -72,7 +68,6 @@ impl Sight {
     }
 
     /// Whether the datagram came from a router from which such a packet may come.
-    #[inline(always)]
     fn came_lawfully(&self, config: &Config, source: &Underlay, path: &[u8], meta: &Meta) -> bool
         requires meta { IsMetaOf meta.now path.now }
         requires spot { LiesOn self.now.spot (path_of path.now).segments }
@@ -86,7 +81,6 @@ impl Sight {
     }
 
     /// It came from a router from which such a packet may not come.
-    #[inline(always)]
     fn wrong_underlay_source(
         &self,
         config: &Config,
@@ -105,7 +99,6 @@ impl Sight {
         Ok(())
     }
 
-    #[inline(always)]
     fn is_source_lawful(&self, config: &Config, bytes: &[u8]) -> bool
         requires sound { header_fault bytes.now ≡ None }
         ensures { (s : Standing) → Sees self.now s → network config.now ≡ s.network → header_of bytes.now ≡ s.header → result ≡ is_source_lawful s }
@@ -118,7 +111,6 @@ impl Sight {
     }
 
     /// It came from outside with a source in this AS, or began its path inside with one outside.
-    #[inline(always)]
     fn wrong_source(&self, config: &Config, bytes: &[u8]) -> Result<(), Refusal>
         requires sound { header_fault bytes.now ≡ None }
         ensures { (s : Standing) → Sees self.now s → network config.now ≡ s.network → header_of bytes.now ≡ s.header → Says (row.wrong_source s) s result }
@@ -155,7 +147,6 @@ impl Sight {
     }
 
     /// The rows that look at how the packet came, in the table's order.
-    #[inline(always)]
     pub(crate) fn comes_in(
         &self,
         config: &Config,

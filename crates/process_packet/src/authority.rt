@@ -17,7 +17,6 @@ use hop_check::{chain, verify};
 impl Sight {
     /// From outside against the direction of construction, the segment's identifier is turned back to
     /// that of the current hop.
-    #[inline(always)]
     pub(crate) fn turn_back_segment_id(&mut self)
         ensures sees { (s : Standing) → Sees self.old s → Sees self.new (turned_back s) }
         ensures turned { (s : Standing) → Sees self.old s → self.old.turned ≡ None → self.old.entered ≡ s.path.place.segment
@@ -46,7 +45,6 @@ impl Sight {
     }
 
     /// It asks the router at its ingress interface, which is this one.
-    #[inline(always)]
     fn ingress_request(&self, bytes: &[u8], payload: &[u8]) -> Result<(), Refusal>
         requires sound { header_fault bytes.now ≡ None }
         ensures { (s : Standing) → Sees self.now s → header_of bytes.now ≡ s.header → payload.now ≡ s.payload → Says (row.ingress_request s) s result }
@@ -58,7 +56,6 @@ impl Sight {
     }
 
     /// Both rows, in the table's order.
-    #[inline(always)]
     pub(crate) fn is_authorised(
         &self,
         config: &Config,

@@ -33,7 +33,6 @@ impl Departure {
     ghost use Rattle.process_packet.specs.Sight.{with_id};
 
     /// Writes a segment's new identifier, if any, into the path that the bytes spell.
-    #[inline(always)]
     fn write_id(path: &mut [u8], segment: usize, id: Option<u16>)
         requires few { segment < 3 }
         requires room { info_place segment + 8 ≤ length path.old }
@@ -46,7 +45,6 @@ impl Departure {
     }
 
     /// Writes what changes into the path that the bytes spell: the cursor, and at most two identifiers.
-    #[inline(always)]
     pub(crate) fn write(&self, path: &mut [u8])
         requires entered { info_place self.now.entered + 8 ≤ length path.old }
         requires left { info_place self.now.left + 8 ≤ length path.old }

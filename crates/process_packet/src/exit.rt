@@ -16,7 +16,6 @@ impl Exit {
     ghost use Rattle.std.specs.Prelude.{◌≡◌};
     ghost use Rattle.process_packet.specs.Exit.{exit_kind, is_own};
 
-    #[inline(always)]
     pub(crate) fn kind(&self) -> LinkKind
         ensures { result ≡ exit_kind self.now }
     {
@@ -26,7 +25,6 @@ impl Exit {
         }
     }
 
-    #[inline(always)]
     pub(crate) fn is_own(&self) -> bool
         ensures { result ≡ is_own self.now }
     {

@@ -26,7 +26,6 @@ impl Front {
     ghost use Rattle.process_packet.specs.Standing.{Standing};
 
     /// Where the addresses and the header end, where the datagram isn't too long and its header has no fault.
-    #[inline(always)]
     fn sound_header(bytes: &[u8]) -> Result<HeaderEnds, Refusal>
         ensures addresses { IfOk result (λ ends. ends.addresses ≡ front_end bytes.now) }
         ensures header { IfOk result (λ ends. ends.header ≡ header_end bytes.now) }
@@ -46,7 +45,6 @@ impl Front {
     }
 
     /// Where the path lies behind a sound header, where the path has no fault.
-    #[inline(always)]
     fn sound_path(ends: HeaderEnds, bytes: &[u8]) -> Result<Front, Refusal>
         requires addresses { ends.addresses ≡ front_end bytes.now }
         requires header { ends.header ≡ header_end bytes.now }
@@ -68,7 +66,6 @@ impl Front {
     }
 
     /// The rows that look at the datagram as bytes, in the table's order.
-    #[inline(always)]
     pub(crate) fn read(bytes: &[u8]) -> Result<Front, Refusal>
         ensures front { IfOk result (λ f. IsFront f bytes.now) }
         ensures says { (s : Standing) → bytes.now ≡ s.bytes

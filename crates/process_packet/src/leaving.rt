@@ -60,7 +60,6 @@ fn deliver(config: &Config, bytes: &[u8]) -> Result<Underlay, Refusal>
 
 impl Sight {
     /// Whether it came from outside for this AS.
-    #[inline(always)]
     pub(crate) fn is_for_here(&self, config: &Config, bytes: &[u8]) -> bool
         requires sound { header_fault bytes.now ≡ None }
         ensures { (s : Standing) → Sees self.now s → network config.now ≡ s.network → header_of bytes.now ≡ s.header
@@ -70,7 +69,6 @@ impl Sight {
     }
 
     /// Moves on to the first hop of the next segment.
-    #[inline(always)]
     fn change_over(&mut self, path: &[u8], meta: &Meta)
         requires meta { IsMetaOf meta.now path.now }
         requires spot { LiesOn self.old.spot (path_of path.now).segments }
@@ -89,7 +87,6 @@ impl Sight {
     }
 
     /// The rows that look at the first hop of a segment that the packet changed to.
-    #[inline(always)]
     fn is_good_hop(&self, config: &Config) -> Result<(), Refusal>
         ensures { (s : Standing) → Sees self.now s → network config.now ≡ s.network
             → Says (row.then_rows (row.GoesOn s) (row.expired ∷ row.wrong_mac ∷ [])) s result }
@@ -100,7 +97,6 @@ impl Sight {
 
     /// At a segment's last hop, where another segment follows, the packet changes to its first hop,
     /// which must be within its time and authorised as the one before.
-    #[inline(always)]
     pub(crate) fn switch(
         &mut self,
         config: &Config,
@@ -127,7 +123,6 @@ impl Sight {
     }
 
     /// The way out by the egress interface, where there is one.
-    #[inline(always)]
     fn known_exit(&self, config: &Config) -> Result<Exit, Refusal>
         ensures says { (s : Standing) → Sees self.now s → network config.now ≡ s.network → Says (row.unknown_egress s) s result }
         ensures exit { IfOk result (λ e. (s : Standing) → Sees self.now s → network config.now ≡ s.network
@@ -142,7 +137,6 @@ impl Sight {
         }
     }
 
-    #[inline(always)]
     fn is_pair_lawful(&self, config: &Config, exit: &Exit) -> bool
         ensures { (s : Standing) → Sees self.now s → network config.now ≡ s.network
             → Some exit.now ≡ exit_of s.network (egress s) → result ≡ is_pair_lawful s }
@@ -156,7 +150,6 @@ impl Sight {
     }
 
     /// It may not leave by this link, from where it came.
-    #[inline(always)]
     fn wrong_pair(&self, config: &Config, exit: &Exit) -> Result<(), Refusal>
         ensures { (s : Standing) → Sees self.now s → network config.now ≡ s.network
             → Some exit.now ≡ exit_of s.network (egress s) → Says (row.wrong_pair s) s result }
@@ -172,7 +165,6 @@ impl Sight {
     }
 
     /// Whether the router at the egress interface is this one, and asked to answer.
-    #[inline(always)]
     fn asks_here(&self, exit: &Exit) -> bool
         ensures { (s : Standing) → Sees self.now s → Some exit.now ≡ exit_of s.network (egress s)
             → result ≡ (is_some (own_link s.network (egress s)) && egress_alert s) }
@@ -181,7 +173,6 @@ impl Sight {
     }
 
     /// It asks the router at its egress interface, which is this one.
-    #[inline(always)]
     fn egress_request(&self, exit: &Exit, bytes: &[u8], payload: &[u8]) -> Result<(), Refusal>
         requires sound { header_fault bytes.now ≡ None }
         ensures { (s : Standing) → Sees self.now s → header_of bytes.now ≡ s.header → Some exit.now ≡ exit_of s.network (egress s) → payload.now ≡ s.payload
@@ -194,7 +185,6 @@ impl Sight {
     }
 
     /// The rows that look at the way out, in the table's order.
-    #[inline(always)]
     pub(crate) fn goes_out(
         &self,
         config: &Config,
@@ -214,7 +204,6 @@ impl Sight {
     }
 
     /// As it stands.
-    #[inline(always)]
     fn as_it_stands(&self, link: u16, to: Option<Underlay>) -> Departure
         requires on { IsOnPath self.now }
         ensures { (s : Standing) (p : Packet) → Sees self.now s → Keeps self.now s p → Departs result (row.Sent link to (packet s)) p }
@@ -232,7 +221,6 @@ impl Sight {
     }
 
     /// The segment and the number of the next hop, where there is one.
-    #[inline(always)]
     fn next_hop(&self) -> (usize, usize)
         requires on { IsOnPath self.now }
         requires more { (self.now.spot.position + 1 == self.now.spot.hops && not (nat_lt (self.now.spot.segment + 1) self.now.segments)) ≡ false }
@@ -248,7 +236,6 @@ impl Sight {
     }
 
     /// The segment's identifier for the next hop, in the direction of construction.
-    #[inline(always)]
     fn chained_id(&self) -> Option<u16>
         ensures { (s : Standing) → Sees self.now s → result ≡ (if is_along s then Some (chained_id s) else None) }
     {
@@ -260,7 +247,6 @@ impl Sight {
     }
 
     /// Out by an own link, at the next hop.
-    #[inline(always)]
     fn sent_out(&self) -> Result<Departure, Refusal>
         requires on { IsOnPath self.now }
         ensures { (s : Standing) (p : Packet) → Sees self.now s → Keeps self.now s p
@@ -283,7 +269,6 @@ impl Sight {
     }
 
     /// By the way out.
-    #[inline(always)]
     fn leave(&self, exit: &Exit) -> Result<Departure, Refusal>
         requires on { IsOnPath self.now }
         ensures { (s : Standing) (p : Packet) → Sees self.now s → Keeps self.now s p → Some exit.now ≡ exit_of s.network (egress s)
@@ -296,7 +281,6 @@ impl Sight {
     }
 
     /// Out by the egress of the current hop, where that may be.
-    #[inline(always)]
     fn goes_by_its_exit(
         &self,
         config: &Config,
@@ -315,7 +299,6 @@ impl Sight {
     }
 
     /// Past the change of segments, and out.
-    #[inline(always)]
     fn goes_further(
         &mut self,
         config: &Config,
@@ -337,7 +320,6 @@ impl Sight {
     }
 
     /// Delivered in this AS, or out of it.
-    #[inline(always)]
     pub(crate) fn goes(
         &mut self,
         config: &Config,

@@ -40,7 +40,6 @@ impl Config {
     }
 
     /// The link of this router with a number.
-    #[inline(always)]
     fn own_link(&self, id: u16) -> Option<&Link>
         ensures { option_copied result ≡ own_link (network self.now) id }
     {
@@ -48,7 +47,6 @@ impl Config {
     }
 
     /// The interface of another router of this AS with a number.
-    #[inline(always)]
     fn sibling(&self, id: u16) -> Option<&Sibling>
         ensures { option_copied result ≡ sibling (network self.now) id }
     {
@@ -65,7 +63,6 @@ impl Config {
     }
 
     /// What the AS at the end of this router's link is.
-    #[inline(always)]
     pub(crate) fn link_kind(&self, id: u16) -> Option<LinkKind>
         ensures { result ≡ option_map link_kind (own_link (network self.now) id) }
     {
@@ -73,7 +70,6 @@ impl Config {
     }
 
     /// The way out by an interface of this AS.
-    #[inline(always)]
     pub(crate) fn exit(&self, id: u16) -> Option<Exit>
         ensures { result ≡ exit_of (network self.now) id }
     {
@@ -94,7 +90,6 @@ impl Config {
     }
 
     /// Whether the datagram came from the other end of this router's link.
-    #[inline(always)]
     pub(crate) fn is_remote(&self, link: u16, source: &Underlay) -> bool
         ensures { result ≡ is_remote (own_link (network self.now) link) source.now }
     {
@@ -105,7 +100,6 @@ impl Config {
     }
 
     /// Whether the datagram came from the router of this AS that owns the interface.
-    #[inline(always)]
     pub(crate) fn is_owner(&self, interface: u16, source: &Underlay) -> bool
         ensures { result ≡ is_owner (sibling (network self.now) interface) source.now }
     {
@@ -116,7 +110,6 @@ impl Config {
     }
 
     /// Whether the AS is this one.
-    #[inline(always)]
     fn is_here(&self, domain: Domain) -> bool
         ensures { result ≡ (domain.isd == self.now.isd && domain.autonomous_system == self.now.autonomous_system) }
     {
@@ -124,7 +117,6 @@ impl Config {
     }
 
     /// Whether the source of a datagram is in this AS.
-    #[inline(always)]
     pub(crate) fn is_source_local(&self, bytes: &[u8]) -> bool
         requires sound { header_fault bytes.now ≡ None }
         ensures { result ≡ is_local (network self.now) (header_of bytes.now).source }
@@ -133,7 +125,6 @@ impl Config {
     }
 
     /// Whether its destination is.
-    #[inline(always)]
     pub(crate) fn is_destination_local(&self, bytes: &[u8]) -> bool
         requires sound { header_fault bytes.now ≡ None }
         ensures { result ≡ is_local (network self.now) (header_of bytes.now).destination }

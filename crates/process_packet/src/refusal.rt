@@ -23,7 +23,6 @@ impl Refusal {
     ghost use Rattle.process_packet.specs.Sight.{refused};
 
     /// The decision that it is.
-    #[inline(always)]
     pub(crate) fn decision(self) -> Decision
         ensures { result ≡ decision_of (refused self) }
     {
@@ -35,7 +34,6 @@ impl Refusal {
 }
 
 /// The cause for which a datagram with this fault of its header is dropped.
-#[inline(always)]
 pub(crate) fn header_cause(fault: HeaderFault) -> Cause
     ensures { result ≡ cause_of (header.fault_of fault) }
 {
@@ -48,7 +46,6 @@ pub(crate) fn header_cause(fault: HeaderFault) -> Cause
 }
 
 /// The same for a fault of its path.
-#[inline(always)]
 pub(crate) fn path_cause(fault: PathFault) -> Cause
     ensures { result ≡ cause_of (path.fault_of fault) }
 {
@@ -60,7 +57,6 @@ pub(crate) fn path_cause(fault: PathFault) -> Cause
 }
 
 /// A problem of SCMP type 4: a field of the packet is wrong.
-#[inline(always)]
 pub(crate) fn parameter_problem(code: u8, pointer: u16) -> Refusal
     ensures { result ≡ Refusal.Answer (record { kind = 4; code = code; pointer = pointer }) }
 {
@@ -72,7 +68,6 @@ pub(crate) fn parameter_problem(code: u8, pointer: u16) -> Refusal
 }
 
 /// The reply to a traceroute request, SCMP type 131.
-#[inline(always)]
 pub(crate) fn traceroute_reply(interface: u16) -> Refusal
     ensures { result ≡ Refusal.Answer (record { kind = 131; code = 0; pointer = interface }) }
 {

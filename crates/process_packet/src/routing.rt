@@ -11,7 +11,6 @@ ghost use Rattle.process_packet.specs.Rows as row;
 ghost use Rattle.process_packet.specs.Sight.{Sees};
 ghost use Rattle.process_packet.specs.Spot.{LiesOn};
 ghost use Rattle.process_packet.specs.Standing.{arrives};
-ghost use Rattle.process_packet.specs.declared.underlay.Underlay.{Underlay};
 
 use crate::config::Config;
 use crate::decision::Decision;
@@ -23,7 +22,6 @@ use crate::spot::Spot;
 use crate::underlay::Underlay;
 
 /// The packet of a datagram as its rows see it at first.
-#[inline(always)]
 fn sight_of(front: &Front, bytes: &[u8], link: u16, now: u64) -> Sight
     requires front { IsFront front.now bytes.now }
     ensures sees { (n : Network) (source : Underlay) → Sees result (arrives n link source now bytes.now) }
@@ -54,7 +52,6 @@ fn sight_of(front: &Front, bytes: &[u8], link: u16, now: u64) -> Sight
 }
 
 /// How a datagram with a sound front departs.
-#[inline(always)]
 fn depart(
     config: &Config,
     link: u16,

@@ -5,6 +5,8 @@ ghost use Rattle.std.specs.Prelude.{◌<◌, ◌≤◌};
 use crate::spot::Spot;
 
 /// A packet at the router, as it stands.
+// No call takes it by reference once the rows are inlined, so that its fields stay in registers: the rows that
+// would else be left as calls are marked for it.
 #[derive(Drop)]
 pub(crate) struct Sight {
     /// The link by which it came; 0 is the internal network.
@@ -34,7 +36,6 @@ impl Sight {
     ghost use Rattle.process_packet.specs.Sight.{Sees};
     ghost use Rattle.process_packet.specs.Standing.{Standing, egress, egress_alert, hop_pointer, info_pointer, ingress, ingress_alert, is_external, is_first_of_path, is_last_of_path, is_last_of_segment, is_followed};
 
-    #[inline(always)]
     pub(crate) fn is_external(&self) -> bool
         ensures { (s : Standing) → Sees self.now s → result ≡ is_external s }
     {
@@ -42,7 +43,6 @@ impl Sight {
     }
 
     /// The interface by which the packet comes in, in the direction of travel.
-    #[inline(always)]
     pub(crate) fn ingress(&self) -> u16
         ensures { (s : Standing) → Sees self.now s → result ≡ ingress s }
     {
@@ -50,7 +50,6 @@ impl Sight {
     }
 
     /// The interface by which it goes out.
-    #[inline(always)]
     pub(crate) fn egress(&self) -> u16
         ensures { (s : Standing) → Sees self.now s → result ≡ egress s }
     {
@@ -58,7 +57,6 @@ impl Sight {
     }
 
     /// Whether the router at the ingress interface is asked to answer.
-    #[inline(always)]
     pub(crate) fn ingress_alert(&self) -> bool
         ensures { (s : Standing) → Sees self.now s → result ≡ ingress_alert s }
     {
@@ -70,7 +68,6 @@ impl Sight {
     }
 
     /// The same of the egress interface.
-    #[inline(always)]
     pub(crate) fn egress_alert(&self) -> bool
         ensures { (s : Standing) → Sees self.now s → result ≡ egress_alert s }
     {
@@ -81,14 +78,12 @@ impl Sight {
         }
     }
 
-    #[inline(always)]
     pub(crate) fn is_first_of_path(&self) -> bool
         ensures { (s : Standing) → Sees self.now s → result ≡ is_first_of_path s.path.place }
     {
         self.spot.segment == 0 && self.spot.position == 0
     }
 
-    #[inline(always)]
     pub(crate) fn is_last_of_segment(&self) -> bool
         ensures value { result ≡ (self.now.spot.position + 1 == self.now.spot.hops) }
         ensures sees { (s : Standing) → Sees self.now s → result ≡ is_last_of_segment s }
@@ -97,7 +92,6 @@ impl Sight {
     }
 
     /// Whether another segment follows the current one.
-    #[inline(always)]
     pub(crate) fn is_followed(&self) -> bool
         ensures value { result ≡ nat_lt (self.now.spot.segment + 1) self.now.segments }
         ensures sees { (s : Standing) → Sees self.now s → result ≡ is_followed s }
@@ -105,7 +99,6 @@ impl Sight {
         self.spot.segment + 1 < self.segments
     }
 
-    #[inline(always)]
     pub(crate) fn is_last_of_path(&self) -> bool
         ensures value { result ≡ (self.now.spot.position + 1 == self.now.spot.hops && not (nat_lt (self.now.spot.segment + 1) self.now.segments)) }
         ensures sees { (s : Standing) → Sees self.now s → result ≡ is_last_of_path s }
@@ -114,7 +107,6 @@ impl Sight {
     }
 
     /// Where the current hop field stands in the datagram, in bytes.
-    #[inline(always)]
     pub(crate) fn hop_pointer(&self) -> u16
         ensures { (s : Standing) → Sees self.now s → result ≡ hop_pointer s }
     {
@@ -122,7 +114,6 @@ impl Sight {
     }
 
     /// Where the current info field stands in the datagram, in bytes.
-    #[inline(always)]
     pub(crate) fn info_pointer(&self) -> u16
         ensures { (s : Standing) → Sees self.now s → result ≡ info_pointer s }
     {

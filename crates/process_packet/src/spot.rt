@@ -25,7 +25,7 @@ pub(crate) struct Spot {
 }
 
 /// How many hops a segment has.
-#[inline(always)]
+// By cases, since an index that is known only when it runs would keep the lengths in memory.
 fn hops_of(meta: &Meta, segment: usize) -> usize
     requires { segment < 3 }
     ensures { result ≡ slice_index meta.now.lengths segment }
@@ -46,7 +46,6 @@ impl Spot {
     ghost use Rattle.process_packet.specs.Standing.{egress_of, ingress_of};
 
     /// The hop with a number, which is one of the segment.
-    #[inline(always)]
     pub(crate) fn read(path: &[u8], meta: &Meta, segment: usize, number: usize) -> Spot
         requires meta { IsMetaOf meta.now path.now }
         requires there { segment < segment_count meta.now.lengths }
@@ -65,7 +64,6 @@ impl Spot {
     }
 
     /// The interface by which a packet comes in at this hop, in the direction of travel.
-    #[inline(always)]
     pub(crate) fn ingress(&self) -> u16
         ensures { result ≡ ingress_of (info_field self.now.info) (hop_field self.now.hop) }
     {
@@ -77,7 +75,6 @@ impl Spot {
     }
 
     /// The interface by which it goes out.
-    #[inline(always)]
     pub(crate) fn egress(&self) -> u16
         ensures { result ≡ egress_of (info_field self.now.info) (hop_field self.now.hop) }
     {

@@ -36,7 +36,6 @@ impl Underlay {
     ghost use Rattle.process_packet.specs.Underlay.{same_underlay};
 
     /// Whether both are the same address and port.
-    #[inline(always)]
     pub(crate) fn is_same(&self, other: &Underlay) -> bool
         ensures { result ≡ same_underlay self.now other.now }
     {

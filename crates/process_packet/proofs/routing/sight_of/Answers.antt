@@ -1,8 +1,8 @@
-use Rattle.std.proofs.Common.{refl, arith, length-drop, ◌∙◌}
-use Rattle.scion_packet.specs.Header.{header_end}
+use Rattle.std.proofs.Common.{refl, sym, arith, length-drop, ◌∙◌}
+use Rattle.scion_packet.specs.Header.{header_end, header_of}
 use Rattle.scion_packet.specs.Packet.{path_bytes}
 use Rattle.scion_packet.proofs.Offsets.{fields_stand}
-use Rattle.process_packet.proofs.FrontLemmas.{begins_behind, path_between}
+use Rattle.process_packet.proofs.FrontLemmas.{path_between, path_lies}
 use Rattle.process_packet.proofs.SpotLemmas.{count_of, first_spot, has_current, whole_path}
 use Rattle.process_packet.proofs.routing.sight_of.Goals as goal
 
@@ -27,7 +27,7 @@ returns-clause-sees c n source =
     record {
       link = refl;
       moment = refl;
-      begin = front.begin ∙ begins_behind bytes front.are front.sound;
+      begin = front.begin ∙ sym (path_lies bytes (header_of bytes) front.are front.sound refl).begin;
       payload = omega (arith, length-drop (header_end bytes) bytes, front.end);
       count = count_of f.meta (path_bytes bytes) c.segment_count.result front.meta c.segment_count.ensures.count;
       spot = first_spot c.read.result f.meta _ (path_bytes bytes) _ _ same front.meta c.from-segment.ensures c.from.ensures c.read.ensures;
