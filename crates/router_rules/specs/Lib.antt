@@ -1,0 +1,4 @@
+pub mod Datagram
+pub mod Links
+pub mod Rules
+pub mod Laws
