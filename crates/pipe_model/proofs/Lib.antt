@@ -1,0 +1,3 @@
+pub mod Upheld
+pub mod Starts
+pub mod Turns
