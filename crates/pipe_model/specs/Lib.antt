@@ -1,4 +1,8 @@
 pub mod Step
+pub mod Actor
+pub mod Items
+pub mod Causes
+pub mod Kept
 pub mod Pipeline
 pub mod Arrivals
 pub mod Shown

@@ -2,11 +2,16 @@
 
 ghost use Rattle.router_rules.specs.Laws.{AreLawful, LinksStandInOrder, OnlyRuledCauses};
 
+use process_packet::{nothing_else_changes, only_lawful_ways};
+
 /// The router's rules are lawful for the pipeline: each flow has a processor; what a receiver refuses
 /// the decision drops for the same cause; what leaves has a link, and keeps its band.
 pub fn rules_are_lawful()
     ensures { AreLawful }
-{}
+{
+    only_lawful_ways();
+    nothing_else_changes();
+}
 
 /// Each link has one number, and they ascend with the interfaces.
 pub fn links_stand_in_order()
