@@ -1,3 +1,5 @@
 pub mod Upheld
 pub mod Starts
 pub mod Turns
+pub mod Sums
+pub mod Places

@@ -7,3 +7,4 @@ pub mod Pipeline
 pub mod Arrivals
 pub mod Shown
 pub mod Headline
+pub mod Finding

@@ -1,14 +1,16 @@
-//! Workers and pipes by the names that callers know, with links by their interfaces.
+//! Workers, pipes and causes by the names that callers know, with links by their interfaces.
 
 ghost use Rattle.std.specs.Prelude.{◌≡◌, ◌≤◌};
 ghost use Rattle.pipe_order.specs.Place.{place_at};
 ghost use Rattle.router_rules.specs.Links.{link_count};
 ghost use Rattle.router_rules.specs.Rules.{rules};
+ghost use Rattle.pipe_model.specs.Causes.{cause_in};
 ghost use Rattle.pipe_model.specs.Shown.{named_in, stands_in, why_of};
 
+use crate::cause::Cause;
 use crate::place::Place;
 use crate::step::Worker;
-use process_packet::Config;
+use process_packet::{Cause as Reason, Config};
 use router_rules::{interface_at, link_count};
 
 /// The worker of a seat.
@@ -54,5 +56,21 @@ pub fn place_at(config: &Config, pipe: usize) -> Place
         link_place(config, pipe - (slow + 1))
     } else {
         Place::Pipe(Worker::Slow)
+    }
+}
+
+/// Why a packet, or the answer to it, ended without being sent, as one of all causes.
+pub fn reason(cause: Cause) -> Reason
+    ensures { result ≡ why_of (cause_in cause) }
+{
+    match cause {
+        Cause::Ruled(reason) => reason,
+        Cause::ProcessorFull => Reason::ProcessorFull,
+        Cause::LinkFull => Reason::LinkFull,
+        Cause::AnswerFull => Reason::AnswerFull,
+        Cause::NoMemory => Reason::NoMemory,
+        Cause::Closed => Reason::Closed,
+        Cause::SendFailed => Reason::SendFailed,
+        Cause::NoBuffer => Reason::NoBuffer,
     }
 }

@@ -6,11 +6,11 @@ ghost use Rattle.pipe_model.specs.Headline.{IsHeadline, IsReached, IsWayGood};
 ghost use Rattle.pipe_model.specs.Pipeline.{ran, skipped, stepped};
 
 use crate::fault::StepFault;
-use crate::lawful::rules_are_lawful;
 use crate::sources::sources;
 use crate::state::State;
 use crate::step::Step;
 use process_packet::{Arrival, Config, NoMemory};
+use router_rules::rules_are_lawful;
 use std::alloc::Global;
 use std::marker::Model;
 
