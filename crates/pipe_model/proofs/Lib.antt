@@ -1,0 +1,3 @@
+pub mod KeptLemmas
+pub mod NumberLemmas
+pub mod SentLemmas
