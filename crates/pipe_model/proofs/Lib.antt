@@ -1,3 +1,6 @@
+pub mod KeptLemmas
+pub mod NumberLemmas
+pub mod SentLemmas
 pub mod Upheld
 pub mod Starts
 pub mod Turns

@@ -29,7 +29,7 @@ item_in (kept.Out o) = Item.Out (outgoing_in o)
 item_in kept.Close = Item.Close
 item_in kept.End = Item.End
 
-abbrev pub hand_in : Held → Hand kinds
-hand_in held.Empty = Hand.Empty
-hand_in (held.Got x) = Hand.Got (item_in x)
-hand_in (held.Owes x) = Hand.Owes (item_in x)
+abbrev pub hand_in : Option Held → Hand kinds
+hand_in None = Hand.Empty
+hand_in (Some (held.Got x)) = Hand.Got (item_in x)
+hand_in (Some (held.Owes x)) = Hand.Owes (item_in x)

@@ -1,8 +1,8 @@
 //! An item in a pipe, with the worker that pushed it.
 
-ghost use Rattle.std.specs.Prelude.{◌≡◌};
-ghost use Rattle.pipe_order.specs.Pipe as pipe;
-ghost use Rattle.router_rules.specs.Rules.{kinds};
+ghost use Rattle.std.specs.Prelude.{◌≡◌, ◌&&◌};
+ghost use Rattle.pipe_order.specs.Item.{is_end};
+ghost use Rattle.pipe_order.specs.Worker.{same_worker};
 ghost use Rattle.pipe_model.specs.Actor.{worker_of};
 ghost use Rattle.pipe_model.specs.Items.{item_in};
 
@@ -31,21 +31,21 @@ impl Model for Entry {
 
 impl Entry {
     pub fn new(from: Actor, item: Item) -> Entry
-        ensures from { result.from ≡ worker_of from }
-        ensures item { result.item ≡ item_in item }
+        ensures { result ≡ record { from = worker_of from; item = item_in item } }
     {
         Entry { from, item }
-    }
-
-    pub fn from(&self) -> Actor
-        ensures { worker_of result ≡ self.now.from }
-    {
-        self.from
     }
 
     pub fn item(&self) -> &Item
         ensures { item_in result.now ≡ self.now.item }
     {
         &self.item
+    }
+
+    /// Whether it is the end mark of a worker.
+    pub fn is_end_of(&self, worker: Actor) -> bool
+        ensures { result ≡ (is_end self.now.item && same_worker (worker_of worker) self.now.from) }
+    {
+        self.item.is_end() && worker.is(self.from)
     }
 }

@@ -1,13 +1,12 @@
 //! How packets ended that were not sent.
 
-ghost use Rattle.std.specs.Prelude.{◌≡◌, ◌++◌, [], take, length, is_ok, if◌then◌else◌};
+ghost use Rattle.std.specs.Prelude.{◌≡◌, ◌++◌, [], take, length, is_ok, option_to_list, if◌then◌else◌};
 ghost use Rattle.pipe_order.specs.World.{fate_of};
 ghost use Rattle.pipe_model.specs.Causes.{cause_in};
 ghost use Rattle.pipe_model.specs.Items.{item_in};
 
 use crate::cause::Cause;
-use crate::came::Came;
-use crate::item::{Item, Out};
+use crate::item::Item;
 use std::alloc::{AllocError, Global};
 use std::marker::Model;
 
@@ -43,4 +42,55 @@ impl Model for Fates {
     ghost Value = { List (Fate kinds) };
 
     ghost view = { λ f. f.items.items };
+}
+
+/// The fate of a packet or its answer. A mark has none.
+fn fate_of(item: &Item, cause: Cause) -> Option<Fate>
+    ensures { option_to_list result ≡ fate_of (item_in item.now) (cause_in cause) }
+{
+    let (link, number) = match item {
+        Item::Arrived(came) => (came.link, came.number),
+        Item::Packet(packet) => (packet.came.link, packet.came.number),
+        Item::Asked(asked) => (asked.came.link, asked.came.number),
+        Item::Out(out) => (out.arrived, out.number),
+        Item::Close | Item::End => return None,
+    };
+    Some(Fate {
+        link,
+        number,
+        cause,
+    })
+}
+
+impl Fates {
+    pub fn new(alloc: Global) -> Fates
+        ensures { result ≡ [] }
+    {
+        Fates {
+            items: Vec::new(alloc),
+        }
+    }
+
+    pub fn len(&self) -> usize
+        ensures { result ≡ length self.now }
+    {
+        self.items.len()
+    }
+
+    /// Notes the fate of an item.
+    pub fn note(&mut self, item: &Item, cause: Cause) -> Result<(), AllocError>
+        ensures { self.new ≡ (if is_ok result then self.old ++ fate_of (item_in item.now) (cause_in cause) else self.old) }
+    {
+        if let Some(fate) = fate_of(item, cause) {
+            self.items.push(fate)?;
+        }
+        Ok(())
+    }
+
+    /// Forgets what was noted behind the first ones.
+    pub fn truncate(&mut self, len: usize)
+        ensures { self.new ≡ take len self.old }
+    {
+        self.items.truncate(len);
+    }
 }

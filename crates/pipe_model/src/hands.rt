@@ -1,6 +1,7 @@
 //! What the workers have in hand.
 
-ghost use Rattle.std.specs.Prelude.{◌≡◌, MatchOption, IfOk, slice_set, slice_index_or, replicate};
+ghost use Rattle.std.specs.Prelude.{◌≡◌, Some, false, MatchBool, MatchOption, IfOk, slice_set, slice_index_or, replicate};
+ghost use Rattle.pipe_order.specs.Next.{is_free};
 ghost use Rattle.pipe_order.specs.World.{Empty};
 ghost use Rattle.pipe_model.specs.Items.{hand_in};
 
@@ -11,7 +12,7 @@ use std::marker::Model;
 /// What one worker has in hand.
 #[derive(Debug, Drop)]
 struct Seat {
-    hand: Hand,
+    hand: Option<Hand>,
 }
 
 impl Model for Seat {
@@ -48,23 +49,30 @@ impl Hands {
     {
         let mut seats = Vec::new(alloc);
         for i in 0..count {
-            seats.push(Seat { hand: Hand::Empty })?;
+            seats.push(Seat { hand: None })?;
         }
         Ok(Hands { seats })
     }
 
-    /// The hand at a seat. A seat that isn't there has an empty one.
+    /// What is in hand at a seat; nothing where there is none.
     pub fn get(&self, seat: usize) -> Option<&Hand>
-        ensures { MatchOption result (slice_index_or self.now seat Empty ≡ Empty) (λ hand. slice_index_or self.now seat Empty ≡ hand_in hand.now) }
+        ensures { MatchOption result (slice_index_or self.now seat Empty ≡ Empty) (λ hand. slice_index_or self.now seat Empty ≡ hand_in (Some hand.now)) }
     {
         match self.seats.get(seat) {
             None => None,
-            Some(at) => Some(&at.hand),
+            Some(at) => at.hand.as_ref(),
         }
     }
 
-    /// Fills the hand at a seat; where there is none, nothing changes.
-    pub fn set(&mut self, seat: usize, hand: Hand)
+    /// Whether nothing is in hand at a seat.
+    pub fn is_free(&self, seat: usize) -> bool
+        ensures { MatchBool result (slice_index_or self.now seat Empty ≡ Empty) (is_free (slice_index_or self.now seat Empty) ≡ false) }
+    {
+        self.get(seat).is_none()
+    }
+
+    /// Fills or empties the hand at a seat; where there is none, nothing changes.
+    pub fn set(&mut self, seat: usize, hand: Option<Hand>)
         ensures { self.new ≡ slice_set self.old seat (hand_in hand) }
     {
         if seat < self.seats.len() {

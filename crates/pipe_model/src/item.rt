@@ -2,9 +2,12 @@
 
 ghost use Rattle.std.specs.Prelude.{◌≡◌, IfOk};
 ghost use Rattle.pipe_order.specs.Item.{is_close, is_end};
-ghost use Rattle.pipe_model.specs.Items.{item_in};
+ghost use Rattle.pipe_order.specs.Next.{full_of, hand_after};
+ghost use Rattle.pipe_model.specs.Causes.{cause_in};
+ghost use Rattle.pipe_model.specs.Items.{hand_in, item_in};
 
 use crate::came::Came;
+use crate::cause::Cause;
 use crate::outgoing::Bytes;
 use crate::packet::{Asked, Packet};
 use process_packet::Underlay;
@@ -30,7 +33,7 @@ pub struct Out {
     /// Whether this is the answer to it.
     pub answer: bool,
     /// The number of the leaving link.
-    pub link: usize,
+    pub link: u16,
     pub parcel: Parcel,
 }
 
@@ -50,10 +53,9 @@ pub enum Item {
     End,
 }
 
-/// What a worker has in hand.
+/// What a worker has in hand, if anything.
 #[derive(Debug, Drop)]
 pub enum Hand {
-    Empty,
     /// It is to be worked on.
     Got(Item),
     /// It is to be pushed.
@@ -81,6 +83,27 @@ impl Out {
 }
 
 impl Item {
+    /// The cause of a refusal.
+    pub fn full(&self) -> Cause
+        ensures { cause_in result ≡ full_of (item_in self.now) }
+    {
+        match self {
+            Item::Arrived(_) | Item::Packet(_) => Cause::ProcessorFull,
+            Item::Asked(_) => Cause::AnswerFull,
+            Item::Out(_) | Item::Close | Item::End => Cause::LinkFull,
+        }
+    }
+
+    /// What a hand has after taking it: a mark is only noted.
+    pub fn in_hand(self) -> Option<Hand>
+        ensures { hand_in result ≡ hand_after (item_in self) }
+    {
+        match self {
+            Item::Close | Item::End => None,
+            item => Some(Hand::Got(item)),
+        }
+    }
+
     pub fn is_close(&self) -> bool
         ensures { result ≡ is_close (item_in self.now) }
     {

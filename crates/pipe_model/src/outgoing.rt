@@ -54,4 +54,11 @@ impl Bytes {
         let items = self.items.clone()?;
         Ok(Bytes { items })
     }
+
+    /// The same in memory of their own.
+    pub fn to_vec(&self) -> Result<Vec<u8>, AllocError>
+        ensures { IfOk result (λ v. v.items ≡ self.now) }
+    {
+        self.items.clone()
+    }
 }

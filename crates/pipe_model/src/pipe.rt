@@ -1,6 +1,6 @@
 //! One pipe, kept as the list of all that was ever pushed.
 
-ghost use Rattle.std.specs.Prelude.{◌≡◌, ◌<◌, ◌==◌, length, Some, None, MatchOption, OnSome, IfOk, is_ok, IsSome, if◌then◌else◌};
+ghost use Rattle.std.specs.Prelude.{◌≡◌, Some, None, MatchOption, is_ok, IsSome, if◌then◌else◌};
 ghost use Rattle.pipe_order.specs.Item.{ends};
 ghost use Rattle.pipe_order.specs.Pipe.{empty_pipe, front, gone, has_end_of, has_room, is_marked, is_shut, one_taken, pushed, refusal_of, refused};
 ghost use Rattle.pipe_model.specs.Actor.{worker_of};
@@ -10,7 +10,7 @@ use crate::actor::Actor;
 use crate::entry::Entry;
 use crate::item::Item;
 use crate::refusal::Refusal;
-use std::alloc::{AllocError, AllocFailed, Global};
+use std::alloc::{AllocError, Global};
 use std::marker::Model;
 
 /// A pipe. Besides all that was pushed it keeps what its questions would look for there.
@@ -102,7 +102,7 @@ impl Pipe {
     {
         let closes = item.is_close();
         self.history.push(Entry::new(from, item))?;
-        self.marked = self.marked || closes;
+        self.marked |= closes;
         Ok(())
     }
 
@@ -115,9 +115,41 @@ impl Pipe {
         let closes = first.is_close();
         let ends = first.is_end();
         self.taken += 1;
-        self.shut = self.shut || closes;
+        self.shut |= closes;
         if ends {
             self.ends += 1;
         }
+    }
+
+    /// What would be noted of an item that is refused now.
+    pub fn refusal(&self, item: &Item) -> Refusal
+        ensures { result ≡ refusal_of (item_in item.now) self.now }
+    {
+        let (link, number) = match item {
+            Item::Arrived(came) => (came.link, came.number),
+            Item::Packet(packet) => (packet.came.link, packet.came.number),
+            Item::Asked(asked) => (asked.came.link, asked.came.number),
+            Item::Out(out) => (out.arrived, out.number),
+            Item::Close | Item::End => (0, 0),
+        };
+        Refusal::new(link, number, self.history.len(), self.taken)
+    }
+
+    /// Notes that an item was refused.
+    pub fn refuse(&mut self, item: &Item) -> Result<(), AllocError>
+        ensures { self.new ≡ (if is_ok result then refused self.old (refusal_of (item_in item.now) self.old) else self.old) }
+    {
+        let refusal = self.refusal(item);
+        self.refusals.push(refusal)?;
+        Ok(())
+    }
+
+    /// Whether the worker has pushed its end mark.
+    pub fn has_end_of(&self, worker: Actor) -> bool
+        ensures { result ≡ has_end_of (worker_of worker) self.now }
+    {
+        self.history
+            .iter()
+            .any(|entry| entry.is_end_of(worker))
     }
 }

@@ -1,0 +1,21 @@
+-- What is kept of what was sent.
+use Rattle.std.proofs.Common.{◌≡◌, ℕ, suc, List, [], ◌∷◌, ◌++◌, map, length, refl, sym, ap, ◌∙◌, arith}
+use Rattle.pipe_order.specs.Item.{Outgoing}
+use Rattle.router_rules.specs.Rules.{kinds}
+use Rattle.pipe_model.specs.Sent.{joined, rejoined}
+use Rattle.pipe_model.specs.Shown.{left}
+use Rattle.pipe_model.specs.declared.outgoing.Outgoing.{Outgoing as Left}
+use Rattle.pipe_model.specs.declared.sent.Way.{Way}
+
+-- the entries are what the public type has of them
+pub map-joined : (ws : List Way) (es : List (Left × List ℕ)) → length ws ≡ length es → es ≡ map left (joined ws es)
+map-joined [] [] h = refl
+map-joined [] (e ∷ es) h = absurd (omega (arith, h))
+map-joined (w ∷ ws) [] h = absurd (omega (arith, h))
+map-joined (w ∷ ws) (e ∷ es) h = ap (λ (xs : List (Left × List ℕ)). e ∷ xs) (map-joined ws es (omega (arith, h)))
+
+pub joined-push : (ws : List Way) (es : List (Left × List ℕ)) (w : Way) (e : Left × List ℕ) → length ws ≡ length es → joined (ws ++ w ∷ []) (es ++ e ∷ []) ≡ joined ws es ++ rejoined w e ∷ []
+joined-push [] [] w e h = refl
+joined-push [] (x ∷ es) w e h = absurd (omega (arith, h))
+joined-push (x ∷ ws) [] w e h = absurd (omega (arith, h))
+joined-push (x ∷ ws) (y ∷ es) w e h = ap (λ (os : List (Outgoing kinds)). rejoined x y ∷ os) (joined-push ws es w e (omega (arith, h)))
