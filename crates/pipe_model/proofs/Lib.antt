@@ -6,3 +6,4 @@ pub mod Starts
 pub mod Turns
 pub mod Sums
 pub mod Places
+pub mod AllCauses

@@ -2,26 +2,30 @@
 use Rattle.std.proofs.Common.{◌≡◌, ℕ, ◌+◌, ◌<◌, ◌≤◌, Bool, true, false, cond, ◌||◌, List, [], ◌∷◌, ◌++◌, length, drop, get_or, refl, sym, ◌∙◌, ap, arith}
 use Rattle.std.specs.Prelude.{Option, Some, None, option_map}
 use Rattle.std.specs.Option.{option_or}
-use Rattle.std.proofs.lemmas.List.{at_drop_all, at_drop_more, drop-map}
-use Rattle.pipe_order.specs.Item.{Item, is_named}
+use Rattle.std.specs.List.{flat_map}
+use Rattle.std.proofs.lemmas.List.{at_drop_all, at_drop_more, drop-map, drop_more}
+use Rattle.pipe_order.specs.Item.{Item, Outgoing, is_named}
 use Rattle.pipe_order.specs.Pipe.{Entry, Pipe, empty_pipe, items}
-use Rattle.pipe_order.specs.Place.{Place, InHand, Dropped, here_if, in_fates, in_hands, in_pipe, in_pipes, place_at, worker_at}
+use Rattle.pipe_order.specs.Place.{Place, InHand, Dropped, here_if, in_fates, in_hands, in_pipe, in_pipes, in_sent, place_at, worker_at}
 use Rattle.pipe_order.specs.Rules.{Rules}
 use Rattle.pipe_order.specs.World.{Fate, Hand, Empty, Got, Owes}
 use Rattle.router_rules.specs.Rules.{kinds}
-use Rattle.pipe_model.specs.Finding.{has_in_hand, has_in_pipe, is_among}
+use Rattle.pipe_model.specs.Finding.{has_in_hand, has_in_pipe, is_among, place_of_sent}
+use Rattle.pipe_model.specs.Sent.{joined}
 use Rattle.pipe_model.specs.Shown.{first}
+use Rattle.pipe_model.specs.declared.outgoing.Outgoing.{Outgoing as Left}
+use Rattle.pipe_model.specs.declared.sent.Way.{Way}
 
 pub first-append : {X : Type 0} (xs ys : List X) → first (xs ++ ys) ≡ option_or (first xs) (first ys)
 first-append [] ys = refl
 first-append (x ∷ xs) ys = refl
 
--- a chain of four lists, looked through one after the other
-pub first_of_four : {X Y : Type 0} (f : X → Y) (ks ls ms ns : List X) → option_map f (first (ks ++ ls ++ ms ++ ns)) ≡ option_or (option_map f (first ks)) (option_or (option_map f (first ls)) (option_or (option_map f (first ms)) (option_map f (first ns))))
-first_of_four f (k ∷ ks) ls ms ns = refl
-first_of_four f [] (l ∷ ls) ms ns = refl
-first_of_four f [] [] (m ∷ ms) ns = refl
-first_of_four f [] [] [] ns = refl
+-- a chain of four lists, of which three have nothing
+pub last_of_four : {X Y : Type 0} (f : X → Y) (ks ls ms ns : List X) → option_map f (first ks) ≡ None → option_map f (first ls) ≡ None → option_map f (first ms) ≡ None → option_map f (first (ks ++ ls ++ ms ++ ns)) ≡ option_map f (first ns)
+last_of_four f (k ∷ ks) ls ms ns e g h = cc
+last_of_four f [] (l ∷ ls) ms ns e g h = cc
+last_of_four f [] [] (m ∷ ms) ns e g h = cc
+last_of_four f [] [] [] ns e g h = refl
 
 module _ (R : Rules kinds) (named : ℕ → ℕ → Bool) where
   -- ---- hands
@@ -49,11 +53,11 @@ module _ (R : Rules kinds) (named : ℕ → ℕ → Bool) where
 
   first_among : (at : Place kinds) (es : List (Entry kinds)) (rest : List (Place kinds)) → first (in_pipe named at (items es) ++ rest) ≡ cond (is_among named es) (Some at) (first rest)
   first_among at [] rest = refl
-  first_among at (e ∷ es) rest = go (is_named named e.item)
+  first_among at (e ∷ es) rest = go (first_among at es rest) (is_named named e.item)
     where
-      go : (b : Bool) → first ((here_if b at ++ in_pipe named at (items es)) ++ rest) ≡ cond (b || is_among named es) (Some at) (first rest)
-      go true = refl
-      go false = first_among at es rest
+      go : first (in_pipe named at (items es) ++ rest) ≡ cond (is_among named es) (Some at) (first rest) → (b : Bool) → first ((here_if b at ++ in_pipe named at (items es)) ++ rest) ≡ cond (b || is_among named es) (Some at) (first rest)
+      go more true = refl
+      go more false = more
 
   pipe_first : (q : ℕ) (p : Pipe kinds) (ps : List (Pipe kinds)) → first (in_pipes R named q (p ∷ ps)) ≡ cond (has_in_pipe named p) (Some (place_at R q)) (first (in_pipes R named (q + 1) ps))
   pipe_first q p ps =
@@ -90,3 +94,28 @@ module _ (named : ℕ → ℕ → Bool) where
 
   pub fates_end : (F : List (Fate kinds)) (i : ℕ) → length F ≤ i → first (in_fates named (drop i F)) ≡ None
   fates_end F i h = at_drop_all (λ xs. first (in_fates named xs)) F i h
+
+  -- ---- what was sent
+
+  pub sent_first : (ws : List Way) (es : List (Left × List ℕ)) (i : ℕ) (w : Way) (e : Left × List ℕ) (b : Bool) → length ws ≡ length es → i < length ws → named (get_or ws i w).arrived (get_or es i e).0.number ≡ b → first (in_sent named (joined (drop i ws) (drop i es))) ≡ cond b (Some (place_of_sent (get_or es i e).0.answer)) (first (in_sent named (joined (drop (i + 1) ws) (drop (i + 1) es))))
+  sent_first ws es i w e b n h same =
+      let at = place_of_sent (get_or es i e).0.answer in
+      let rest = in_sent named (joined (drop (i + 1) ws) (drop (i + 1) es)) in
+      ap (λ (xs : List Way). first (in_sent named (joined xs (drop i es)))) (drop_more ws i w h)
+      ∙ (
+        ap (λ (xs : List (Left × List ℕ)). first (in_sent named (joined (get_or ws i w ∷ drop (i + 1) ws) xs))) (drop_more es i e (omega arith))
+        ∙ (ap (λ (v : Bool). first (here_if v at ++ rest)) same ∙ go at rest b)
+        )
+    where
+      go : (at : Place kinds) (rest : List (Place kinds)) (v : Bool) → first (here_if v at ++ rest) ≡ cond v (Some at) (first rest)
+      go at rest true = refl
+      go at rest false = refl
+
+  pub sent_end : (ws : List Way) (es : List (Left × List ℕ)) (i : ℕ) → length ws ≤ i → first (in_sent named (joined (drop i ws) (drop i es))) ≡ None
+  sent_end ws es i h = at_drop_all (λ xs. first (in_sent named (joined xs (drop i es)))) ws i h
+
+  pub outboxes_first : (bs : List (List (Outgoing kinds))) (i : ℕ) (d : List (Outgoing kinds)) → i < length bs → first (flat_map (in_sent named) (drop i bs)) ≡ option_or (first (in_sent named (get_or bs i d))) (first (flat_map (in_sent named) (drop (i + 1) bs)))
+  outboxes_first bs i d h = at_drop_more (λ xs. first (flat_map (in_sent named) xs)) bs i d h ∙ first-append (in_sent named (get_or bs i d)) (flat_map (in_sent named) (drop (i + 1) bs))
+
+  pub outboxes_end : (bs : List (List (Outgoing kinds))) (i : ℕ) → length bs ≤ i → first (flat_map (in_sent named) (drop i bs)) ≡ None
+  outboxes_end bs i h = at_drop_all (λ xs. first (flat_map (in_sent named) xs)) bs i h

@@ -1,6 +1,6 @@
-//! How many packets are in hands and in pipes, how many were received, and how many dropped.
+//! How many packets are in hands and in pipes, and how many were received, sent, answered and dropped.
 
-ghost use Rattle.std.specs.Prelude.{◌≡◌, ◌≤◌, map, slice_index_or};
+ghost use Rattle.std.specs.Prelude.{◌≡◌, ◌≤◌, ◌*◌, ◌^◌, Some, length, map, not, slice_index_or};
 ghost use Rattle.pipe_order.specs.Counts.{count, total};
 ghost use Rattle.pipe_order.specs.Pipe.{held};
 ghost use Rattle.pipe_order.specs.Totals.{packets_in_hand};
@@ -14,14 +14,15 @@ use crate::hands::Hands;
 use crate::item::Hand;
 use crate::named::is_packet;
 use crate::naming::reason;
+use crate::outgoing::{Bytes, Outgoing};
 use crate::pipe::Pipe;
+use crate::sent::Sent;
 
 /// 1 with a packet in this hand, else 0.
 fn packets_in_hand(hand: &Hand) -> usize
-    ensures { result ≡ packets_in_hand (hand_in hand.now) }
+    ensures { result ≡ packets_in_hand (hand_in (Some hand.now)) }
 {
     match hand {
-        Hand::Empty => 0,
         Hand::Got(item) | Hand::Owes(item) => usize::from(is_packet(item)),
     }
 }
@@ -67,7 +68,8 @@ fn held_packets(pipe: &Pipe) -> usize
 
 /// How many packets these pipes hold.
 pub fn in_pipes(pipes: &[Pipe]) -> u128
-    ensures { result ≡ total (λ p. count Rattle.pipe_order.specs.Totals.is_packet (held p)) pipes.now }
+    ensures few { result ≤ length pipes.now * 2 ^ 64 }
+    ensures count { result ≡ total (λ p. count Rattle.pipe_order.specs.Totals.is_packet (held p)) pipes.now }
 {
     let mut packets = 0;
     for pipe in pipes {
@@ -85,6 +87,42 @@ pub fn taken_of(pipes: &[Pipe]) -> u128
         packets += pipe.taken() as u128;
     }
     packets
+}
+
+/// How many of these are packets, and no answers.
+fn packets_among(entries: &[(Outgoing, Bytes)]) -> usize
+    ensures { result ≡ count (λ e. not e.0.answer) entries.now }
+{
+    entries.iter().filter(|entry| !entry.0.answer).count()
+}
+
+/// How many of these are answers.
+fn answers_among(entries: &[(Outgoing, Bytes)]) -> usize
+    ensures { result ≡ count (λ e. e.0.answer) entries.now }
+{
+    entries.iter().filter(|entry| entry.0.answer).count()
+}
+
+/// How many packets were sent, answers left aside.
+pub fn packets_sent(sent: &Sent) -> u128
+    ensures { result ≡ total (count (λ o. not o.answer)) sent.now }
+{
+    let mut packets = 0;
+    for link in 0..sent.len() {
+        packets += packets_among(sent.on(link)) as u128;
+    }
+    packets
+}
+
+/// How many answers were sent.
+pub fn answers_sent(sent: &Sent) -> u128
+    ensures { result ≡ total (count (λ o. o.answer)) sent.now }
+{
+    let mut answers = 0;
+    for link in 0..sent.len() {
+        answers += answers_among(sent.on(link)) as u128;
+    }
+    answers
 }
 
 /// How many were dropped for the cause with this number.

@@ -94,3 +94,33 @@ impl Fates {
         self.items.truncate(len);
     }
 }
+
+impl Fate {
+    /// The number of the packet's arriving link.
+    pub fn link(&self) -> usize
+        ensures { result ≡ self.now.link }
+    {
+        self.link
+    }
+
+    /// The packet's number there.
+    pub fn number(&self) -> u64
+        ensures { result ≡ self.now.number }
+    {
+        self.number
+    }
+
+    pub fn cause(&self) -> Cause
+        ensures { cause_in result ≡ self.now.cause }
+    {
+        self.cause
+    }
+}
+
+impl Fates {
+    pub fn as_slice(&self) -> &[Fate]
+        ensures { result.now ≡ self.now }
+    {
+        self.items.as_slice()
+    }
+}

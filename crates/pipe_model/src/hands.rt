@@ -80,3 +80,14 @@ impl Hands {
         }
     }
 }
+
+impl Hands {
+    ghost use Rattle.std.specs.Prelude.{length};
+
+    /// How many seats there are.
+    pub fn len(&self) -> usize
+        ensures { result ≡ length self.now }
+    {
+        self.seats.len()
+    }
+}

@@ -153,3 +153,21 @@ impl Pipe {
             .any(|entry| entry.is_end_of(worker))
     }
 }
+
+impl Pipe {
+    ghost use Rattle.std.specs.Prelude.{drop};
+
+    /// How many were taken.
+    pub fn taken(&self) -> usize
+        ensures { result ≡ self.now.taken }
+    {
+        self.taken
+    }
+
+    /// What was pushed and not yet taken.
+    pub fn held(&self) -> &[Entry]
+        ensures { result.now ≡ drop self.now.taken self.now.history }
+    {
+        &self.history[self.taken..]
+    }
+}

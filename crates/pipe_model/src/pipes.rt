@@ -137,3 +137,29 @@ impl Pipes {
         Ok(())
     }
 }
+
+impl Pipes {
+    ghost use Rattle.std.specs.Prelude.{drop, take};
+
+    /// The first so many.
+    pub fn up_to(&self, count: usize) -> &[Pipe]
+        ensures { result.now ≡ take count self.now }
+    {
+        if count <= self.items.len() {
+            &self.items[..count]
+        } else {
+            self.items.as_slice()
+        }
+    }
+
+    /// Those behind the first so many.
+    pub fn behind(&self, count: usize) -> &[Pipe]
+        ensures { result.now ≡ drop count self.now }
+    {
+        if count <= self.items.len() {
+            &self.items[count..]
+        } else {
+            &[]
+        }
+    }
+}

@@ -1,8 +1,13 @@
 //! What was sent.
 
-ghost use Rattle.std.specs.Prelude.{◌≡◌, ◌++◌, ◌∷◌, [], IfOk, is_ok, if◌then◌else◌, map, replicate, slice_index_or, slice_set};
+ghost use Rattle.std.specs.Prelude.{◌≡◌, ◌++◌, ◌∷◌, [], IfOk, is_ok, if◌then◌else◌, length, map, option_map, replicate, slice_index_or, slice_set};
+ghost use Rattle.std.specs.List.{flat_map};
+ghost use Rattle.pipe_order.specs.Item.{is_one};
+ghost use Rattle.pipe_order.specs.Place.{in_sent};
+ghost use Rattle.pipe_model.specs.Finding.{place_of_sent};
 ghost use Rattle.pipe_model.specs.Items.{outgoing_in};
-ghost use Rattle.pipe_model.specs.Shown.{left};
+ghost use Rattle.pipe_model.specs.Sent.{joined};
+ghost use Rattle.pipe_model.specs.Shown.{first, left};
 
 use crate::item::Out;
 use crate::outgoing::{Bytes, Outgoing};
@@ -124,4 +129,66 @@ impl Sent {
         }
         Ok(())
     }
+}
+
+/// Whether the packet with this number on its arriving link is among what was sent, and then whether as
+/// the answer to it.
+fn find_among(
+    ways: &[Way],
+    entries: &[(Outgoing, Bytes)],
+    arrived: usize,
+    number: u64,
+) -> Option<bool>
+    requires { length ways.now ≡ length entries.now }
+    ensures { option_map place_of_sent result ≡ first (in_sent (is_one arrived number) (joined ways.now entries.now)) }
+{
+    for (i, way) in ways.iter().enumerate() {
+        let outgoing = &entries[i].0;
+        if way.arrived == arrived && outgoing.number == number {
+            return Some(outgoing.answer);
+        }
+    }
+    None
+}
+
+impl Outbox {
+    fn find(&self, arrived: usize, number: u64) -> Option<bool>
+        ensures { option_map place_of_sent result ≡ first (in_sent (is_one arrived number) self.now) }
+    {
+        find_among(
+            self.ways.as_slice(),
+            self.entries.as_slice(),
+            arrived,
+            number,
+        )
+    }
+}
+
+impl Sent {
+    /// How many links there are.
+    pub fn len(&self) -> usize
+        ensures { result ≡ length self.now }
+    {
+        self.links.len()
+    }
+
+    /// Whether the packet with this number on its arriving link was sent, and then whether as the answer
+    /// to it.
+    pub fn find(&self, arrived: usize, number: u64) -> Option<bool>
+        ensures { option_map place_of_sent result ≡ first (flat_map (in_sent (is_one arrived number)) self.now) }
+    {
+        find_in_outboxes(self.links.as_slice(), arrived, number)
+    }
+}
+
+/// The same over these links.
+fn find_in_outboxes(links: &[Outbox], arrived: usize, number: u64) -> Option<bool>
+    ensures { option_map place_of_sent result ≡ first (flat_map (in_sent (is_one arrived number)) links.now) }
+{
+    for outbox in links {
+        if let Some(answer) = outbox.find(arrived, number) {
+            return Some(answer);
+        }
+    }
+    None
 }

@@ -17,8 +17,8 @@ use std::marker::Model;
 /// A pipeline: a configuration, and what some steps led to.
 #[derive(Drop)]
 pub struct World {
-    config: Config,
-    state: State,
+    pub(crate) config: Config,
+    pub(crate) state: State,
 }
 
 impl Model for World {
@@ -49,8 +49,10 @@ impl World {
         ensures { IfOk result (λ w. w ≡ begun config arrivals.items) }
     {
         let sources = sources(alloc, arrivals)?;
-        let state = State::new(alloc, &config, sources)?;
-        Ok(World { config, state })
+        match State::new(alloc, &config, sources) {
+            Ok(state) => Ok(World { config, state }),
+            Err(_) => Err(NoMemory),
+        }
     }
 
     pub fn config(&self) -> &Config
