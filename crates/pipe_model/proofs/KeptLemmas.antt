@@ -80,6 +80,6 @@ shut_taken m r t xs e k n h i = rw (k, n) (sym (has_close_taken t xs e h i))
 
 -- what would be taken is there
 pub front_within : (t : ℕ) (xs : List (Entry kinds)) → IsSome (slice_get (items xs) t) → t < length xs
-front_within t [] h = absurd h
+front_within t [] h = cc
 front_within zero (x ∷ xs) h = omega arith
 front_within (suc t) (x ∷ xs) h = let more = front_within t xs h in omega arith

@@ -8,14 +8,14 @@ use Rattle.pipe_model.specs.declared.outgoing.Outgoing.{Outgoing as Left}
 use Rattle.pipe_model.specs.declared.sent.Way.{Way}
 
 -- the entries are what the public type has of them
-pub map-joined : (ws : List Way) (es : List (Left × List ℕ)) → length ws ≡ length es → es ≡ map left (joined ws es)
-map-joined [] [] h = refl
-map-joined [] (e ∷ es) h = absurd (omega (arith, h))
-map-joined (w ∷ ws) [] h = absurd (omega (arith, h))
-map-joined (w ∷ ws) (e ∷ es) h = ap (λ (xs : List (Left × List ℕ)). e ∷ xs) (map-joined ws es (omega (arith, h)))
+pub map_joined : (ws : List Way) (es : List (Left × List ℕ)) → length ws ≡ length es → es ≡ map left (joined ws es)
+map_joined [] [] h = refl
+map_joined [] (e ∷ es) h = absurd (omega (arith, h))
+map_joined (w ∷ ws) [] h = absurd (omega (arith, h))
+map_joined (w ∷ ws) (e ∷ es) h = ap (λ (xs : List (Left × List ℕ)). e ∷ xs) (map_joined ws es (omega (arith, h)))
 
-pub joined-push : (ws : List Way) (es : List (Left × List ℕ)) (w : Way) (e : Left × List ℕ) → length ws ≡ length es → joined (ws ++ w ∷ []) (es ++ e ∷ []) ≡ joined ws es ++ rejoined w e ∷ []
-joined-push [] [] w e h = refl
-joined-push [] (x ∷ es) w e h = absurd (omega (arith, h))
-joined-push (x ∷ ws) [] w e h = absurd (omega (arith, h))
-joined-push (x ∷ ws) (y ∷ es) w e h = ap (λ (os : List (Outgoing kinds)). rejoined x y ∷ os) (joined-push ws es w e (omega (arith, h)))
+pub joined_push : (ws : List Way) (es : List (Left × List ℕ)) (w : Way) (e : Left × List ℕ) → length ws ≡ length es → joined (ws ++ w ∷ []) (es ++ e ∷ []) ≡ joined ws es ++ rejoined w e ∷ []
+joined_push [] [] w e h = refl
+joined_push [] (x ∷ es) w e h = absurd (omega (arith, h))
+joined_push (x ∷ ws) [] w e h = absurd (omega (arith, h))
+joined_push (x ∷ ws) (y ∷ es) w e h = ap (λ (os : List (Outgoing kinds)). rejoined x y ∷ os) (joined_push ws es w e (omega (arith, h)))

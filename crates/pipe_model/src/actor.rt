@@ -16,7 +16,7 @@ use router_rules::{has_two_bands, link_count};
 /// A worker, whose link goes by its number.
 #[derive(Clone, Copy, Debug, PartialEq, Eq)]
 pub enum Actor {
-    Receiver(u16),
+    Receiver(usize),
     Processor(u8),
     Slow,
     Forwarder(u16),
@@ -36,7 +36,7 @@ impl Actor {
         ensures { worker_of result ≡ worker_in config.now worker }
     {
         match worker {
-            Worker::Receiver(id) => Actor::Receiver(link_number(config, id)),
+            Worker::Receiver(id) => Actor::Receiver(usize::from(link_number(config, id))),
             Worker::Processor(i) => Actor::Processor(i),
             Worker::Slow => Actor::Slow,
             Worker::Forwarder(id) => Actor::Forwarder(link_number(config, id)),
@@ -49,7 +49,8 @@ impl Actor {
         ensures { result ≡ has_worker (rules config.now) (worker_of self) }
     {
         match self {
-            Actor::Receiver(link) | Actor::Forwarder(link) => usize::from(link) < link_count(config),
+            Actor::Receiver(link) => link < link_count(config),
+            Actor::Forwarder(link) => usize::from(link) < link_count(config),
             Actor::Processor(i) => i < config.processors,
             Actor::Slow | Actor::Controller => true,
         }
@@ -60,7 +61,7 @@ impl Actor {
         ensures { result ≡ seat_of (rules config.now) (worker_of self) }
     {
         match self {
-            Actor::Receiver(link) => usize::from(link),
+            Actor::Receiver(link) => link,
             Actor::Processor(i) => link_count(config) + usize::from(i),
             Actor::Slow => slow_seat(config),
             Actor::Forwarder(link) => slow_seat(config) + 1 + usize::from(link),
@@ -129,7 +130,7 @@ impl Channel {
         ensures { result ≡ pipe_of (rules config.now) (queue_of self) }
     {
         match self {
-            Channel::Of(Actor::Receiver(link)) => usize::from(link),
+            Channel::Of(Actor::Receiver(link)) => link,
             Channel::Of(Actor::Processor(i)) => link_count(config) + usize::from(i),
             Channel::Of(Actor::Slow) => slow_seat(config),
             Channel::Of(Actor::Forwarder(link)) => link_pipe(config, false, link),

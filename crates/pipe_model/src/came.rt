@@ -1,9 +1,11 @@
 //! A datagram as it arrived.
 
 ghost use Rattle.std.specs.Prelude.{◌≡◌, IfOk};
+ghost use Rattle.pipe_model.specs.Arrivals.{arrived_in};
+ghost use Rattle.pipe_model.specs.Items.{arrival_in};
 
 use crate::outgoing::Bytes;
-use process_packet::Underlay;
+use process_packet::{Arrival, Underlay};
 use std::alloc::AllocError;
 
 /// A datagram that arrived.
@@ -23,6 +25,20 @@ pub struct Came {
 }
 
 impl Came {
+    /// What arrived on the link of a number.
+    pub fn on(link: usize, arrival: Arrival) -> Came
+        ensures { arrival_in result ≡ arrived_in link arrival }
+    {
+        Came {
+            link,
+            number: arrival.number,
+            interface: arrival.link,
+            source: arrival.source,
+            now: arrival.now,
+            bytes: Bytes::new(arrival.bytes),
+        }
+    }
+
     pub fn copied(&self) -> Result<Came, AllocError>
         ensures { IfOk result (λ came. came ≡ self.entry.now) }
     {

@@ -1,6 +1,6 @@
 //! What the workers have in hand.
 
-ghost use Rattle.std.specs.Prelude.{◌≡◌, Some, false, MatchBool, MatchOption, IfOk, slice_set, slice_index_or, replicate};
+ghost use Rattle.std.specs.Prelude.{◌≡◌, Some, MatchOption, IfOk, slice_set, slice_index_or, replicate};
 ghost use Rattle.pipe_order.specs.Next.{is_free};
 ghost use Rattle.pipe_order.specs.World.{Empty};
 ghost use Rattle.pipe_model.specs.Items.{hand_in};
@@ -66,9 +66,12 @@ impl Hands {
 
     /// Whether nothing is in hand at a seat.
     pub fn is_free(&self, seat: usize) -> bool
-        ensures { MatchBool result (slice_index_or self.now seat Empty ≡ Empty) (is_free (slice_index_or self.now seat Empty) ≡ false) }
+        ensures { result ≡ is_free (slice_index_or self.now seat Empty) }
     {
-        self.get(seat).is_none()
+        match self.get(seat) {
+            None => true,
+            Some(Hand::Got(_) | Hand::Owes(_)) => false,
+        }
     }
 
     /// Fills or empties the hand at a seat; where there is none, nothing changes.

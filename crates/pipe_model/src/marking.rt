@@ -41,7 +41,10 @@ impl State {
         ensures { result ≡ is_over (rules config.now) self.now (worker_of worker) }
     {
         match worker {
-            Actor::Receiver(link) => self.pipes.first(usize::from(link)).is_none(),
+            Actor::Receiver(link) => match self.pipes.first(link) {
+                None => true,
+                Some(_) => false,
+            },
             Actor::Processor(_) => self.pipes.ends_taken(worker.seat(config)) == link_count(config),
             Actor::Slow => self.pipes.ends_taken(worker.seat(config)) == usize::from(config.processors),
             Actor::Forwarder(_) => false,

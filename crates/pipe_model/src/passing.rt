@@ -90,8 +90,12 @@ impl State {
         }
         let place = channel.place(config);
         let seat = channel.consumer().seat(config);
-        if self.pipes.is_shut(place) || !self.hands.is_free(seat) {
+        if self.pipes.is_shut(place) {
             return Err(StepFault::NotNow);
+        }
+        match self.hands.get(seat) {
+            None => {}
+            Some(Hand::Got(_) | Hand::Owes(_)) => return Err(StepFault::NotNow),
         }
         let Some(first) = self.pipes.first(place) else {
             return Err(StepFault::NotNow);

@@ -1,15 +1,18 @@
 //! One pipe, kept as the list of all that was ever pushed.
 
-ghost use Rattle.std.specs.Prelude.{◌≡◌, Some, None, MatchOption, is_ok, IsSome, if◌then◌else◌};
+ghost use Rattle.std.specs.Prelude.{◌≡◌, Some, None, MatchOption, IfOk, is_ok, IsSome, if◌then◌else◌};
 ghost use Rattle.pipe_order.specs.Item.{ends};
 ghost use Rattle.pipe_order.specs.Pipe.{empty_pipe, front, gone, has_end_of, has_room, is_marked, is_shut, one_taken, pushed, refusal_of, refused};
 ghost use Rattle.pipe_model.specs.Actor.{worker_of};
+ghost use Rattle.pipe_model.specs.Arrivals.{source};
 ghost use Rattle.pipe_model.specs.Items.{item_in};
 
 use crate::actor::Actor;
+use crate::came::Came;
 use crate::entry::Entry;
 use crate::item::Item;
 use crate::refusal::Refusal;
+use process_packet::{Arrival, NoMemory};
 use std::alloc::{AllocError, Global};
 use std::marker::Model;
 
@@ -56,6 +59,24 @@ impl Pipe {
             shut: false,
             ends: 0,
         }
+    }
+
+    /// What arrives on a link, with nothing of it received.
+    pub fn of_arrivals(
+        alloc: Global,
+        link: usize,
+        arrivals: Vec<Arrival>,
+    ) -> Result<Pipe, NoMemory>
+        ensures { IfOk result (λ pipe. pipe ≡ source link arrivals.items) }
+    {
+        let mut pipe = Pipe::new(alloc, 0);
+        for arrival in arrivals {
+            let item = Item::Arrived(Came::on(link, arrival));
+            if pipe.push(Actor::Receiver(link), item).is_err() {
+                return Err(NoMemory);
+            }
+        }
+        Ok(pipe)
     }
 
     /// Whether one more item may be pushed.

@@ -22,8 +22,12 @@ impl State {
         ensures err { OnErr result (self.new ≡ self.old) }
     {
         let seat = usize::from(link);
-        if seat >= link_count(config) || !self.hands.is_free(seat) {
+        if seat >= link_count(config) {
             return Err(StepFault::NotNow);
+        }
+        match self.hands.get(seat) {
+            None => {}
+            Some(Hand::Got(_) | Hand::Owes(_)) => return Err(StepFault::NotNow),
         }
         let Some(first) = self.pipes.first(seat) else {
             return Err(StepFault::NotNow);

@@ -26,10 +26,11 @@ impl State {
             return Err(StepFault::NotNow);
         }
         let seat = Actor::Forwarder(link).seat(config);
-        if !self.hands.is_free(seat) {
-            return Err(StepFault::NotNow);
+        match self.hands.get(seat) {
+            None => {}
+            Some(Hand::Got(_) | Hand::Owes(_)) => return Err(StepFault::NotNow),
         }
-        if self.pipes.first(high.place(config)).is_some() {
+        if let Some(_) = self.pipes.first(high.place(config)) {
             return Err(StepFault::NotNow);
         }
         self.looks.set(usize::from(link), true);
@@ -73,8 +74,12 @@ impl State {
         }
         let place = channel.place(config);
         let seat = channel.consumer().seat(config);
-        if !self.pipes.is_shut(place) || !self.hands.is_free(seat) {
+        if !self.pipes.is_shut(place) {
             return Err(StepFault::NotNow);
+        }
+        match self.hands.get(seat) {
+            None => {}
+            Some(Hand::Got(_) | Hand::Owes(_)) => return Err(StepFault::NotNow),
         }
         let Some(first) = self.pipes.first(place) else {
             return Err(StepFault::NotNow);

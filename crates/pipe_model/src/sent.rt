@@ -74,11 +74,13 @@ impl Outbox {
         };
         let before = self.ways.len();
         self.ways.push(way)?;
-        if self.entries.push((outgoing, out.parcel.bytes)).is_err() {
-            self.ways.truncate(before);
-            return Err(AllocError);
+        match self.entries.push((outgoing, out.parcel.bytes)) {
+            Ok(()) => Ok(()),
+            Err(_) => {
+                self.ways.truncate(before);
+                Err(AllocError)
+            }
         }
-        Ok(())
     }
 }
 
