@@ -6,7 +6,7 @@ ghost use Rattle.pipe_order.specs.Pipe.{held};
 ghost use Rattle.pipe_order.specs.Totals.{packets_in_hand};
 ghost use Rattle.pipe_order.specs.World.{Empty};
 ghost use Rattle.pipe_model.specs.Items.{hand_in, item_in};
-ghost use Rattle.pipe_model.specs.Shown.{causes, is_number};
+ghost use Rattle.pipe_model.specs.Shown.{causes, is_number, totals_of};
 
 use crate::entry::Entry;
 use crate::fate::Fates;
@@ -17,6 +17,9 @@ use crate::naming::reason;
 use crate::outgoing::{Bytes, Outgoing};
 use crate::pipe::Pipe;
 use crate::sent::Sent;
+use crate::state::State;
+use process_packet::{Config, Totals};
+use router_rules::link_count;
 
 /// 1 with a packet in this hand, else 0.
 fn packets_in_hand(hand: &Hand) -> usize
@@ -79,7 +82,7 @@ pub fn in_pipes(pipes: &[Pipe]) -> u128
 }
 
 /// How many packets were taken of these pipes.
-pub fn taken_of(pipes: &[Pipe]) -> u128
+fn taken_of(pipes: &[Pipe]) -> u128
     ensures { result ≡ total (λ p. p.taken) pipes.now }
 {
     let mut packets = 0;
@@ -104,7 +107,7 @@ fn answers_among(entries: &[(Outgoing, Bytes)]) -> usize
 }
 
 /// How many packets were sent, answers left aside.
-pub fn packets_sent(sent: &Sent) -> u128
+fn packets_sent(sent: &Sent) -> u128
     ensures { result ≡ total (count (λ o. not o.answer)) sent.now }
 {
     let mut packets = 0;
@@ -115,7 +118,7 @@ pub fn packets_sent(sent: &Sent) -> u128
 }
 
 /// How many answers were sent.
-pub fn answers_sent(sent: &Sent) -> u128
+fn answers_sent(sent: &Sent) -> u128
     ensures { result ≡ total (count (λ o. o.answer)) sent.now }
 {
     let mut answers = 0;
@@ -137,7 +140,7 @@ fn dropped_for(fates: &Fates, number: u8) -> usize
 }
 
 /// How many were dropped for each cause, in the order of the causes' numbers.
-pub fn dropped(fates: &Fates) -> [u128; 18]
+fn dropped(fates: &Fates) -> [u128; 18]
     ensures { result ≡ map (λ n. count (λ f. is_number n f.cause) fates.now) causes }
 {
     [
@@ -160,4 +163,16 @@ pub fn dropped(fates: &Fates) -> [u128; 18]
         dropped_for(fates, 17) as u128,
         dropped_for(fates, 18) as u128,
     ]
+}
+
+/// How many packets were received, and what became of them.
+pub fn counts(config: &Config, state: &State) -> Totals
+    ensures { result ≡ totals_of (record { config = config.now; world = state.now }) }
+{
+    Totals {
+        received: taken_of(state.pipes.up_to(link_count(config))),
+        sent: packets_sent(&state.sent),
+        answered: answers_sent(&state.sent),
+        dropped: dropped(&state.fates),
+    }
 }

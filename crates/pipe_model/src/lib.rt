@@ -34,6 +34,8 @@ mod state;
 mod step;
 mod stepping;
 mod telling;
+#[cfg(test)]
+mod tests;
 mod world;
 
 pub use fault::StepFault;

@@ -3,7 +3,7 @@
 ghost use Rattle.std.specs.Prelude.{◌≡◌, ◌+◌, sum};
 ghost use Rattle.pipe_model.specs.Shown.{place_of, sent_by, totals_of, waiting_of};
 
-use crate::counting::{answers_sent, dropped, in_hands, in_pipes, packets_sent, taken_of};
+use crate::counting::{counts, in_hands, in_pipes};
 use crate::finding::find;
 use crate::outgoing::{Bytes, Outgoing};
 use crate::place::Place;
@@ -32,24 +32,13 @@ impl World {
         )
     }
 
-    fn counts(&self) -> Totals
-        ensures { result ≡ totals_of self.now }
-    {
-        Totals {
-            received: taken_of(self.state.pipes.up_to(link_count(&self.config))),
-            sent: packets_sent(&self.state.sent),
-            answered: answers_sent(&self.state.sent),
-            dropped: dropped(&self.state.fates),
-        }
-    }
-
     /// How many packets were received, and what became of them. They add up.
     pub fn totals(&self) -> Totals
         ensures counts { result ≡ totals_of self.now }
         ensures sum { result.received ≡ result.sent + result.answered + waiting_of self.now + sum result.dropped }
     {
         self.headline();
-        self.counts()
+        counts(&self.config, &self.state)
     }
 
     /// How many packets are under way: in a hand or in a pipe.

@@ -13,6 +13,7 @@ use process_packet::{Arrival, Config, NoMemory};
 use router_rules::rules_are_lawful;
 use std::alloc::Global;
 use std::marker::Model;
+use thiserror::Error;
 
 /// A pipeline: a configuration, and what some steps led to.
 #[derive(Drop)]
@@ -33,7 +34,8 @@ impl Model for World {
 }
 
 /// No memory was left for the step with this index. Those before it were made.
-#[derive(Clone, Copy, Debug, PartialEq, Eq)]
+#[derive(Clone, Copy, Debug, PartialEq, Eq, Error)]
+#[error("no memory for step {0}")]
 pub struct NoMemoryAt(pub usize);
 
 impl World {
