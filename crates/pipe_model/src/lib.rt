@@ -1,6 +1,8 @@
 //! The pipeline as a machine: every step is one act of one worker, and any list of steps may be made.
 #![tactic(auto)]
 
+#[cfg(test)]
+mod act_tests;
 mod actor;
 mod came;
 mod cause;

@@ -74,13 +74,11 @@ impl Outbox {
         };
         let before = self.ways.len();
         self.ways.push(way)?;
-        match self.entries.push((outgoing, out.parcel.bytes)) {
-            Ok(()) => Ok(()),
-            Err(_) => {
-                self.ways.truncate(before);
-                Err(AllocError)
-            }
+        if self.entries.push((outgoing, out.parcel.bytes)).is_err() {
+            self.ways.truncate(before);
+            return Err(AllocError);
         }
+        Ok(())
     }
 }
 
