@@ -1,0 +1,39 @@
+-- What holds of a pipeline after any list of steps: packets of a flow keep their order, each packet is at one place, each is
+-- counted once, a drop at a full pipe met it full, and nothing behind a closing mark is sent.
+use Rattle.std.specs.Prelude.{◌≡◌, ◌<◌, ◌+◌, ℕ, true}
+use Rattle.pipe_order.specs.ByRules.{IsByRules}
+use Rattle.pipe_order.specs.Close.{IsClosing}
+use Rattle.pipe_order.specs.Full.{IsFull}
+use Rattle.pipe_order.specs.Item.{Arrival}
+use Rattle.pipe_order.specs.Once.{IsOnce}
+use Rattle.pipe_order.specs.Order.{InOrder}
+use Rattle.pipe_order.specs.Place.{IsPlaced}
+use Rattle.pipe_order.specs.Rules.{Rules}
+use Rattle.pipe_order.specs.Sent.{IsSent}
+use Rattle.pipe_order.specs.Start.{HasArrival, Reached}
+use Rattle.pipe_order.specs.Totals.{answered_count, dropped_count, received_count, sent_count, waiting_count}
+use Rattle.pipe_order.specs.World.{World}
+use Rattle.process_packet.specs.declared.config.Config.{Config}
+use Rattle.router_rules.specs.Rules.{Arrives, kinds, rules}
+
+-- Some steps led to the world, from one in which nothing was received, and what arrives comes by the links that it is
+-- numbered on.
+pub record IsReached (c : Config) (w : World kinds) : Type 0 where
+  pub way : Reached (rules c) w
+  pub arrives : (x : Arrival kinds) → HasArrival way.start x → Arrives c x
+
+-- For each arriving link, flow and leaving link what the forwarder took for sending is a beginning of what the sequential
+-- router sends there, in order and byte for byte, less the packets counted as dropped; each packet is at one place.
+pub record IsHeadline (c : Config) (w : World kinds) : Type 0 where
+  pub order : InOrder (rules c) w
+  pub place : IsPlaced (rules c) w
+  pub once : IsOnce (rules c) w
+  pub totals : received_count (rules c) w ≡ sent_count w + answered_count w + waiting_count (rules c) w + dropped_count (λ c. true) w
+
+-- And by whatever steps the world was reached: every item and every cause comes from an arrival by the rules; a drop at a full
+-- pipe met it full; nothing behind a closing mark was taken for sending; what was sent is what was taken for sending.
+pub record IsWayGood (c : Config) (w : World kinds) (r : IsReached c w) : Type 0 where
+  pub made : IsByRules (rules c) r.way.start w
+  pub full : IsFull (rules c) r.way.start w
+  pub close : IsClosing (rules c) r.way.start w r.way.steps
+  pub sent : (l : ℕ) → l < (rules c).links → IsSent (rules c) r.way.start w r.way.steps l

@@ -1,0 +1,64 @@
+//! What leaves.
+
+use process_packet::Underlay;
+use std::alloc::AllocError;
+use std::marker::Model;
+
+/// A packet that left, or the answer to one, named by the packet's arriving link and its number there.
+#[derive(Clone, Copy, Debug, PartialEq, Eq)]
+pub struct Outgoing {
+    /// The interface by which the packet came; 0 is the internal network.
+    pub arrived: u16,
+    /// Its number among the datagrams of that link, from 1 on.
+    pub number: u64,
+    /// Whether this is the answer to it.
+    pub answer: bool,
+    /// To whom it leaves; absent on an external link.
+    pub to: Option<Underlay>,
+}
+
+/// The bytes of a datagram. Contracts see them as their list.
+#[derive(Debug, Drop)]
+pub struct Bytes {
+    items: Vec<u8>,
+}
+
+impl Model for Bytes {
+    ghost use Rattle.std.specs.Prelude.{List, ℕ};
+
+    ghost Value = { List ℕ };
+
+    ghost view = { λ b. b.items.items };
+}
+
+impl Bytes {
+    ghost use Rattle.std.specs.Prelude.{◌≡◌, IfOk};
+
+    /// These bytes, which are kept as they lie.
+    pub fn new(items: Vec<u8>) -> Bytes
+        ensures { result ≡ items.items }
+    {
+        Bytes { items }
+    }
+
+    pub fn as_slice(&self) -> &[u8]
+        ensures { result.now ≡ self.now }
+    {
+        self.items.as_slice()
+    }
+
+    /// A copy of the same bytes.
+    pub fn copied(&self) -> Result<Bytes, AllocError>
+        ensures { IfOk result (λ b. b ≡ self.now) }
+    {
+        let items = self.items.clone()?;
+        Ok(Bytes { items })
+    }
+
+    /// The same in memory of their own.
+    pub fn to_vec(&self) -> Result<Vec<u8>, AllocError>
+        ensures { IfOk result (λ v. v.items ≡ self.now) }
+    {
+        self.items.clone()
+    }
+}

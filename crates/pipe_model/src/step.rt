@@ -1,0 +1,56 @@
+//! Who works, which pipes there are, and what a worker does in one step.
+
+/// A worker of the pipeline. Links are named by their interface; 0 is the internal network.
+#[derive(Clone, Copy, Debug, PartialEq, Eq)]
+pub enum Worker {
+    /// It receives what arrives on a link.
+    Receiver(u16),
+    /// It decides; the first one is 0.
+    Processor(u8),
+    /// The slow path: it answers.
+    Slow,
+    /// It sends on a link.
+    Forwarder(u16),
+    /// It closes links, and ends the run.
+    Controller,
+}
+
+/// A pipe, named by its consumer. The forwarder of a link with two bands has a second one.
+#[derive(Clone, Copy, Debug, PartialEq, Eq)]
+pub enum Queue {
+    Of(Worker),
+    /// The high band of a link.
+    High(u16),
+}
+
+/// One act of one worker. One that the worker can't do now, or that names what isn't there, isn't
+/// possible.
+#[derive(Clone, Copy, Debug, PartialEq, Eq)]
+pub enum Step {
+    /// The receiver of a link takes its next datagram, and numbers it.
+    Receive(u16),
+    /// The receiver of a link finds no buffer for another one: the datagram in its hand is dropped.
+    NoBuffer(u16),
+    /// What the worker owes is pushed.
+    Offer(Worker),
+    /// What it owes meets a full pipe, and is dropped.
+    Refuse(Worker),
+    /// The consumer takes the front of its pipe.
+    Take(Queue),
+    /// The forwarder of a link with two bands sees its high pipe empty.
+    Look(u16),
+    /// A processor decides on the packet in its hand.
+    Route(u8),
+    /// The slow path answers the problem in its hand.
+    Answer,
+    /// A processor or the slow path has no memory for what it would make.
+    Lack(Worker),
+    /// The controller pushes a closing mark.
+    CloseMark(Queue),
+    /// A worker pushes its end mark.
+    EndMark(Worker, Queue),
+    /// The forwarder of a link hands what it holds to its sink, which takes it or fails.
+    Send(u16, bool),
+    /// The forwarder takes the front behind a closing mark, and drops it.
+    Sweep(Queue),
+}
