@@ -2,6 +2,8 @@
 //! pipeline's laws are stated over, and its links numbered in ascending order.
 #![tactic(auto)]
 
+mod laws;
 mod links;
 
-pub use links::link_count;
+pub use laws::{links_stand_in_order, only_ruled_causes, rules_are_lawful};
+pub use links::{has_two_bands, interface_at, link_count, link_index};

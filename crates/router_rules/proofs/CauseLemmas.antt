@@ -1,0 +1,115 @@
+-- Row after row: no packet is dropped for a cause of the pipeline's own.
+use Rattle.std.proofs.Common.{◌≡◌, ℕ, Bool, true, false, ◌&&◌, ◌==◌, if◌then◌else◌, List, [], ◌∷◌, Option, Some, None, refl}
+use Rattle.std.specs.List.{AllByRecursion}
+use Rattle.process_packet.specs.Decide.{decision_table, verdict, verdict_of}
+use Rattle.process_packet.specs.Network.{Network}
+use Rattle.process_packet.specs.Rows.{Verdict, Sent, Answered, Dropped, Turn, GoesOn, Ends, Row, cause_of, delivered, ends_where, expired, faulty, leave, sent_on, sent_out, switch, then_rows, to_service, wrong_mac, wrong_pair}
+use Rattle.process_packet.specs.Standing.{Standing, arrives, changed_over, packet}
+use Rattle.process_packet.specs.declared.cause.Cause.{Cause}
+use Rattle.process_packet.specs.declared.decision.Problem.{Problem}
+use Rattle.process_packet.specs.declared.underlay.Underlay.{Underlay}
+use Rattle.scion_packet.specs.Fault.{Fault, TooShort, WrongVersion, WrongPathType, WrongLength, WrongPath, PeeringSegment}
+use Rattle.scion_packet.specs.Header.{host_code}
+use Rattle.scion_packet.specs.Packet.{Packet}
+use Rattle.router_rules.specs.Laws.{is_ruled}
+
+abbrev has_ruled_cause : Verdict → Bool
+has_ruled_cause (Sent out to p) = true
+has_ruled_cause (Answered problem) = true
+has_ruled_cause (Dropped why) = is_ruled why
+
+pub record IsRuled (v : Verdict) : Type 0 where
+  pub is : has_ruled_cause v ≡ true
+
+abbrev AreRuled : Turn → Type 0
+AreRuled (GoesOn s) = Unit {0}
+AreRuled (Ends v) = IsRuled v
+
+record IsRuledTurn (t : Turn) : Type 0 where
+  is : AreRuled t
+
+abbrev IsRuledRow : Row → Type 0
+IsRuledRow r = (s : Standing) → IsRuledTurn (r s)
+
+all_ruled : (t : Turn) (rows : List Row) → IsRuledTurn t → AllByRecursion IsRuledRow rows → IsRuledTurn (then_rows t rows)
+all_ruled (Ends v) rows h all = h
+all_ruled (GoesOn s) [] h all = h
+all_ruled (GoesOn s) (r ∷ rows) h all = all_ruled (r s) rows (all.0 s) all.1
+
+verdict_ruled : (t : Turn) → IsRuledTurn t → IsRuled (verdict_of t)
+verdict_ruled (Ends v) h = h.is
+verdict_ruled (GoesOn s) h = record { is = refl }
+
+-- ---- rows
+
+sent : (out : ℕ) (to : Option Underlay) (p : Packet) → IsRuled (Sent out to p)
+sent out to p = record { is = refl }
+
+answered : (problem : Problem) → IsRuled (Answered problem)
+answered problem = record { is = refl }
+
+dropped : (why : Cause) → is_ruled why ≡ true → IsRuled (Dropped why)
+dropped why h = record { is = h }
+
+goes_on : (s : Standing) → IsRuledTurn (GoesOn s)
+goes_on s = record { is = tt }
+
+ends : (v : Verdict) → IsRuled v → IsRuledTurn (Ends v)
+ends v h = record { is = h }
+
+either : (b : Bool) (v w : Verdict) → IsRuled v → IsRuled w → IsRuled (if b then v else w)
+either true v w h k = h
+either false v w h k = k
+
+either_turn : (b : Bool) (t u : Turn) → IsRuledTurn t → IsRuledTurn u → IsRuledTurn (if b then t else u)
+either_turn true t u h k = h
+either_turn false t u h k = k
+
+test_ruled : (b : Bool) (v : Verdict) (s : Standing) → IsRuled v → IsRuledTurn (ends_where b v s)
+test_ruled true v s h = ends v h
+test_ruled false v s h = goes_on s
+
+fault_ruled : (f : Fault) → is_ruled (cause_of f) ≡ true
+fault_ruled TooShort = refl
+fault_ruled WrongVersion = refl
+fault_ruled WrongPathType = refl
+fault_ruled WrongLength = refl
+fault_ruled WrongPath = refl
+fault_ruled PeeringSegment = refl
+
+faulty_ruled : (f : Option Fault) (s : Standing) → IsRuledTurn (faulty f s)
+faulty_ruled None s = goes_on s
+faulty_ruled (Some f) s = ends _ (dropped (cause_of f) (fault_ruled f))
+
+service_ruled : (p : Packet) (at : Option Underlay) → IsRuled (to_service p at)
+service_ruled p None = answered _
+service_ruled p (Some at) = sent _ _ _
+
+delivered_ruled : (n : Network) (p : Packet) → IsRuled (delivered n p)
+delivered_ruled n p =
+    let host = p.header.destination in
+    either (host.kind == 0 && host_code host == 0) _ _ (sent _ _ _)
+    (either (host.kind == 0 && host_code host == 3) _ _ (sent _ _ _) (either (host.kind == 1 && host_code host == 0) _ _ (service_ruled p _) (answered _)))
+
+switch_ruled : (s : Standing) → IsRuledTurn (switch s)
+switch_ruled s =
+    either_turn _ _ _
+    (all_ruled (GoesOn (changed_over s)) (expired ∷ wrong_mac ∷ []) (goes_on _) ((λ t. test_ruled _ _ t (answered _)), ((λ t. test_ruled _ _ t (answered _)), tt)))
+    (goes_on s)
+
+wrong_pair_ruled : (s : Standing) → IsRuledTurn (wrong_pair s)
+wrong_pair_ruled s = test_ruled _ _ s (either _ _ _ (answered _) (answered _))
+
+on_ruled : (p : Packet) (at : Option Underlay) → IsRuled (sent_on p at)
+on_ruled p None = dropped _ refl
+on_ruled p (Some at) = sent _ _ _
+
+leave_ruled : (s : Standing) → IsRuledTurn (leave s)
+leave_ruled s = either_turn _ _ _ (ends _ (either _ _ _ (dropped _ refl) (sent _ _ _))) (ends _ (on_ruled (packet s) _))
+
+table_ruled : AllByRecursion IsRuledRow decision_table
+table_ruled = ((λ s. test_ruled _ _ s (dropped _ refl)), ((λ s. faulty_ruled _ s), ((λ s. faulty_ruled _ s), ((λ s. test_ruled _ _ s (answered _)), ((λ s. test_ruled _ _ s (answered _)), ((λ s. test_ruled _ _ s (answered _)), ((λ s. test_ruled _ _ s (dropped _ refl)), ((λ s. test_ruled _ _ s (answered _)), ((λ s. test_ruled _ _ s (answered _)), ((λ s. goes_on _), ((λ s. test_ruled _ _ s (answered _)), ((λ s. test_ruled _ _ s (answered _)), ((λ s. test_ruled _ _ s (delivered_ruled s.network (packet s))), (switch_ruled, ((λ s. test_ruled _ _ s (answered _)), (wrong_pair_ruled, ((λ s. test_ruled _ _ s (answered _)), (leave_ruled, tt))))))))))))))))))
+
+pub decision_ruled : (n : Network) (link : ℕ) (source : Underlay) (moment : ℕ) (bytes : List ℕ) → IsRuled (verdict n link source moment bytes)
+unfolding verdict
+decision_ruled n link source moment bytes = verdict_ruled _ (all_ruled (GoesOn (arrives n link source moment bytes)) decision_table (goes_on _) table_ruled)
