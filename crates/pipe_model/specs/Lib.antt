@@ -1,5 +1,12 @@
 pub mod Step
+pub mod Actor
+pub mod Items
+pub mod Causes
+pub mod Outcomes
+pub mod Kept
 pub mod Pipeline
 pub mod Arrivals
 pub mod Shown
+pub mod Sent
 pub mod Headline
+pub mod Finding

@@ -1,10 +1,47 @@
 //! The pipeline as a machine: every step is one act of one worker, and any list of steps may be made.
 #![tactic(auto)]
 
+#[cfg(test)]
+mod act_tests;
+mod actor;
+mod came;
+mod cause;
+mod counting;
+mod deciding;
+mod entry;
+mod fate;
+mod fault;
+mod finding;
+mod hands;
+mod item;
+mod looks;
+mod marking;
+mod named;
+mod naming;
+mod numbers;
+mod outcome;
 mod outgoing;
+mod packet;
+mod passing;
+mod pipe;
+mod pipes;
 mod place;
+mod receiving;
+mod refusal;
+mod rules;
+mod sending;
+mod sent;
+mod sources;
+mod state;
 mod step;
+mod stepping;
+mod telling;
+#[cfg(test)]
+mod tests;
+mod world;
 
+pub use fault::StepFault;
 pub use outgoing::{Bytes, Outgoing};
 pub use place::Place;
 pub use step::{Queue, Step, Worker};
+pub use world::{NoMemoryAt, World};

@@ -1,6 +1,7 @@
 //! What leaves.
 
 use process_packet::Underlay;
+use std::alloc::AllocError;
 use std::marker::Model;
 
 /// A packet that left, or the answer to one, named by the packet's arriving link and its number there.
@@ -44,5 +45,20 @@ impl Bytes {
         ensures { result.now ≡ self.now }
     {
         self.items.as_slice()
+    }
+
+    /// A copy of the same bytes.
+    pub fn copied(&self) -> Result<Bytes, AllocError>
+        ensures { IfOk result (λ b. b ≡ self.now) }
+    {
+        let items = self.items.clone()?;
+        Ok(Bytes { items })
+    }
+
+    /// The same in memory of their own.
+    pub fn to_vec(&self) -> Result<Vec<u8>, AllocError>
+        ensures { IfOk result (λ v. v.items ≡ self.now) }
+    {
+        self.items.clone()
     }
 }

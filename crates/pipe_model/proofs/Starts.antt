@@ -1,0 +1,93 @@
+-- A pipeline before its first step.
+use Rattle.std.proofs.Common.{◌≡◌, ℕ, zero, suc, ◌+◌, ◌*◌, ◌<◌, List, [], ◌∷◌, ◌++◌, map, replicate, length, get_or, refl, sym, subst, ap, ◌∙◌, arith}
+use Rattle.std.specs.List.{Contains}
+use Rattle.std.specs.declared.alloc.Global.{Global}
+use Rattle.std.specs.declared.vec.Vec.{Vec}
+use Rattle.pipe_order.specs.Item.{Arrival, Arrived, Item}
+use Rattle.pipe_order.specs.Pipe.{Pipe, empty_pipe, items}
+use Rattle.pipe_order.specs.Start.{AreSources, HasArrival, Numbered, first_world}
+use Rattle.pipe_order.specs.World.{World}
+use Rattle.pipe_order.proofs.Begins.{begins}
+use Rattle.process_packet.specs.declared.arrival.Arrival.{Arrival as Came}
+use Rattle.process_packet.specs.declared.config.Config.{Config}
+use Rattle.router_rules.specs.Links.{link_count, link_index}
+use Rattle.router_rules.specs.Rules.{Arrives, kinds, rules}
+use Rattle.pipe_model.specs.Arrivals.{AreArrivals, AreFrom, AreNumbered, arrived_in, source, source_entry, sources_from}
+use Rattle.pipe_model.specs.Headline.{IsReached}
+
+abbrev Lists : Type 0
+Lists = List (Vec Came Global)
+
+pub length-sources_from : (a : ℕ) (ls : Lists) → length (sources_from a ls) ≡ length ls
+length-sources_from a [] = refl
+length-sources_from a (xs ∷ ls) = ap suc (length-sources_from (a + 1) ls)
+
+-- one source more
+pub sources_from_more : (a : ℕ) (ls : Lists) (xs : Vec Came Global) → sources_from a (ls ++ xs ∷ []) ≡ sources_from a ls ++ source (a + length ls) xs.items ∷ []
+sources_from_more a [] xs = let e : a ≡ a + 0 = omega arith in ap (λ (k : ℕ). source k xs.items ∷ []) e
+sources_from_more a (ys ∷ ls) xs =
+    let e : (a + 1) + length ls ≡ a + length (ys ∷ ls) = omega arith in
+    ap (λ (ps : List (Pipe kinds)). source a ys.items ∷ ps) (sources_from_more (a + 1) ls xs ∙ ap (λ (k : ℕ). sources_from (a + 1) ls ++ source k xs.items ∷ []) e)
+
+numbered : (c : Config) (a n : ℕ) (xs : List Came) → AreNumbered c a n xs → Numbered a n (items (map (source_entry a) xs))
+numbered c a n [] h = tt
+numbered c a n (x ∷ xs) h = (refl, h.1, numbered c a (n + 1) xs h.2)
+
+pub are_sources : (c : Config) (a : ℕ) (ls : Lists) → AreFrom c a ls → AreSources a (sources_from a ls)
+are_sources c a [] h = tt
+are_sources c a (xs ∷ ls) h = ((refl, refl, numbered c a 1 xs.items h.0), are_sources c (a + 1) ls h.1)
+
+-- what stands in a source came by its link
+abbrev CameBy : Config → ℕ → Arrival kinds → Type 0
+CameBy c a x = (link_index c x.datagram.interface ≡ a) × (x.link ≡ a)
+
+abbrev at_or : List (Item kinds) → ℕ → Item kinds → Item kinds
+at_or = get_or
+
+came_at : (c : Config) (a n : ℕ) (xs : List Came) → AreNumbered c a n xs → (k : ℕ) → k < length (items (map (source_entry a) xs)) → (x : Arrival kinds) → get_or (items (map (source_entry a) xs)) k (Arrived x) ≡ Arrived x → CameBy c a x
+came_at c a n [] h k i x e = absurd (omega arith)
+came_at c a n (y ∷ ys) h zero i x e =
+    let f : arrived_in a y ≡ x = cc in
+    let P : Arrival kinds → Type 0 = CameBy c a in
+    subst P f (h.0, refl)
+came_at c a n (y ∷ ys) h (suc k) i x e = came_at c a (n + 1) ys h.2 k (omega arith) x e
+
+abbrev history_at : List (Pipe kinds) → ℕ → List (Item kinds)
+history_at ps j = items (get_or ps j (empty_pipe 0)).history
+
+none_in : (m capacity j : ℕ) → history_at (replicate m (empty_pipe capacity)) j ≡ []
+none_in zero capacity j = refl
+none_in (suc m) capacity zero = refl
+none_in (suc m) capacity (suc j) = none_in m capacity j
+
+none_there : (xs : List (Item kinds)) (x : Item kinds) → xs ≡ [] → Contains xs x → ⊥
+none_there xs x e h = let f : length xs ≡ 0 = ap length e in omega (arith, h.1)
+
+came_from : (c : Config) (a : ℕ) (ls : Lists) (m capacity : ℕ) → AreFrom c a ls → (j : ℕ) (x : Arrival kinds) → Contains (history_at (sources_from a ls ++ replicate m (empty_pipe capacity)) j) (Arrived x) → CameBy c (a + j) x × (j < length ls)
+came_from c a [] m capacity h j x there = absurd (none_there _ (Arrived x) (none_in m capacity j) there)
+came_from c a (xs ∷ ls) m capacity h zero x there =
+    let e : a ≡ a + 0 = omega arith in
+    let P : ℕ → Type 0 = λ k. CameBy c k x in
+    (subst P e (came_at c a 1 xs.items h.0 there.0 there.1 x there.2), omega arith)
+came_from c a (xs ∷ ls) m capacity h (suc j) x there =
+    let e : (a + 1) + j ≡ a + suc j = omega arith in
+    let P : ℕ → Type 0 = λ k. CameBy c k x in
+    let r = came_from c (a + 1) ls m capacity h.1 j x there in
+    (subst P e r.0, omega (arith, r.1))
+
+arrives : (c : Config) (ls : Lists) → AreArrivals c ls → (x : Arrival kinds) → HasArrival (first_world (rules c) c.capacity (sources_from 0 ls)) x → Arrives c x
+arrives c ls h x there =
+    let r = came_from c 0 ls ((rules c).processors + 1 + 2 * (rules c).links) c.capacity h.1 x.link x there in
+    let e : 0 + x.link ≡ x.link = omega arith in
+    (r.0.0 ∙ e, omega (arith, r.1, h.0))
+
+pub begun_is_reached : (c : Config) (ls : Lists) → AreArrivals c ls → IsReached c (first_world (rules c) c.capacity (sources_from 0 ls))
+begun_is_reached c ls h = record {
+  way = record {
+    start = first_world (rules c) c.capacity (sources_from 0 ls);
+    steps = [];
+    is_start = begins kinds (rules c) c.capacity (sources_from 0 ls) (length-sources_from 0 ls ∙ h.0) (are_sources c 0 ls h.1);
+    by_steps = refl;
+  };
+  arrives = arrives c ls h;
+}

@@ -1,0 +1,10 @@
+use Rattle.std.proofs.Common.{◌≡◌, ◌∙◌, ap}
+use Rattle.pipe_order.specs.Counts.{count}
+use Rattle.pipe_order.specs.Pipe.{Entry}
+use Rattle.pipe_order.specs.Totals.{is_packet}
+use Rattle.router_rules.specs.Rules.{kinds}
+use Rattle.pipe_model.proofs.Sums.{held_count}
+use Rattle.pipe_model.proofs.counting.held_packets.Goals as goal
+
+pub returns : goal.returns
+returns c = c.packets.ensures ∙ (ap (count (λ (e : Entry kinds). is_packet e.item)) c.held.ensures ∙ held_count c.args.pipe.now)

@@ -1,0 +1,14 @@
+use Rattle.std.proofs.Common.{◌≡◌, List, sym, ap, ◌∙◌, subst}
+use Rattle.pipe_order.specs.Pipe.{Pipe}
+use Rattle.pipe_order.specs.Start.{first_world}
+use Rattle.pipe_order.specs.World.{World}
+use Rattle.router_rules.specs.Rules.{kinds, rules}
+use Rattle.pipe_model.specs.Headline.{IsReached}
+use Rattle.pipe_model.proofs.Starts.{begun_is_reached}
+use Rattle.pipe_model.proofs.world.World.new.Goals as goal
+
+pub invariant_of-result : goal.invariant_of-result
+invariant_of-result c =
+    let config = c.args.config in
+    let world = ap (λ (ps : List (Pipe kinds)). first_world (rules config) config.capacity ps) c.in_ok-sources.ensures in
+    subst (IsReached config) (sym (c.in-Ok.ensures ∙ world)) (begun_is_reached config c.args.arrivals.items c.requires)

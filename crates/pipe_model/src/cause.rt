@@ -1,0 +1,24 @@
+//! Why a packet, or the answer to it, ended without being sent.
+
+use process_packet::Cause as Reason;
+
+/// Why a packet, or the answer to it, ended without being sent.
+#[derive(Clone, Copy, Debug, PartialEq, Eq)]
+pub enum Cause {
+    /// The router's rules dropped it, or withheld the answer.
+    Ruled(Reason),
+    /// The pipe of its processor was full.
+    ProcessorFull,
+    /// The pipe of its leaving link was full.
+    LinkFull,
+    /// The pipe of the slow path was full.
+    AnswerFull,
+    /// Memory ran out.
+    NoMemory,
+    /// Its leaving link was closed.
+    Closed,
+    /// The device of its leaving link failed.
+    SendFailed,
+    /// Its arriving link had no free buffer.
+    NoBuffer,
+}

@@ -1,0 +1,90 @@
+//! What processors and the slow path make of packets.
+
+ghost use Rattle.std.specs.Prelude.{◌≡◌, ◌↔◌, Some, None, OnOk, OnErr, IsErrOf};
+ghost use Rattle.pipe_order.specs.Next.{next};
+ghost use Rattle.pipe_order.specs.Step.{Step};
+ghost use Rattle.router_rules.specs.Rules.{rules};
+ghost use Rattle.pipe_model.specs.Actor.{worker_of};
+
+use crate::actor::Actor;
+use crate::cause::Cause;
+use crate::fault::StepFault;
+use crate::item::{Hand, Item};
+use crate::outcome::Outcome;
+use crate::rules::{decide, reply};
+use crate::state::State;
+use process_packet::Config;
+use std::alloc::Global;
+
+impl State {
+    /// A processor decides on the packet in its hand.
+    pub(crate) fn route(&mut self, config: &Config, processor: u8) -> Result<(), StepFault>
+        ensures ok { OnOk result (next (rules config.now) self.old (Step.Route processor) ≡ Some self.new) }
+        ensures not_now { IsErrOf result StepFault.NotNow ↔ (next (rules config.now) self.old (Step.Route processor) ≡ None) }
+        ensures err { OnErr result (self.new ≡ self.old) }
+    {
+        if processor >= config.processors {
+            return Err(StepFault::NotNow);
+        }
+        let seat = Actor::Processor(processor).seat(config);
+        let Some(Hand::Got(item)) = self.hands.get(seat) else {
+            return Err(StepFault::NotNow);
+        };
+        let Item::Packet(packet) = item else {
+            return Err(StepFault::NotNow);
+        };
+        match decide(config, packet)? {
+            Outcome::Makes(made) => self.hands.set(seat, Some(Hand::Owes(made))),
+            Outcome::Ends(cause) => {
+                self.fates.note(item, cause)?;
+                self.hands.set(seat, None);
+            }
+        }
+        Ok(())
+    }
+
+    /// The slow path answers the problem in its hand.
+    pub(crate) fn answer(&mut self, alloc: Global, config: &Config) -> Result<(), StepFault>
+        ensures ok { OnOk result (next (rules config.now) self.old (Step.Answer) ≡ Some self.new) }
+        ensures not_now { IsErrOf result StepFault.NotNow ↔ (next (rules config.now) self.old (Step.Answer) ≡ None) }
+        ensures err { OnErr result (self.new ≡ self.old) }
+    {
+        let seat = Actor::Slow.seat(config);
+        let Some(Hand::Got(item)) = self.hands.get(seat) else {
+            return Err(StepFault::NotNow);
+        };
+        let Item::Asked(asked) = item else {
+            return Err(StepFault::NotNow);
+        };
+        match reply(alloc, config, asked)? {
+            Outcome::Makes(made) => self.hands.set(seat, Some(Hand::Owes(made))),
+            Outcome::Ends(cause) => {
+                self.fates.note(item, cause)?;
+                self.hands.set(seat, None);
+            }
+        }
+        Ok(())
+    }
+
+    /// A processor or the slow path has no memory for what it would make.
+    pub(crate) fn lack(&mut self, config: &Config, worker: Actor) -> Result<(), StepFault>
+        ensures ok { OnOk result (next (rules config.now) self.old (Step.Lack (worker_of worker)) ≡ Some self.new) }
+        ensures not_now { IsErrOf result StepFault.NotNow ↔ (next (rules config.now) self.old (Step.Lack (worker_of worker)) ≡ None) }
+        ensures err { OnErr result (self.new ≡ self.old) }
+    {
+        if !worker.is_there(config) {
+            return Err(StepFault::NotNow);
+        }
+        let seat = worker.seat(config);
+        let Some(Hand::Got(item)) = self.hands.get(seat) else {
+            return Err(StepFault::NotNow);
+        };
+        match (worker, item) {
+            (Actor::Processor(_), Item::Packet(_)) | (Actor::Slow, Item::Asked(_)) => {}
+            _ => return Err(StepFault::NotNow),
+        }
+        self.fates.note(item, Cause::NoMemory)?;
+        self.hands.set(seat, None);
+        Ok(())
+    }
+}

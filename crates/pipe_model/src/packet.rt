@@ -1,0 +1,50 @@
+//! A packet for a processor, and one for the slow path.
+
+ghost use Rattle.std.specs.Prelude.{◌≡◌, None};
+ghost use Rattle.scion_packet.specs.Header.{header_fault};
+ghost use Rattle.scion_packet.specs.Packet.{first_fault};
+
+use crate::came::Came;
+use process_packet::Problem;
+use std::alloc::AllocError;
+
+/// A datagram whose header has no fault.
+#[derive(Debug, Drop)]
+pub struct Packet {
+    pub came: Came,
+    pub ghost header_is_sound: { header_fault came.bytes ≡ None },
+}
+
+/// A packet without a fault, and what its sender is to be told.
+#[derive(Debug, Drop)]
+pub struct Asked {
+    pub came: Came,
+    pub problem: Problem,
+    pub ghost packet_is_sound: { first_fault came.bytes ≡ None },
+}
+
+impl Packet {
+    ghost use Rattle.std.specs.Prelude.{IfOk};
+
+    pub fn copied(&self) -> Result<Packet, AllocError>
+        ensures { IfOk result (λ packet. packet.came ≡ self.now.came) }
+    {
+        let came = self.came.copied()?;
+        Ok(Packet { came })
+    }
+}
+
+impl Asked {
+    ghost use Rattle.std.specs.Prelude.{IfOk};
+
+    pub fn copied(&self) -> Result<Asked, AllocError>
+        ensures came { IfOk result (λ asked. asked.came ≡ self.now.came) }
+        ensures problem { IfOk result (λ asked. asked.problem ≡ self.now.problem) }
+    {
+        let came = self.came.copied()?;
+        Ok(Asked {
+            came,
+            problem: self.problem,
+        })
+    }
+}

@@ -1,0 +1,109 @@
+//! What passes through pipes.
+
+ghost use Rattle.std.specs.Prelude.{◌≡◌, ◌↔◌, Some, None, OnOk, OnErr, IsErrOf};
+ghost use Rattle.pipe_order.specs.Next.{may_take, next};
+ghost use Rattle.pipe_order.specs.Step.{Step};
+ghost use Rattle.router_rules.specs.Rules.{rules};
+ghost use Rattle.pipe_model.specs.Actor.{queue_of, worker_of};
+
+use crate::actor::{Actor, Channel};
+use crate::fault::StepFault;
+use crate::item::Hand;
+use crate::rules::home;
+use crate::state::State;
+use process_packet::Config;
+use router_rules::has_two_bands;
+
+impl State {
+    /// What a worker owes is pushed.
+    pub(crate) fn offer(&mut self, config: &Config, worker: Actor) -> Result<(), StepFault>
+        ensures ok { OnOk result (next (rules config.now) self.old (Step.Offer (worker_of worker)) ≡ Some self.new) }
+        ensures not_now { IsErrOf result StepFault.NotNow ↔ (next (rules config.now) self.old (Step.Offer (worker_of worker)) ≡ None) }
+        ensures err { OnErr result (self.new ≡ self.old) }
+    {
+        if !worker.is_there(config) {
+            return Err(StepFault::NotNow);
+        }
+        let seat = worker.seat(config);
+        let Some(Hand::Owes(item)) = self.hands.get(seat) else {
+            return Err(StepFault::NotNow);
+        };
+        let home = home(config, item);
+        if !self.pipes.has_room(home) {
+            return Err(StepFault::NotNow);
+        }
+        let copy = item.copied()?;
+        self.pipes.push(home, worker, copy)?;
+        self.hands.set(seat, None);
+        Ok(())
+    }
+
+    /// What a worker owes meets a full pipe, and is dropped.
+    pub(crate) fn refuse(&mut self, config: &Config, worker: Actor) -> Result<(), StepFault>
+        ensures ok { OnOk result (next (rules config.now) self.old (Step.Refuse (worker_of worker)) ≡ Some self.new) }
+        ensures not_now { IsErrOf result StepFault.NotNow ↔ (next (rules config.now) self.old (Step.Refuse (worker_of worker)) ≡ None) }
+        ensures err { OnErr result (self.new ≡ self.old) }
+    {
+        if !worker.is_there(config) {
+            return Err(StepFault::NotNow);
+        }
+        let seat = worker.seat(config);
+        let Some(Hand::Owes(item)) = self.hands.get(seat) else {
+            return Err(StepFault::NotNow);
+        };
+        let home = home(config, item);
+        if self.pipes.has_room(home) {
+            return Err(StepFault::NotNow);
+        }
+        let fates = self.fates.len();
+        self.fates.note(item, item.full())?;
+        if self.pipes.refuse(home, item).is_err() {
+            self.fates.truncate(fates);
+            return Err(StepFault::NoMemory);
+        }
+        self.hands.set(seat, None);
+        Ok(())
+    }
+
+    /// Whether the lower pipe of a link with two bands may be taken from: its high pipe was seen empty. Any
+    /// other pipe may.
+    pub(crate) fn may_take(&self, config: &Config, channel: Channel) -> bool
+        ensures { result ≡ may_take (rules config.now) self.now (queue_of channel) }
+    {
+        match channel {
+            Channel::Of(Actor::Forwarder(link)) => {
+                let link = usize::from(link);
+                !has_two_bands(config, link) || self.looks.get(link)
+            }
+            _ => true,
+        }
+    }
+
+    /// The consumer of a pipe takes its front, to work on it or to send it.
+    pub(crate) fn take(&mut self, config: &Config, channel: Channel) -> Result<(), StepFault>
+        ensures ok { OnOk result (next (rules config.now) self.old (Step.Take (queue_of channel)) ≡ Some self.new) }
+        ensures not_now { IsErrOf result StepFault.NotNow ↔ (next (rules config.now) self.old (Step.Take (queue_of channel)) ≡ None) }
+        ensures err { OnErr result (self.new ≡ self.old) }
+    {
+        if !channel.is_there(config) || !self.may_take(config, channel) {
+            return Err(StepFault::NotNow);
+        }
+        let place = channel.place(config);
+        let seat = channel.consumer().seat(config);
+        if self.pipes.is_shut(place) {
+            return Err(StepFault::NotNow);
+        }
+        match self.hands.get(seat) {
+            None => {}
+            Some(Hand::Got(_) | Hand::Owes(_)) => return Err(StepFault::NotNow),
+        }
+        let Some(first) = self.pipes.first(place) else {
+            return Err(StepFault::NotNow);
+        };
+        let item = first.copied()?;
+        self.looks.use_up(channel);
+        self.pipes.advance(place);
+        self.hands.set(seat, item.in_hand());
+        Ok(())
+    }
+}

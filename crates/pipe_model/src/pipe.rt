@@ -1,0 +1,194 @@
+//! One pipe, kept as the list of all that was ever pushed.
+
+ghost use Rattle.std.specs.Prelude.{◌≡◌, Some, None, MatchOption, IfOk, is_ok, IsSome, if◌then◌else◌};
+ghost use Rattle.pipe_order.specs.Item.{ends};
+ghost use Rattle.pipe_order.specs.Pipe.{empty_pipe, front, gone, has_end_of, has_room, is_marked, is_shut, one_taken, pushed, refusal_of, refused};
+ghost use Rattle.pipe_model.specs.Actor.{worker_of};
+ghost use Rattle.pipe_model.specs.Arrivals.{source};
+ghost use Rattle.pipe_model.specs.Items.{item_in};
+
+use crate::actor::Actor;
+use crate::came::Came;
+use crate::entry::Entry;
+use crate::item::Item;
+use crate::refusal::Refusal;
+use process_packet::{Arrival, NoMemory};
+use std::alloc::{AllocError, Global};
+use std::marker::Model;
+
+/// A pipe. Besides all that was pushed it keeps what its questions would look for there.
+#[derive(Debug, Drop)]
+pub struct Pipe {
+    history: Vec<Entry>,
+    taken: usize,
+    capacity: usize,
+    refusals: Vec<Refusal>,
+    /// A closing mark was pushed.
+    marked: bool,
+    /// A closing mark was taken.
+    shut: bool,
+    /// How many end marks were taken.
+    ends: usize,
+}
+
+impl Model for Pipe {
+    ghost use Rattle.pipe_order.specs.Pipe.{Pipe};
+    ghost use Rattle.router_rules.specs.Rules.{kinds};
+
+    ghost Value = { Pipe kinds };
+
+    ghost use Rattle.std.specs.Prelude.{◌≡◌, ◌≤◌, length, take};
+    ghost use Rattle.pipe_model.specs.Kept.{history_of, IsKept};
+
+    ghost view = { history_of };
+
+    ghost invariant = { IsKept };
+}
+
+impl Pipe {
+    /// A pipe with nothing in it.
+    pub fn new(alloc: Global, capacity: usize) -> Pipe
+        ensures { result ≡ empty_pipe capacity }
+    {
+        Pipe {
+            history: Vec::new(alloc),
+            taken: 0,
+            capacity,
+            refusals: Vec::new(alloc),
+            marked: false,
+            shut: false,
+            ends: 0,
+        }
+    }
+
+    /// What arrives on a link, with nothing of it received.
+    pub fn of_arrivals(
+        alloc: Global,
+        link: usize,
+        arrivals: Vec<Arrival>,
+    ) -> Result<Pipe, NoMemory>
+        ensures { IfOk result (λ pipe. pipe ≡ source link arrivals.items) }
+    {
+        let mut pipe = Pipe::new(alloc, 0);
+        for arrival in arrivals {
+            let item = Item::Arrived(Came::on(link, arrival));
+            if pipe.push(Actor::Receiver(link), item).is_err() {
+                return Err(NoMemory);
+            }
+        }
+        Ok(pipe)
+    }
+
+    /// Whether one more item may be pushed.
+    pub fn has_room(&self) -> bool
+        ensures { result ≡ has_room self.now }
+    {
+        self.history.len() - self.taken < self.capacity
+    }
+
+    /// Whether a closing mark was taken.
+    pub fn is_shut(&self) -> bool
+        ensures { result ≡ is_shut self.now }
+    {
+        self.shut
+    }
+
+    /// Whether a closing mark was pushed.
+    pub fn is_marked(&self) -> bool
+        ensures { result ≡ is_marked self.now }
+    {
+        self.marked
+    }
+
+    /// How many end marks were taken.
+    pub fn ends_taken(&self) -> usize
+        ensures { result ≡ ends (gone self.now) }
+    {
+        self.ends
+    }
+
+    /// What would be taken next.
+    pub fn first(&self) -> Option<&Item>
+        ensures { MatchOption result (front self.now ≡ None) (λ x. front self.now ≡ Some (item_in x.now)) }
+    {
+        match self.history.get(self.taken) {
+            None => None,
+            Some(entry) => Some(entry.item()),
+        }
+    }
+
+    /// Pushes an item.
+    pub fn push(&mut self, from: Actor, item: Item) -> Result<(), AllocError>
+        ensures { self.new ≡ (if is_ok result then pushed self.old (worker_of from) (item_in item) else self.old) }
+    {
+        let closes = item.is_close();
+        self.history.push(Entry::new(from, item))?;
+        self.marked |= closes;
+        Ok(())
+    }
+
+    /// Takes the first that is held.
+    pub fn advance(&mut self)
+        requires { IsSome (front self.old) }
+        ensures { self.new ≡ one_taken self.old }
+    {
+        let first = self.history[self.taken].item();
+        let closes = first.is_close();
+        let ends = first.is_end();
+        self.taken += 1;
+        self.shut |= closes;
+        if ends {
+            self.ends += 1;
+        }
+    }
+
+    /// What would be noted of an item that is refused now.
+    pub fn refusal(&self, item: &Item) -> Refusal
+        ensures { result ≡ refusal_of (item_in item.now) self.now }
+    {
+        let (link, number) = match item {
+            Item::Arrived(came) => (came.link, came.number),
+            Item::Packet(packet) => (packet.came.link, packet.came.number),
+            Item::Asked(asked) => (asked.came.link, asked.came.number),
+            Item::Out(out) => (out.arrived, out.number),
+            Item::Close | Item::End => (0, 0),
+        };
+        Refusal::new(link, number, self.history.len(), self.taken)
+    }
+
+    /// Notes that an item was refused.
+    pub fn refuse(&mut self, item: &Item) -> Result<(), AllocError>
+        ensures { self.new ≡ (if is_ok result then refused self.old (refusal_of (item_in item.now) self.old) else self.old) }
+    {
+        let refusal = self.refusal(item);
+        self.refusals.push(refusal)?;
+        Ok(())
+    }
+
+    /// Whether the worker has pushed its end mark.
+    pub fn has_end_of(&self, worker: Actor) -> bool
+        ensures { result ≡ has_end_of (worker_of worker) self.now }
+    {
+        self.history
+            .iter()
+            .any(|entry| entry.is_end_of(worker))
+    }
+}
+
+impl Pipe {
+    ghost use Rattle.std.specs.Prelude.{drop};
+
+    /// How many were taken.
+    pub fn taken(&self) -> usize
+        ensures { result ≡ self.now.taken }
+    {
+        self.taken
+    }
+
+    /// What was pushed and not yet taken.
+    pub fn held(&self) -> &[Entry]
+        ensures { result.now ≡ drop self.now.taken self.now.history }
+    {
+        &self.history[self.taken..]
+    }
+}

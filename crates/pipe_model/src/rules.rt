@@ -1,0 +1,150 @@
+//! What the pipeline asks of the router.
+
+ghost use Rattle.std.specs.Prelude.{◌≡◌, None, IfNone, IfOk, slice_index};
+ghost use Rattle.pipe_order.specs.Next as next;
+ghost use Rattle.pipe_order.specs.World.{home};
+ghost use Rattle.router_rules.specs.Rules.{inspected, is_urgent, rules};
+ghost use Rattle.scion_packet.specs.Header.{header_fault};
+ghost use Rattle.pipe_model.specs.Items.{arrival_in, item_in};
+ghost use Rattle.pipe_model.specs.Outcomes.{outcome_in};
+
+use crate::cause::Cause;
+use crate::item::{Item, Out, Parcel};
+use crate::numbers::{link_number, link_pipe, slow_seat};
+use crate::outcome::Outcome;
+use crate::outgoing::Bytes;
+use crate::packet::{Asked, Packet};
+use flow_key::{flow_of, processor_of};
+use process_packet::{Cause as Reason, Config, Decision, answers_are_sound, route_in_place};
+use router_rules::{has_two_bands, link_count};
+use scion_header::{HeaderFault, check_header};
+use scmp_answer::{AnswerLen, answer_into};
+use std::alloc::{AllocError, Global};
+
+/// The most bytes of a datagram that is carried, and of an answer.
+const LONGEST: usize = 9216;
+
+const LONGEST_ANSWER: usize = 1232;
+
+/// The fault for which a receiver drops a datagram, if it does: its length, or its header's.
+pub fn inspect(bytes: &[u8]) -> Option<Reason>
+    ensures fault { result ≡ inspected bytes.now }
+    ensures sound { IfNone result (header_fault bytes.now ≡ None) }
+{
+    if bytes.len() > LONGEST {
+        return Some(Reason::TooLong);
+    }
+    match check_header(bytes) {
+        Ok(_) => None,
+        Err(HeaderFault::Short) => Some(Reason::Short),
+        Err(HeaderFault::Version) => Some(Reason::Version),
+        Err(HeaderFault::PathType) => Some(Reason::PathType),
+        Err(HeaderFault::Header) => Some(Reason::Header),
+    }
+}
+
+/// The processor of a packet's flow.
+fn processor(config: &Config, packet: &Packet) -> usize
+    ensures { result ≡ (rules config.now).processor ((rules config.now).key (arrival_in packet.now.came)) }
+{
+    match flow_of(packet.came.bytes.as_slice(), false) {
+        Some(key) => processor_of(&key, config.seed, usize::from(config.processors)),
+        None => unreachable!(),
+    }
+}
+
+fn byte_at(bytes: &[u8], at: usize) -> u8
+    ensures { result ≡ slice_index bytes.now at }
+{
+    if at < bytes.len() { bytes[at] } else { 0 }
+}
+
+/// Whether the traffic class asks for expedited forwarding.
+fn is_urgent(bytes: &[u8]) -> bool
+    ensures { result ≡ is_urgent bytes.now }
+{
+    let first = u32::from_be_bytes([
+        byte_at(bytes, 0),
+        byte_at(bytes, 1),
+        byte_at(bytes, 2),
+        byte_at(bytes, 3),
+    ]);
+    (first >> 20 & 0xff) / 4 == 46
+}
+
+/// The place of the pipe that an item goes to: its flow's processor, the slow path, its leaving link in
+/// its band.
+pub fn home(config: &Config, item: &Item) -> usize
+    ensures { result ≡ home (rules config.now) (item_in item.now) }
+{
+    match item {
+        Item::Packet(packet) => link_count(config) + processor(config, packet),
+        Item::Out(out) => {
+            let high = has_two_bands(config, usize::from(out.link))
+                && is_urgent(out.parcel.bytes.as_slice());
+            link_pipe(config, high, out.link)
+        }
+        Item::Arrived(_) | Item::Asked(_) | Item::Close | Item::End => slow_seat(config),
+    }
+}
+
+/// What a processor makes of a packet.
+pub fn decide(config: &Config, packet: &Packet) -> Result<Outcome, AllocError>
+    ensures { IfOk result (λ made. outcome_in made ≡ next.decided (arrival_in packet.now.came) ((rules config.now).decide (arrival_in packet.now.came))) }
+{
+    let came = &packet.came;
+    let mut bytes = came.bytes.to_vec()?;
+    let slice = bytes.as_mut_slice();
+    match route_in_place(config, came.interface, came.source, came.now, slice) {
+        Decision::Send { link, to } => Ok(Outcome::Makes(Item::Out(Out {
+            arrived: came.link,
+            number: came.number,
+            answer: false,
+            link: link_number(config, link),
+            parcel: Parcel {
+                came_by: came.interface,
+                to,
+                bytes: Bytes::new(bytes),
+            },
+        }))),
+        Decision::Answer(problem) => {
+            answers_are_sound();
+            let came = came.copied()?;
+            Ok(Outcome::Makes(Item::Asked(Asked { came, problem })))
+        }
+        Decision::Drop(reason) => Ok(Outcome::Ends(Cause::Ruled(reason))),
+    }
+}
+
+/// What the slow path makes of a problem.
+pub fn reply(alloc: Global, config: &Config, asked: &Asked) -> Result<Outcome, AllocError>
+    ensures { IfOk result (λ made. outcome_in made ≡ next.replied (arrival_in asked.now.came) ((rules config.now).reply (arrival_in asked.now.came) asked.now.problem)) }
+{
+    let came = &asked.came;
+    let mut out = [0; LONGEST_ANSWER];
+    let bytes = came.bytes.as_slice();
+    match answer_into(
+        config,
+        came.interface,
+        came.source,
+        bytes,
+        &asked.problem,
+        &mut out,
+    ) {
+        AnswerLen::Send { link, to, len } => {
+            let bytes = Vec::from_slice(alloc, &out[..len])?;
+            Ok(Outcome::Makes(Item::Out(Out {
+                arrived: came.link,
+                number: came.number,
+                answer: true,
+                link: link_number(config, link),
+                parcel: Parcel {
+                    came_by: came.interface,
+                    to,
+                    bytes: Bytes::new(bytes),
+                },
+            })))
+        }
+        AnswerLen::Drop(reason) => Ok(Outcome::Ends(Cause::Ruled(reason))),
+    }
+}

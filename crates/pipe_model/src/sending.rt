@@ -1,0 +1,93 @@
+//! What a forwarder does besides taking.
+
+ghost use Rattle.std.specs.Prelude.{◌≡◌, ◌↔◌, Some, None, OnOk, OnErr, IsErrOf};
+ghost use Rattle.pipe_order.specs.Next.{next};
+ghost use Rattle.pipe_order.specs.Step.{Step};
+ghost use Rattle.router_rules.specs.Rules.{rules};
+ghost use Rattle.pipe_model.specs.Actor.{queue_of};
+
+use crate::actor::{Actor, Channel};
+use crate::cause::Cause;
+use crate::fault::StepFault;
+use crate::item::{Hand, Item};
+use crate::state::State;
+use process_packet::Config;
+use router_rules::link_count;
+
+impl State {
+    /// The forwarder of a link with two bands sees its high pipe empty.
+    pub(crate) fn look(&mut self, config: &Config, link: u16) -> Result<(), StepFault>
+        ensures ok { OnOk result (next (rules config.now) self.old (Step.Look link) ≡ Some self.new) }
+        ensures not_now { IsErrOf result StepFault.NotNow ↔ (next (rules config.now) self.old (Step.Look link) ≡ None) }
+        ensures err { OnErr result (self.new ≡ self.old) }
+    {
+        let high = Channel::High(link);
+        if !high.is_there(config) {
+            return Err(StepFault::NotNow);
+        }
+        let seat = Actor::Forwarder(link).seat(config);
+        match self.hands.get(seat) {
+            None => {}
+            Some(Hand::Got(_) | Hand::Owes(_)) => return Err(StepFault::NotNow),
+        }
+        if let Some(_) = self.pipes.first(high.place(config)) {
+            return Err(StepFault::NotNow);
+        }
+        self.looks.set(usize::from(link), true);
+        Ok(())
+    }
+
+    /// A forwarder hands what it holds to its device, which takes it or fails.
+    pub(crate) fn send(&mut self, config: &Config, link: u16, ok: bool) -> Result<(), StepFault>
+        ensures ok { OnOk result (next (rules config.now) self.old (Step.Send link ok) ≡ Some self.new) }
+        ensures not_now { IsErrOf result StepFault.NotNow ↔ (next (rules config.now) self.old (Step.Send link ok) ≡ None) }
+        ensures err { OnErr result (self.new ≡ self.old) }
+    {
+        if usize::from(link) >= link_count(config) {
+            return Err(StepFault::NotNow);
+        }
+        let seat = Actor::Forwarder(link).seat(config);
+        let Some(Hand::Got(item)) = self.hands.get(seat) else {
+            return Err(StepFault::NotNow);
+        };
+        let Item::Out(out) = item else {
+            return Err(StepFault::NotNow);
+        };
+        if ok {
+            let copy = out.copied()?;
+            self.sent.push(usize::from(link), copy)?;
+        } else {
+            self.fates.note(item, Cause::SendFailed)?;
+        }
+        self.hands.set(seat, None);
+        Ok(())
+    }
+
+    /// A forwarder takes the front behind a closing mark, and drops it.
+    pub(crate) fn sweep(&mut self, config: &Config, channel: Channel) -> Result<(), StepFault>
+        ensures ok { OnOk result (next (rules config.now) self.old (Step.Sweep (queue_of channel)) ≡ Some self.new) }
+        ensures not_now { IsErrOf result StepFault.NotNow ↔ (next (rules config.now) self.old (Step.Sweep (queue_of channel)) ≡ None) }
+        ensures err { OnErr result (self.new ≡ self.old) }
+    {
+        if !channel.is_there(config) || !channel.is_out() || !self.may_take(config, channel) {
+            return Err(StepFault::NotNow);
+        }
+        let place = channel.place(config);
+        let seat = channel.consumer().seat(config);
+        if !self.pipes.is_shut(place) {
+            return Err(StepFault::NotNow);
+        }
+        match self.hands.get(seat) {
+            None => {}
+            Some(Hand::Got(_) | Hand::Owes(_)) => return Err(StepFault::NotNow),
+        }
+        let Some(first) = self.pipes.first(place) else {
+            return Err(StepFault::NotNow);
+        };
+        self.fates.note(first, Cause::Closed)?;
+        self.looks.use_up(channel);
+        self.pipes.advance(place);
+        self.hands.set(seat, None);
+        Ok(())
+    }
+}

@@ -1,0 +1,114 @@
+//! The pipeline over any list of steps.
+
+ghost use Rattle.std.specs.Prelude.{◌≡◌, ◌≤◌, ◌↔◌, length, take, Some, None, OnOk, OnErr, IsErrOf, IfOk, IfErr};
+ghost use Rattle.pipe_model.specs.Arrivals.{AreArrivals, begun};
+ghost use Rattle.pipe_model.specs.Headline.{IsHeadline, IsReached, IsWayGood};
+ghost use Rattle.pipe_model.specs.Pipeline.{ran, skipped, stepped};
+
+use crate::fault::StepFault;
+use crate::sources::sources;
+use crate::state::State;
+use crate::step::Step;
+use process_packet::{Arrival, Config, NoMemory};
+use router_rules::rules_are_lawful;
+use std::alloc::Global;
+use std::marker::Model;
+use thiserror::Error;
+
+/// A pipeline: a configuration, and what some steps led to.
+#[derive(Drop)]
+pub struct World {
+    pub(crate) config: Config,
+    pub(crate) state: State,
+}
+
+impl Model for World {
+    ghost use Rattle.pipe_model.specs.Headline.{IsReached};
+    ghost use Rattle.pipe_model.specs.Pipeline.{Pipeline};
+
+    ghost Value = { Pipeline };
+
+    ghost view = { λ w. record { config = w.config; world = w.state } };
+
+    ghost invariant = { λ w. IsReached w.config w.state };
+}
+
+/// No memory was left for the step with this index. Those before it were made.
+#[derive(Clone, Copy, Debug, PartialEq, Eq, Error)]
+#[error("no memory for step {0}")]
+pub struct NoMemoryAt(pub usize);
+
+impl World {
+    /// The pipeline before its first step. What arrives stands in a list for each link, the internal
+    /// network first and then the others in ascending order of their interfaces; each list is numbered
+    /// from 1.
+    pub fn new(
+        alloc: Global,
+        config: Config,
+        arrivals: Vec<Vec<Arrival>>,
+    ) -> Result<World, NoMemory>
+        requires { AreArrivals config arrivals.items }
+        ensures { IfOk result (λ w. w ≡ begun config arrivals.items) }
+    {
+        let sources = sources(alloc, arrivals)?;
+        match State::new(alloc, &config, sources) {
+            Ok(state) => Ok(World { config, state }),
+            Err(_) => Err(NoMemory),
+        }
+    }
+
+    pub fn config(&self) -> &Config
+        ensures { result.now ≡ self.now.config }
+    {
+        &self.config
+    }
+
+    /// What holds of it by whatever steps it was reached.
+    pub fn headline(&self)
+        ensures headline { IsHeadline self.now.config self.now.world }
+        ensures reached { IsReached self.now.config self.now.world }
+        ensures way { (r : IsReached self.now.config self.now.world) → IsWayGood self.now.config self.now.world r }
+    {
+        let _ = &self.config;
+        rules_are_lawful();
+    }
+
+    /// Makes a step, if it is possible.
+    pub fn step(&mut self, alloc: Global, step: Step) -> Result<(), StepFault>
+        ensures ok { OnOk result (stepped self.old step ≡ Some self.new) }
+        ensures not_now { IsErrOf result StepFault.NotNow ↔ (stepped self.old step ≡ None) }
+        ensures err { OnErr result (self.new ≡ self.old) }
+    {
+        self.state.step(alloc, &self.config, step)?;
+        Ok(())
+    }
+
+    /// Makes the possible ones of some steps, and tells the indices of the others.
+    pub fn run(&mut self, alloc: Global, steps: &[Step]) -> Result<Vec<usize>, NoMemoryAt>
+        ensures ok { OnOk result (self.new ≡ ran self.old steps.now) }
+        ensures skipped { IfOk result (λ places. places.items ≡ skipped self.old steps.now) }
+        ensures err { IfErr result (λ e. (e.0 ≤ length steps.now) × (self.new ≡ ran self.old (take e.0 steps.now))) }
+        ensures headline { IsHeadline self.new.config self.new.world }
+        ensures reached { IsReached self.new.config self.new.world }
+        ensures way { (r : IsReached self.new.config self.new.world) → IsWayGood self.new.config self.new.world r }
+    {
+        let mut places = Vec::new(alloc);
+        for (i, step) in steps.iter().enumerate() {
+            match self.step(alloc, *step) {
+                Ok(()) => {}
+                Err(StepFault::NotNow) => {
+                    if places.push(i).is_err() {
+                        self.headline();
+                        return Err(NoMemoryAt(i));
+                    }
+                }
+                Err(StepFault::NoMemory) => {
+                    self.headline();
+                    return Err(NoMemoryAt(i));
+                }
+            }
+        }
+        self.headline();
+        Ok(places)
+    }
+}
