@@ -24,8 +24,8 @@ fn read_as(text: &str) -> Option<u64>
     ensures value { result ≡ as_of text.now }
     ensures fits { IfSome result (λ number. number < 2 ^ 48) }
 {
-    match read_number(text, u32::MAX) {
-        Some(number) => Some(number.into()),
+    match read_number(text, u32::MAX.into()) {
+        Some(number) => Some(number),
         None => read_groups(text),
     }
 }

@@ -10,7 +10,7 @@ mod fault;
 mod isd_as;
 mod lists;
 mod neighbours;
-mod pieces;
+pub mod pieces;
 mod shown;
 #[cfg(test)]
 mod tests;

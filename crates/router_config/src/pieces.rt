@@ -5,7 +5,7 @@ ghost use Rattle.router_config.specs.Pieces.{behind, cut, group_of, number_up_to
 use crate::decimal::read_decimal;
 
 /// The parts before and after the first such ASCII character.
-pub(crate) fn cut(text: &str, mark: char) -> Option<(&str, &str)>
+pub fn cut(text: &str, mark: char) -> Option<(&str, &str)>
     requires { mark < 128 }
     ensures { option_map (λ parts. (parts.0.now, parts.1.now)) result ≡ cut mark text.now }
 {
@@ -13,7 +13,7 @@ pub(crate) fn cut(text: &str, mark: char) -> Option<(&str, &str)>
 }
 
 /// What follows such an ASCII character where the text begins with it.
-pub(crate) fn behind(text: &str, mark: char) -> Option<&str>
+pub fn behind(text: &str, mark: char) -> Option<&str>
     requires { mark < 128 }
     ensures { option_map (λ rest. rest.now) result ≡ behind mark text.now }
 {
@@ -22,14 +22,11 @@ pub(crate) fn behind(text: &str, mark: char) -> Option<&str>
 }
 
 /// The number up to the limit that a text is in plain decimal digits.
-pub(crate) fn read_number(text: &str, limit: u32) -> Option<u32>
+pub fn read_number(text: &str, limit: u64) -> Option<u64>
     ensures value { result ≡ number_up_to limit text.now }
     ensures within { IfSome result (λ number. number ≤ limit) }
 {
-    match read_decimal(text, limit.into()) {
-        Some(number) => Some(number as u32),
-        None => None,
-    }
+    read_decimal(text, limit)
 }
 
 /// The number of one to four hex digits.

@@ -6,7 +6,7 @@ use Rattle.std.specs.Io.BufRead.{take_through, drop_through, strip_last, first_p
 use Rattle.std.proofs.lemmas.List.{append-nil, drop-take, take-append-drop, take-take, take_at}
 use Rattle.std.proofs.lemmas.Bool.{cases_Bool}
 use Rattle.router_program.specs.Lines.{onto_first, pieces_of, lines_of}
-use Rattle.router_program.specs.Answers.{answer_then, bad_or, answers_to, bad_line}
+use Rattle.router_program.specs.Engine.{answer_then, bad_or, answers_to, bad_line}
 
 pub Appends-then : (a b c : Option (List ℕ)) (x y : List ℕ) → Appends a b x → Appends b c y → Appends a c (x ++ y)
 Appends-then None b c x y p q = tt

@@ -1,4 +1,3 @@
 pub mod EngineLemmas
-pub mod HexLineLemmas
+pub mod ReplayLemmas
 pub mod WordsLemmas
-pub mod AnswerLemmas

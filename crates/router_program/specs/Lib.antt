@@ -1,5 +1,5 @@
-pub mod Arriving
-pub mod Answers
 pub mod Lines
 pub mod Engine
+pub mod Replay
+pub mod ReplayParts
 pub mod Words

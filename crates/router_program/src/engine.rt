@@ -3,19 +3,18 @@ ghost use Rattle.std.specs.Prelude.{◌≡◌, ◌≢◌, ℕ, take, Some, IfOk,
 ghost use Rattle.std.specs.Bool.{OnFalse, OnTrue};
 ghost use Rattle.std.specs.Io.BufRead.{drop_through, first_piece};
 ghost use Rattle.std.specs.Io.KnownBytes.{Appends};
-ghost use Rattle.router_program.specs.Answers.{answer_to};
+ghost use Rattle.router_lines.specs.Answers.{answer_to};
 ghost use Rattle.router_program.specs.Engine.{Wrote};
 ghost use Rattle.router_program.specs.declared.fault.LinesFault.TheVariants as faults;
 
-use crate::answers::answer_line;
-use crate::arriving::Arriving;
 use crate::fault::LinesFault;
 use process_packet::Config;
+use router_lines::{Arriving, answer_line};
 use std::alloc::Global;
 use std::io::{self, BufRead, Write};
 
 /// Writes all of the text, or a beginning of it where the writer fails, and hands it on at once.
-fn send<W: Write>(writer: &mut W, text: &[u8]) -> Result<(), LinesFault>
+pub(crate) fn send<W: Write>(writer: &mut W, text: &[u8]) -> Result<(), LinesFault>
     ensures ok { OnOk result (Appends (W.contents writer.old) (W.contents writer.new) text.now) }
     ensures begins { (k : ℕ) × Appends (W.contents writer.old) (W.contents writer.new) (take k text.now) }
     ensures err { IfErr result (λ e. e ≡ faults.Output) }
@@ -35,12 +34,12 @@ fn send<W: Write>(writer: &mut W, text: &[u8]) -> Result<(), LinesFault>
 }
 
 /// Whether an error of a reader that fills a buffer is want of memory for the buffer.
-fn is_memory(error: &io::Error) -> bool {
+pub(crate) fn is_memory(error: &io::Error) -> bool {
     error.kind() == io::ErrorKind::OutOfMemory
 }
 
 /// Replaces the line with the next one, without its end; false where nothing is left.
-fn read_line<R: BufRead>(reader: &mut R, line: &mut Vec<u8>) -> io::Result<bool>
+pub(crate) fn read_line<R: BufRead>(reader: &mut R, line: &mut Vec<u8>) -> io::Result<bool>
     ensures end { IfOk result (λ more. OnFalse more (IfSome (R.remaining reader.old) (λ input. input ≡ []))) }
     ensures line { IfOk result (λ more. OnTrue more (IfSome (R.remaining reader.old) (λ input.
         (input ≢ []) × (line.new.items ≡ first_piece 10 input) × (R.remaining reader.new ≡ Some (drop_through 10 input))))) }

@@ -1,22 +1,27 @@
 //! A SCION border router: `router route --config FILE --link N --now S [--from ADDR]` answers
-//! datagrams, one a line in hex.
+//! datagrams, one a line in hex; `router replay --config FILE` makes steps of the pipeline, one a line.
 #![tactic(auto)]
 
-mod answers;
-mod arriving;
 mod engine;
 mod fault;
+mod replay;
+#[cfg(test)]
+mod replay_tests;
 #[cfg(test)]
 mod rows;
+#[cfg(test)]
+mod schedules;
 #[cfg(test)]
 mod tests;
 mod words;
 
-use crate::arriving::{Arriving, usual_source};
 use crate::engine::route_lines;
 use crate::fault::Fault;
+use crate::replay::replay_lines;
 use crate::words::{Order, read_words};
+use process_packet::{Config, Underlay};
 use router_config::read_config;
+use router_lines::{Arriving, usual_source};
 use std::io::BufReader;
 use std::process::ExitCode;
 use std::rt::{Env, Files};
@@ -31,29 +36,54 @@ fn words_of<R: Env + AllocGlobal>(rt: &R) -> Result<Vec<String>, Fault> {
     Ok(words)
 }
 
-/// Answers the datagrams on the standard input.
-fn route<R: Files + Input + Print + AllocGlobal>(rt: &R, order: Order<'_>) -> Result<(), Fault> {
+/// The configuration that a file holds.
+fn config_at<R: Files + AllocGlobal>(rt: &R, path: &str) -> Result<Config, Fault> {
+    let text = fs::read_to_string(rt, path).map_err(Fault::of_file)?;
+    read_config(rt.alloc(), text.as_str()).map_err(Fault::Config)
+}
+
+/// Answers the datagrams on the standard input, which arrive on a link at a moment.
+fn route_datagrams<R: Input + Print + AllocGlobal>(
+    rt: &R,
+    config: &Config,
+    link: u16,
+    moment: u64,
+    from: Option<Underlay>,
+) -> Result<(), Fault> {
     let alloc = rt.alloc();
-    let text = fs::read_to_string(rt, order.config).map_err(Fault::of_file)?;
-    let config = read_config(alloc, text.as_str()).map_err(Fault::Config)?;
-    let Some(usual) = usual_source(&config, order.link) else {
+    let Some(usual) = usual_source(config, link) else {
         return Err(Fault::Link);
     };
     let arriving = Arriving {
-        link: order.link,
-        source: order.from.unwrap_or(usual),
-        moment: order.now,
+        link,
+        source: from.unwrap_or(usual),
+        moment,
     };
     let mut reader = BufReader::new(alloc, rt.reader()).map_err(|_| Fault::Memory)?;
     let mut writer = io::writer(rt);
-    route_lines(alloc, &config, &arriving, &mut reader, &mut writer).map_err(Fault::Lines)
+    route_lines(alloc, config, &arriving, &mut reader, &mut writer).map_err(Fault::Lines)
+}
+
+/// Makes the steps on the standard input.
+fn replay_schedule<R: Input + Print + AllocGlobal>(rt: &R, config: Config) -> Result<(), Fault> {
+    let alloc = rt.alloc();
+    let mut reader = BufReader::new(alloc, rt.reader()).map_err(|_| Fault::Memory)?;
+    let mut writer = io::writer(rt);
+    replay_lines(alloc, config, &mut reader, &mut writer).map_err(Fault::Lines)
 }
 
 /// Does what the command line asks for.
 fn run<R: Files + Env + Input + Print + AllocGlobal>(rt: &R) -> Result<(), Fault> {
     let words = words_of(rt)?;
-    let order = read_words(rt.alloc(), words.as_slice()).map_err(Fault::Words)?;
-    route(rt, order)
+    match read_words(rt.alloc(), words.as_slice()).map_err(Fault::Words)? {
+        Order::Route {
+            config,
+            link,
+            now,
+            from,
+        } => route_datagrams(rt, &config_at(rt, config)?, link, now, from),
+        Order::Replay { config } => replay_schedule(rt, config_at(rt, config)?),
+    }
 }
 
 fn main(rt: HostRuntime) -> ExitCode {

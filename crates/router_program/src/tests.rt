@@ -1,12 +1,12 @@
 //! The engine over readers and writers in memory, and the tables of refused words and texts.
-use crate::arriving::{Arriving, usual_source};
 use crate::engine::route_lines;
 use crate::fault::LinesFault;
 use crate::rows::{CONFIG, DATAGRAM, LONG_ANSWER, LONG_HEADER, ROWS};
-use crate::words::{WordsFault, read_words};
+use crate::words::{Order, WordsFault, read_words};
 use path_fields::read_path;
 use process_packet::{Config, Ip, Underlay};
 use router_config::{ConfigFault, read_config, read_underlay};
+use router_lines::{Arriving, usual_source};
 use scion_header::read_header;
 use std::io::{self, Read, Write};
 use std::process::Abort;
@@ -227,9 +227,9 @@ fn answers_every_changed_byte(rt: HostRuntime) {
 
 /// A reader and a writer of a few bytes a call, which fails at one of its calls.
 #[derive(Drop)]
-struct FailsAt {
-    left: u64,
-    bytes: Vec<u8>,
+pub struct FailsAt {
+    pub left: u64,
+    pub bytes: Vec<u8>,
 }
 
 impl FailsAt {
@@ -327,6 +327,8 @@ fn reads_words(rt: HostRuntime) {
             Some((65535, 1099511627775)),
         ),
         ("route --config c --link 0 --now 1", Some((0, 1))),
+        ("replay --config c", Some((0, 7))),
+        ("replay --config=c", Some((0, 7))),
         (
             "route --config c --link 0 --now 1 --from 10.0.0.3:1",
             Some((0, 1)),
@@ -340,7 +342,9 @@ fn reads_words(rt: HostRuntime) {
         ("route --config c --link 1 --now 1 --now 1", None),
         ("route --config c --link 1", None),
         ("route --config c --link one --now 1", None),
-        ("replay --config c", None),
+        ("replay", None),
+        ("replay --config c --link 1", None),
+        ("run", None),
         ("", None),
     ] {
         let mut words = Vec::new(alloc);
@@ -349,9 +353,20 @@ fn reads_words(rt: HostRuntime) {
             words.push(word).expect(&rt, "words");
         }
         match read_words(alloc, words.as_slice()) {
-            Ok(order) => {
-                assert_eq!(rt; Some((order.link, order.now)), want, "at {line:?}");
-                assert_eq!(rt; order.config, "c", "at {line:?}");
+            Ok(
+                Order::Route {
+                    config,
+                    link,
+                    now,
+                    ..
+                },
+            ) => {
+                assert_eq!(rt; Some((link, now)), want, "at {line:?}");
+                assert_eq!(rt; config, "c", "at {line:?}");
+            }
+            Ok(Order::Replay { config }) => {
+                assert_eq!(rt; want, Some((0, 7)), "at {line:?}");
+                assert_eq!(rt; config, "c", "at {line:?}");
             }
             Err(WordsFault::Told(error)) => {
                 assert_eq!(rt; None, want, "at {line:?}");

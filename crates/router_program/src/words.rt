@@ -1,12 +1,13 @@
 //! The command line.
-ghost use Rattle.std.specs.Prelude.{◌≡◌, ◌≢◌, ◌≤◌, ℕ, List, Option, map, option_map, string_bytes, false, IfErr, IfNone, IfOk, IfSome};
+ghost use Rattle.std.specs.Prelude.{◌≡◌, ◌≢◌, ◌≤◌, ℕ, List, Option, Some, codes, map, option_map, string_bytes, false, IfErr, IfNone, IfOk, IfSome};
 ghost use Rattle.clap.specs.Simple.{app_of, subcommand_rows_of};
 ghost use Rattle.clap.specs.Values.{kind_of};
-ghost use Rattle.clap.specs.Walk.{rule_of};
+ghost use Rattle.clap.specs.Matches.{found_of};
+ghost use Rattle.clap.specs.Walk.{first_of, rows_of, rule_of};
 ghost use Rattle.clap.specs.declared.builder.command.Command.TheViews.{out-Command as fields_of};
 ghost use Rattle.clap.specs.declared.error.kind.ErrorKind.TheVariants.{OutOfMemory};
 ghost use Rattle.process_packet.specs.declared.underlay.Underlay.{Underlay as Address};
-ghost use Rattle.router_program.specs.Words.{Asks, Orders, from_of, offered, route, router, wanted};
+ghost use Rattle.router_program.specs.Words.{Asked, Asks, AsksOf, AsksRoute, Orders, asked_of, from_of, offered, replay, route, router, wanted};
 ghost use Rattle.router_program.specs.declared.words.WordsFault.TheVariants.{Memory, Told};
 
 use clap::error::ErrorKind;
@@ -19,17 +20,28 @@ use thiserror::Error;
 /// The last second since 1970 that `--now` takes.
 const LAST_SECOND: u64 = 1099511627775;
 
-/// What the command line asks for: to answer the datagrams on the standard input.
+/// What is told of `--config`.
+const CONFIG_HELP: &str = "The border router's configuration, as TOML";
+
+/// What the command line asks for.
 #[derive(Clone, Copy, Debug)]
-pub struct Order<'a> {
-    /// The path of the configuration.
-    pub config: &'a str,
-    /// The link on which the datagrams arrive; 0 is the internal network.
-    pub link: u16,
-    /// When they arrive, in seconds since 1970.
-    pub now: u64,
-    /// The underlay's source of them, where one is named.
-    pub from: Option<Underlay>,
+pub enum Order<'a> {
+    /// To answer the datagrams on the standard input.
+    Route {
+        /// The path of the configuration.
+        config: &'a str,
+        /// The link on which the datagrams arrive; 0 is the internal network.
+        link: u16,
+        /// When they arrive, in seconds since 1970.
+        now: u64,
+        /// The underlay's source of them, where one is named.
+        from: Option<Underlay>,
+    },
+    /// To make the steps on the standard input.
+    Replay {
+        /// The path of the configuration.
+        config: &'a str,
+    },
 }
 
 /// Why a command line gives no order.
@@ -101,12 +113,7 @@ fn route_grammar<'a>(alloc: Global) -> Result<Command<'a>, AllocError>
     ensures app { IfOk result (λ command. app_of command ≡ route) }
     ensures own { IfOk result (λ command. (fields_of command).has_globals ≡ false) }
 {
-    let config = wanted(
-        alloc,
-        "config",
-        "FILE",
-        "The border router's configuration, as TOML",
-    );
+    let config = wanted(alloc, "config", "FILE", CONFIG_HELP);
     let link = wanted(
         alloc,
         "link",
@@ -128,17 +135,30 @@ fn route_grammar<'a>(alloc: Global) -> Result<Command<'a>, AllocError>
         .arg(from)
 }
 
+/// The words of `replay`.
+fn replay_grammar<'a>(alloc: Global) -> Result<Command<'a>, AllocError>
+    ensures app { IfOk result (λ command. app_of command ≡ replay) }
+    ensures own { IfOk result (λ command. (fields_of command).has_globals ≡ false) }
+{
+    let config = wanted(alloc, "config", "FILE", CONFIG_HELP);
+    Command::new(alloc, "replay")
+        .about("Makes the steps of the pipeline that the standard input lists, and reports")
+        .arg(config)
+}
+
 /// The words that the program takes.
 fn grammar<'a>(alloc: Global) -> Result<Command<'a>, AllocError>
     ensures { IfOk result (λ command. app_of command ≡ router) }
 {
     let route = route_grammar(alloc)?;
+    let replay = replay_grammar(alloc)?;
     Command::new(alloc, "router")
         .about("A SCION border router")
         .version("0.1.0")
         .no_binary_name(true)
         .subcommand_required(true)
-        .subcommand(route)
+        .subcommand(route)?
+        .subcommand(replay)
 }
 
 /// The address that a word names, if it is one; no word names none.
@@ -154,21 +174,18 @@ fn read_from(word: Option<&str>) -> Option<Option<Underlay>>
     }
 }
 
-/// The order that the parsed words give, if their numbers are plain decimals in range and the source is
-/// an address.
-fn order_of<'a>(matches: &ArgMatches<'a>) -> Option<Order<'a>>
-    ensures found { IfSome result (λ order. Asks (subcommand_rows_of matches.now) order.config.now order.link order.now order.from) }
+/// The order that the options of `route` give, if their numbers are plain decimals in range and the
+/// source is an address.
+fn route_of<'a>(route: &ArgMatches<'a>) -> Option<Order<'a>>
+    ensures found { IfSome result (λ order. Asks (codes "route", rows_of (found_of route.now)) (asked_of order)) }
     ensures none { IfNone result ((config : List ℕ) (link now : ℕ) (from : Option Address)
-        → ¬ Asks (subcommand_rows_of matches.now) config link now from) }
+        → ¬ AsksRoute (rows_of (found_of route.now)) config link now from) }
 {
-    let Some(("route", route)) = matches.subcommand() else {
-        return None;
-    };
     let config = route.get_str("config")?;
     let link = read_decimal(route.get_str("link")?, u16::MAX.into())?;
     let now = read_decimal(route.get_str("now")?, LAST_SECOND)?;
     let from = read_from(route.get_str("from"))?;
-    Some(Order {
+    Some(Order::Route {
         config,
         link: link as u16,
         now,
@@ -176,15 +193,38 @@ fn order_of<'a>(matches: &ArgMatches<'a>) -> Option<Order<'a>>
     })
 }
 
+/// The order that the option of `replay` gives.
+fn replay_of<'a>(replay: &ArgMatches<'a>) -> Option<Order<'a>>
+    ensures found { IfSome result (λ order. Asks (codes "replay", rows_of (found_of replay.now)) (asked_of order)) }
+    ensures none { IfNone result ((config : List ℕ) → first_of (codes "config") (rows_of (found_of replay.now)) ≢ Some config) }
+{
+    match replay.get_str("config") {
+        Some(config) => Some(Order::Replay { config }),
+        None => None,
+    }
+}
+
+/// The order that the parsed words give.
+fn order_of<'a>(matches: &ArgMatches<'a>) -> Option<Order<'a>>
+    ensures found { IfSome result (λ order. AsksOf (subcommand_rows_of matches.now) (asked_of order)) }
+    ensures none { IfNone result ((asked : Asked) → ¬ AsksOf (subcommand_rows_of matches.now) asked) }
+{
+    if let Some(route) = matches.subcommand_matches("route") {
+        return route_of(route);
+    }
+    if let Some(replay) = matches.subcommand_matches("replay") {
+        return replay_of(replay);
+    }
+    None
+}
+
 /// The order that the words after the program's name give.
 ///
 /// Each option is named once, by `--name VALUE` or `--name=VALUE`. Numbers are plain decimals:
 /// digits with no sign and no leading zero.
 pub fn read_words<'a>(alloc: Global, words: &'a [String]) -> Result<Order<'a>, WordsFault>
-    ensures order { IfOk result (λ order.
-        Orders (map string_bytes words.now) order.config.now order.link order.now order.from) }
-    ensures fault { IfErr result (λ fault. (config : List ℕ) (link now : ℕ) (from : Option Address)
-        → Orders (map string_bytes words.now) config link now from → fault ≡ Memory) }
+    ensures order { IfOk result (λ order. Orders (map string_bytes words.now) (asked_of order)) }
+    ensures fault { IfErr result (λ fault. (asked : Asked) → Orders (map string_bytes words.now) asked → fault ≡ Memory) }
 {
     let mut command = grammar(alloc)?;
     let matches = match command.try_get_matches_from_mut(words) {

@@ -1,4 +1,4 @@
-use Rattle.router_program.specs.Answers.{answer_to}
+use Rattle.router_lines.specs.Answers.{answer_to}
 use Rattle.router_program.proofs.EngineLemmas.{Progress}
 use Rattle.router_program.proofs.engine.route_lines.Given as goal
 

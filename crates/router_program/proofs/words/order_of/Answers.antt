@@ -1,60 +1,39 @@
-use Rattle.std.proofs.Common.{◌≡◌, ◌≤◌, ◌∙◌, ℕ, Some, ap, codes, decimal, rules, sym}
-use Rattle.std.specs.Prelude.{◌≢◌}
-use Rattle.router_program.proofs.WordsLemmas.{no_config, no_link, no_now, other_from, other_link, other_now, name_read, text_read}
-use Rattle.router_program.specs.Words.{from_of}
+use Rattle.std.proofs.Common.{◌≡◌, ◌∙◌, Some, None, codes, option_map, sym, ap, refl}
+use Rattle.std.proofs.lemmas.Bool.{false≢true}
 use Rattle.clap.specs.Matches.{found_of}
+use Rattle.clap.specs.Simple.{subcommand_rows_of}
+use Rattle.clap.specs.Walk.{rows_of}
 use Rattle.clap.specs.declared.parser.matches.ArgMatches.TheViews.{out-ArgMatches}
+use Rattle.router_program.proofs.WordsLemmas.{asks_found, entered, name_read, no_order, replay_none, route_none}
 use Rattle.router_program.proofs.words.order_of.Goals as goal
 
-pub returns-in_err-config-clause-none : goal.returns-in_err-config-clause-none
-returns-in_err-config-clause-none c =
-    let read = text_read _ (found_of c.in-Some-route-default.route.now) (codes "config") c.get_str.result c.in-Some-route-default.ensures.rows c.get_str.ensures in
-    rw c.from_residual.ensures (λ config link now from asks. no_config _ config link now from (rw c.in_err-config.was at read) asks)
-
-pub returns-in_err-get_str-clause-none : goal.returns-in_err-get_str-clause-none
-returns-in_err-get_str-clause-none c =
-    let read = text_read _ (found_of c.in-Some-route-default.route.now) (codes "link") c.get_str-2.result c.in-Some-route-default.ensures.rows c.get_str-2.ensures in
-    rw c.from_residual-in_err-get_str.ensures (λ config link now from asks. no_link _ config link now from (rw c.in_err-get_str.was at read) asks)
-
-pub returns-in_err-link-clause-none : goal.returns-in_err-link-clause-none
-returns-in_err-link-clause-none c =
-    let read = text_read _ (found_of c.in-Some-route-default.route.now) (codes "link") c.get_str-2.result c.in-Some-route-default.ensures.rows c.get_str-2.ensures in
-    let limit : c.into.result ≡ 65535 = search rules in
-    let other : (n : ℕ) → n ≤ 65535 → c.in_ok-get_str.field-0.now ≢ decimal n = rw (← limit) (rw c.in_err-link.was at c.read_decimal.ensures.none) in
-    rw c.from_residual-in_err-link.ensures (λ config link now from asks. other_link _ config _ link now from (rw c.in_ok-get_str.was at read) other asks)
-
-pub returns-in_err-get_str-2-clause-none : goal.returns-in_err-get_str-2-clause-none
-returns-in_err-get_str-2-clause-none c =
-    let read = text_read _ (found_of c.in-Some-route-default.route.now) (codes "now") c.get_str-3.result c.in-Some-route-default.ensures.rows c.get_str-3.ensures in
-    rw c.from_residual-in_err-get_str-2.ensures (λ config link now from asks. no_now _ config link now from (rw c.in_err-get_str-2.was at read) asks)
-
-pub returns-in_err-now-clause-none : goal.returns-in_err-now-clause-none
-returns-in_err-now-clause-none c =
-    let read = text_read _ (found_of c.in-Some-route-default.route.now) (codes "now") c.get_str-3.result c.in-Some-route-default.ensures.rows c.get_str-3.ensures in
-    let other : (n : ℕ) → n ≤ 1099511627775 → c.in_ok-get_str-2.field-0.now ≢ decimal n = rw c.in_err-now.was at c.read_decimal-2.ensures.none in
-    rw c.from_residual-in_err-now.ensures (λ config link now from asks. other_now _ config _ link now from (rw c.in_ok-get_str-2.was at read) other asks)
-
-pub returns-in_err-from-clause-none : goal.returns-in_err-from-clause-none
-returns-in_err-from-clause-none c =
-    let read = text_read _ (found_of c.in-Some-route-default.route.now) (codes "from") c.get_str-4.result c.in-Some-route-default.ensures.rows c.get_str-4.ensures in
-    let none = sym (rw c.in_err-from.was at c.read_from.ensures) in
-    rw c.from_residual-in_err-from.ensures (λ config link now from asks. other_from _ config link now from _ read none asks)
-
-pub returns-clause-found : goal.returns-clause-found
-returns-clause-found c =
-    let config = text_read _ (found_of c.in-Some-route-default.route.now) (codes "config") c.get_str.result c.in-Some-route-default.ensures.rows c.get_str.ensures in
-    let link = text_read _ (found_of c.in-Some-route-default.route.now) (codes "link") c.get_str-2.result c.in-Some-route-default.ensures.rows c.get_str-2.ensures in
-    let now = text_read _ (found_of c.in-Some-route-default.route.now) (codes "now") c.get_str-3.result c.in-Some-route-default.ensures.rows c.get_str-3.ensures in
-    let from = text_read _ (found_of c.in-Some-route-default.route.now) (codes "from") c.get_str-4.result c.in-Some-route-default.ensures.rows c.get_str-4.ensures in
-    let link_found = rw c.in_ok-link.was at c.read_decimal.ensures.found in
-    let now_found = rw c.in_ok-now.was at c.read_decimal-2.ensures.found in
-    let limit : c.into.result ≡ 65535 = search rules in
+pub returns-in-Some : goal.returns-in-Some
+returns-in-Some c =
+    let s = subcommand_rows_of c.args.matches.now in
+    let rows = rows_of (found_of c.in-Some.route.now) in
+    let named = name_read (out-ArgMatches c.args.matches.now).subcommand ∙ c.in-Some.ensures.found.0 refl in
+    let same : s ≡ Some (codes "route", rows) = entered s (codes "route") rows named c.in-Some.ensures.rows in
     record {
-      name = name_read (out-ArgMatches c.args.matches.now).subcommand ∙ sym c.in-Some-route-default.ensures.name ∙ ap (λ t. Some t) c.in-Some-route-default.is-route;
-      config_is = rw c.in_ok-config.was at config;
-      link_is = (rw c.in_ok-get_str.was at link) ∙ ap (λ t. Some t) link_found.1;
-      now_is = (rw c.in_ok-get_str-2.was at now) ∙ ap (λ t. Some t) now_found.1;
-      from_is = rw c.in_ok-from.was at (ap from_of from ∙ sym c.read_from.ensures);
-      link_fits = rw limit at link_found.0;
-      now_fits = now_found.0;
+      found = asks_found s (codes "route", rows) c.route_of.result same c.route_of.ensures.found;
+      none = route_none s rows c.route_of.result same c.route_of.ensures.none;
+    }
+
+pub returns-in-Some-subcommand_matches : goal.returns-in-Some-subcommand_matches
+returns-in-Some-subcommand_matches c =
+    let s = subcommand_rows_of c.args.matches.now in
+    let rows = rows_of (found_of c.in-Some-subcommand_matches.replay.now) in
+    let named = name_read (out-ArgMatches c.args.matches.now).subcommand ∙ c.in-Some-subcommand_matches.ensures.found.0 refl in
+    let same : s ≡ Some (codes "replay", rows) = entered s (codes "replay") rows named c.in-Some-subcommand_matches.ensures.rows in
+    record {
+      found = asks_found s (codes "replay", rows) c.replay_of.result same c.replay_of.ensures.found;
+      none = replay_none s rows c.replay_of.result same c.replay_of.ensures.none;
+    }
+
+pub returns : goal.returns
+returns c =
+    let s = subcommand_rows_of c.args.matches.now in
+    record {
+      found = tt;
+      none = no_order s _ (name_read (out-ArgMatches c.args.matches.now).subcommand) (λ named. false≢true (c.in_default.ensures.found.1 named))
+        (λ named. false≢true (c.in_default-subcommand_matches.ensures.found.1 named));
     }

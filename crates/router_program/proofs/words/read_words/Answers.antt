@@ -3,7 +3,7 @@ use Rattle.router_program.proofs.WordsLemmas.{asks_along, memory_alone, rows_fou
 use Rattle.router_program.proofs.words.read_words.Goals as goal
 
 pub returns-in-Err-clause-fault : goal.returns-in-Err-clause-fault
-returns-in-Err-clause-fault c = λ config link now from orders.
+returns-in-Err-clause-fault c = λ asked orders.
     c.fault_of.ensures.memory (memory_alone _ _ c.in-Err.error c.in_ok-command.ensures orders.taken c.in-Err.ensures.kinds)
 
 pub returns-in-Some-clause-order : goal.returns-in-Some-clause-order
@@ -11,10 +11,10 @@ returns-in-Some-clause-order c =
     let rows = rows_found _ (map string_bytes c.args.words.now) c.in-Ok.matches c.in_ok-command.ensures c.in-Ok.ensures.ok.2 in
     record {
       taken = words_taken _ (map string_bytes c.args.words.now) c.in_ok-command.ensures c.in-Ok.ensures.kinds;
-      asks = asks_along _ _ _ _ _ _ rows c.in-Some.ensures.found;
+      asks = asks_along _ _ _ rows c.in-Some.ensures.found;
     }
 
 pub returns-in-Ok-error-clause-fault : goal.returns-in-Ok-error-clause-fault
-returns-in-Ok-error-clause-fault c = λ config link now from orders.
+returns-in-Ok-error-clause-fault c = λ asked orders.
     let rows = rows_found _ (map string_bytes c.args.words.now) c.in-Ok.matches c.in_ok-command.ensures c.in-Ok.ensures.ok.2 in
-    absurd (c.in-None.ensures.none config link now from (asks_along _ _ _ _ _ _ (sym rows) orders.asks))
+    absurd (c.in-None.ensures.none asked (asks_along _ _ _ (sym rows) orders.asks))

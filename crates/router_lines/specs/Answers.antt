@@ -1,6 +1,6 @@
--- What is written for each line that is read.
-use Rattle.std.specs.Prelude.{ℕ, suc, List, [], ◌∷◌, ◌++◌, Option, Some, None, Result, Ok, Err, codes, decimal, option_map}
-use Rattle.hex.specs.Hex.{decode_of, encode_lower}
+-- What `route` writes for each line that it reads.
+use Rattle.std.specs.Prelude.{ℕ, List, ◌++◌, Option, Some, None, codes, decimal, option_map}
+use Rattle.hex.specs.Hex.{encode_lower}
 use Rattle.process_packet.specs.Cause.{number_of}
 use Rattle.process_packet.specs.Decide.{decide, moved}
 use Rattle.process_packet.specs.Network.{network}
@@ -13,7 +13,8 @@ use Rattle.process_packet.specs.declared.underlay.Underlay.{Underlay}
 use Rattle.router_config.specs.Shown.{text_of}
 use Rattle.scmp_answer.specs.Outcome.{Leaves, Outcome, Stays, outcome}
 use Rattle.scmp_answer.specs.Reply.{local_address, reply}
-use Rattle.router_program.specs.declared.arriving.Arriving.{Arriving}
+use Rattle.router_lines.specs.HexLine.{bytes_of}
+use Rattle.router_lines.specs.declared.arriving.Arriving.{Arriving}
 
 -- where a packet is sent, `-` where its link leads to one place alone
 abbrev pub to_text : Option Underlay → List ℕ
@@ -47,33 +48,6 @@ abbrev pub answer_for : Config → Arriving → List ℕ → List ℕ
 answer_for config a bytes =
     text_for config a (decide (network config) a.link a.source a.moment bytes) (moved (network config) a.link a.source a.moment bytes)
 
--- the bytes that a line of hex has, none where it is no hex
-abbrev pub decoded : {E : Type 0} → Result (List ℕ) E → Option (List ℕ)
-decoded (Ok bytes) = Some bytes
-decoded (Err e) = None
-
-abbrev pub bytes_of : List ℕ → Option (List ℕ)
-bytes_of line = decoded (decode_of line)
-
 -- the answer to a line, none where it is no hex
 abbrev pub answer_to : Config → Arriving → List ℕ → Option (List ℕ)
 answer_to config a line = option_map (answer_for config a) (bytes_of line)
-
--- an answer and those after it
-abbrev pub answer_then : Option (List ℕ) → List ℕ → List ℕ
-answer_then None more = []
-answer_then (Some text) more = text ++ more
-
--- the answers to lines, up to the first line that has none
-unfoldable pub answers_to : (List ℕ → Option (List ℕ)) → List (List ℕ) → List ℕ
-answers_to answer [] = []
-answers_to answer (line ∷ lines) = answer_then (answer line) (answers_to answer lines)
-
-abbrev pub bad_or : Option (List ℕ) → ℕ → Option ℕ → Option ℕ
-bad_or None n later = Some n
-bad_or (Some text) n later = later
-
--- the number of the first line that has no answer, where the first line of all has the number n
-unfoldable pub bad_line : (List ℕ → Option (List ℕ)) → ℕ → List (List ℕ) → Option ℕ
-bad_line answer n [] = None
-bad_line answer n (line ∷ lines) = bad_or (answer line) n (bad_line answer (suc n) lines)

@@ -3,7 +3,7 @@ use Rattle.std.proofs.Common.{◌≡◌, ℕ, ◌*◌, ◌/◌, ◌%◌, List, l
 use Rattle.std.specs.Prelude.{◌⊎◌}
 use Rattle.hex.specs.Hex.{decode_sized}
 use Rattle.hex.proofs.HexLemmas.{decode_of-odd, decode_sized-odd, decode_sized-twice}
-use Rattle.router_program.specs.Answers.{bytes_of, decoded}
+use Rattle.router_lines.specs.HexLine.{bytes_of, decoded}
 
 halves : (n : ℕ) → (n ≡ 2 * (n / 2)) ⊎ (n % 2 ≡ 1)
 halves n = grind arith

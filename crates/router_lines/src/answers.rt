@@ -1,26 +1,19 @@
-//! The line that is written for each line that is read.
+//! The line that `route` writes for each line that it reads.
 ghost use Rattle.std.specs.Prelude.{◌≡◌, ◌++◌, ◌*◌, length, IfOk, OnOk, Ok, Some, None, codes, decimal, if◌then◌else◌};
 ghost use Rattle.hex.specs.Hex.{encode_lower};
 ghost use Rattle.process_packet.specs.Routed.{IsAnswer};
 ghost use Rattle.scion_packet.specs.Packet.{first_fault};
-ghost use Rattle.router_program.specs.Answers.{answer_for, answer_to, bytes_of, drop_text, reply_text, sent_text, text_for, to_text};
+ghost use Rattle.router_lines.specs.Answers.{answer_for, answer_to, drop_text, reply_text, sent_text, text_for, to_text};
 
 use crate::arriving::Arriving;
-use itoa::Buffer;
+use crate::decimal::push_decimal;
+use crate::hex_line::read_hex;
 use process_packet::{
     Cause, Config, Decision, Problem, Underlay, answers_are_sound, route_in_place,
 };
 use router_config::push_underlay;
 use scmp_answer::{AnswerLen, answer_into};
 use std::alloc::AllocError;
-
-/// Adds a number's decimal digits to the text.
-fn push_decimal(text: &mut Vec<u8>, number: u16) -> Result<(), AllocError>
-    ensures { OnOk result (text.new.items ≡ text.old.items ++ decimal number) }
-{
-    let mut buffer = Buffer::new();
-    text.extend_from_slice(buffer.format(number).as_bytes())
-}
 
 /// Adds the bytes to the text, two lower-case hex digits each.
 fn push_hex(text: &mut Vec<u8>, bytes: &[u8]) -> Result<(), AllocError>
@@ -70,7 +63,7 @@ fn push_drop(text: &mut Vec<u8>, cause: Cause) -> Result<(), AllocError>
     ensures { OnOk result (text.new.items ≡ text.old.items ++ drop_text cause) }
 {
     text.extend_from_slice(b"drop ")?;
-    push_decimal(text, cause.number().into())
+    push_decimal(text, cause.number())
 }
 
 /// Adds what becomes of a problem of the datagram, which has no fault: the answer, or a drop.
@@ -122,18 +115,6 @@ fn write_answer(
         Decision::Drop(cause) => push_drop(text, cause)?,
     }
     text.extend_from_slice(b"\n")
-}
-
-/// Replaces the bytes with those that a line of hex has; false where the line is no hex.
-fn read_hex(line: &[u8], bytes: &mut Vec<u8>) -> Result<bool, AllocError>
-    ensures { IfOk result (λ is_hex. bytes_of line.now ≡ (if is_hex then Some bytes.new.items else None)) }
-{
-    bytes.clear();
-    bytes.resize(line.len() / 2, 0)?;
-    match hex::decode_to_slice(line, bytes.as_mut_slice()) {
-        Ok(()) => Ok(true),
-        Err(_) => Ok(false),
-    }
 }
 
 /// Decides on a datagram where it lies, and replaces the text with its line.

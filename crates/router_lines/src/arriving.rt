@@ -1,7 +1,7 @@
 //! How the datagrams of an order arrive.
 
 ghost use Rattle.std.specs.Prelude.{◌≡◌, ◌==◌, find};
-ghost use Rattle.router_program.specs.Arriving.{usual_source};
+ghost use Rattle.router_lines.specs.Arriving.{usual_source};
 
 use process_packet::{Config, Link, Underlay};
 

@@ -1,0 +1,5 @@
+pub mod HexLineLemmas
+pub mod AnswerLemmas
+pub mod TextLemmas
+pub mod GatheredLemmas
+pub mod ReportLemmas

@@ -1,0 +1,15 @@
+use Rattle.std.proofs.Common.{◌≡◌, ◌+◌, ◌++◌, ◌∷◌, [], length, refl, rules, arith}
+use Rattle.process_packet.specs.declared.arrival.Arrival.{Arrival as Came}
+use Rattle.router_lines.specs.ArriveLine.{incoming_datagram}
+use Rattle.router_lines.proofs.GatheredLemmas.{added}
+use Rattle.router_lines.proofs.gathered.add_arrival.Goals as goal
+
+pub returns : goal.returns
+returns c =
+    let i = c.args.incoming in
+    let xs = c.index_mut-list.result.now in
+    let x : Came = record { link = i.arriving.link; number = c.len.result + 1; source = i.arriving.source; now = i.arriving.moment; bytes = i.bytes } in
+    let behind : c.push.new.self.items ≡ xs.items ++ x ∷ [] = search rules in
+    let number : c.len.result + 1 ≡ 1 + length xs.items = omega arith in
+    λ ds so_far. added c.args.config.now ds (incoming_datagram i) x c.link_index.result c.args.lists.now.items c.push.new.self xs c.link_index.ensures (search rules) c.index_mut-list.ensures.value
+    (record { same = refl; number = number; behind = behind }) so_far

@@ -1,0 +1,9 @@
+pub mod Arriving
+pub mod HexLine
+pub mod Answers
+pub mod Text
+pub mod Names
+pub mod StepLine
+pub mod ArriveLine
+pub mod Gathered
+pub mod Report

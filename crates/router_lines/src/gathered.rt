@@ -1,0 +1,45 @@
+//! What arrives in a replay, link by link.
+ghost use Rattle.std.specs.Prelude.{◌≡◌, ◌<◌, ◌∷◌, ◌++◌, [], IfOk, OnOk, List, length};
+ghost use Rattle.router_lines.specs.ArriveLine.{incoming_datagram};
+ghost use Rattle.router_lines.specs.Gathered.{AreGathered};
+ghost use Rattle.router_rules.specs.Datagram.{Datagram};
+ghost use Rattle.router_rules.specs.Links.{link_index};
+
+use crate::arrive_line::Incoming;
+use process_packet::{Arrival, Config};
+use router_rules::{link_count, link_index};
+use std::alloc::{AllocError, Global};
+
+/// A list for each link, in ascending order of the interfaces, with nothing in it yet.
+pub fn no_arrivals(alloc: Global, config: &Config) -> Result<Vec<Vec<Arrival>>, AllocError>
+    ensures { IfOk result (λ lists. AreGathered config.now [] lists.items) }
+{
+    let mut lists = Vec::new(alloc);
+    for _ in 0..link_count(config) {
+        lists.push(Vec::new(alloc))?;
+    }
+    Ok(lists)
+}
+
+/// Puts a datagram behind those of its link, under the next number there.
+pub fn add_arrival(
+    config: &Config,
+    lists: &mut Vec<Vec<Arrival>>,
+    incoming: Incoming,
+) -> Result<(), AllocError>
+    requires { link_index config.now incoming.arriving.link < length lists.old.items }
+    ensures { OnOk result ((ds : List Datagram) → AreGathered config.now ds lists.old.items
+        → AreGathered config.now (ds ++ incoming_datagram incoming ∷ []) lists.new.items) }
+{
+    let Incoming { arriving, bytes } = incoming;
+    let list = &mut lists[link_index(config, arriving.link)];
+    let number = list.len() as u64 + 1;
+    list.push(Arrival {
+        link: arriving.link,
+        number,
+        source: arriving.source,
+        now: arriving.moment,
+        bytes,
+    })?;
+    Ok(())
+}

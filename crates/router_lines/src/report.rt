@@ -1,0 +1,128 @@
+//! What a replay prints: the steps that weren't possible, and the report.
+ghost use Rattle.std.specs.Prelude.{◌≡◌, ◌++◌, OnOk};
+ghost use Rattle.std.specs.List.{flat_map, range_with_len};
+ghost use Rattle.router_rules.specs.Links.{link_count};
+ghost use Rattle.router_lines.specs.Report.{count_text, counts_text, drop_line, drops_text, link_line, link_text, name_text, names_text, not_now_text, report};
+
+use crate::decimal::push_decimal;
+use pipe_model::{Bytes, Outgoing, World};
+use process_packet::Totals;
+use router_rules::{interface_at, link_count};
+use std::alloc::AllocError;
+
+/// Adds the name of what left: its arriving link and its number there, an answer with an `a` behind.
+fn push_name(text: &mut Vec<u8>, left: &Outgoing) -> Result<(), AllocError>
+    ensures { OnOk result (text.new.items ≡ text.old.items ++ name_text left.now) }
+{
+    push_decimal(text, left.arrived)?;
+    text.extend_from_slice(b".")?;
+    push_decimal(text, left.number)?;
+    if left.answer {
+        text.extend_from_slice(b"a")?;
+    }
+    Ok(())
+}
+
+/// Adds the names, each behind a blank.
+fn push_names(text: &mut Vec<u8>, sent: &[(Outgoing, Bytes)]) -> Result<(), AllocError>
+    ensures { OnOk result (text.new.items ≡ text.old.items ++ names_text sent.now) }
+{
+    for pair in sent {
+        text.extend_from_slice(b" ")?;
+        push_name(text, &pair.0)?;
+    }
+    Ok(())
+}
+
+/// Adds the line of a link: what it sent, in order.
+fn push_link(text: &mut Vec<u8>, link: u16, sent: &[(Outgoing, Bytes)]) -> Result<(), AllocError>
+    ensures { OnOk result (text.new.items ≡ text.old.items ++ link_text link sent.now) }
+{
+    text.extend_from_slice(b"link ")?;
+    push_decimal(text, link)?;
+    text.extend_from_slice(b" sent")?;
+    if sent.is_empty() {
+        text.extend_from_slice(b" -")?;
+    } else {
+        push_names(text, sent)?;
+    }
+    text.extend_from_slice(b"\n")
+}
+
+/// Adds a line of a name and a count.
+fn push_count(text: &mut Vec<u8>, name: &[u8], count: u128) -> Result<(), AllocError>
+    ensures { OnOk result (text.new.items ≡ text.old.items ++ count_text name.now count) }
+{
+    text.extend_from_slice(name)?;
+    text.extend_from_slice(b" ")?;
+    push_decimal(text, count)?;
+    text.extend_from_slice(b"\n")
+}
+
+/// Adds the counts of what was received, sent and answered, and of what waits.
+fn push_counts(text: &mut Vec<u8>, totals: &Totals, waiting: u128) -> Result<(), AllocError>
+    ensures { OnOk result (text.new.items ≡ text.old.items ++ counts_text totals.now waiting) }
+{
+    push_count(text, b"received", totals.received)?;
+    push_count(text, b"sent", totals.sent)?;
+    push_count(text, b"answered", totals.answered)?;
+    push_count(text, b"waiting", waiting)
+}
+
+/// Adds the line of a cause, if something was dropped for it.
+fn push_drop_line(text: &mut Vec<u8>, cause: usize, count: u128) -> Result<(), AllocError>
+    ensures { OnOk result (text.new.items ≡ text.old.items ++ drop_line cause count) }
+{
+    if count == 0 {
+        return Ok(());
+    }
+    text.extend_from_slice(b"dropped ")?;
+    push_decimal(text, cause)?;
+    text.extend_from_slice(b" ")?;
+    push_decimal(text, count)?;
+    text.extend_from_slice(b"\n")
+}
+
+/// Adds the lines of the causes that something was dropped for.
+fn push_drops(text: &mut Vec<u8>, dropped: &[u128; 18]) -> Result<(), AllocError>
+    ensures { OnOk result (text.new.items ≡ text.old.items ++ drops_text 1 dropped.now) }
+{
+    for (index, count) in dropped.iter().enumerate() {
+        push_drop_line(text, index + 1, *count)?;
+    }
+    Ok(())
+}
+
+/// Adds the line of each link, in ascending order of the interfaces.
+fn push_links(text: &mut Vec<u8>, world: &World) -> Result<(), AllocError>
+    ensures { OnOk result (text.new.items
+        ≡ text.old.items ++ flat_map (link_line world.now) (range_with_len 0 (link_count world.now.config))) }
+{
+    let config = world.config();
+    for index in 0..link_count(config) {
+        let link = interface_at(config, index);
+        push_link(text, link, world.sent(link))?;
+    }
+    Ok(())
+}
+
+/// Adds the report of a pipeline: what each link sent, the counts of what was received, sent and answered
+/// and of what waits, and a line for each cause that something was dropped for.
+#[tactic(auto, unfolding(crate::specs::Report::report))]
+pub fn push_report(text: &mut Vec<u8>, world: &World) -> Result<(), AllocError>
+    ensures { OnOk result (text.new.items ≡ text.old.items ++ report world.now) }
+{
+    let totals = world.totals();
+    push_links(text, world)?;
+    push_counts(text, &totals, world.waiting())?;
+    push_drops(text, &totals.dropped)
+}
+
+/// Adds the line that tells that the step of a line wasn't possible.
+pub fn push_not_now(text: &mut Vec<u8>, line: u64) -> Result<(), AllocError>
+    ensures { OnOk result (text.new.items ≡ text.old.items ++ not_now_text line) }
+{
+    text.extend_from_slice(b"not now ")?;
+    push_decimal(text, line)?;
+    text.extend_from_slice(b"\n")
+}
