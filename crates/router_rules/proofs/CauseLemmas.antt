@@ -1,9 +1,9 @@
 -- Row after row: no packet is dropped for a cause of the pipeline's own.
-use Rattle.std.proofs.Common.{◌≡◌, ℕ, Bool, true, false, ◌&&◌, ◌==◌, if◌then◌else◌, List, [], ◌∷◌, Option, Some, None, refl}
+use Rattle.std.proofs.Common.{◌≡◌, ℕ, Bool, true, false, ◌&&◌, ◌==◌, if◌then◌else◌, List, [], ◌∷◌, drop, Option, Some, None, refl}
 use Rattle.std.specs.List.{AllByRecursion}
 use Rattle.process_packet.specs.Decide.{decision_table, verdict, verdict_of}
 use Rattle.process_packet.specs.Network.{Network}
-use Rattle.process_packet.specs.Rows.{Verdict, Sent, Answered, Dropped, Turn, GoesOn, Ends, Row, cause_of, delivered, ends_where, expired, faulty, leave, sent_on, sent_out, switch, then_rows, to_service, wrong_mac, wrong_pair}
+use Rattle.process_packet.specs.Rows.{Verdict, Sent, Answered, Dropped, Turn, GoesOn, Ends, Row, cause_of, delivered, delivery, ends_where, expired, faulty, leave, sent_on, switch, then_rows, to_service, wrong_mac, wrong_pair}
 use Rattle.process_packet.specs.Standing.{Standing, arrives, changed_over, packet}
 use Rattle.process_packet.specs.declared.cause.Cause.{Cause}
 use Rattle.process_packet.specs.declared.decision.Problem.{Problem}
@@ -107,8 +107,22 @@ on_ruled p (Some at) = sent _ _ _
 leave_ruled : (s : Standing) → IsRuledTurn (leave s)
 leave_ruled s = either_turn _ _ _ (ends _ (either _ _ _ (dropped _ refl) (sent _ _ _))) (ends _ (on_ruled (packet s) _))
 
+-- a row that answers or drops where its test applies
+asks : (b : Standing → Bool) (q : Standing → Problem) → IsRuledRow (λ s. ends_where (b s) (Answered (q s)) s)
+asks b q s = test_ruled (b s) _ s (answered (q s))
+
+drops : (b : Standing → Bool) (why : Cause) → is_ruled why ≡ true → IsRuledRow (λ s. ends_where (b s) (Dropped why) s)
+drops b why h s = test_ruled (b s) _ s (dropped why h)
+
+delivery_ruled : (s : Standing) → IsRuledTurn (delivery s)
+delivery_ruled s = test_ruled _ _ s (delivered_ruled s.network (packet s))
+
 table_ruled : AllByRecursion IsRuledRow decision_table
-table_ruled = ((λ s. test_ruled _ _ s (dropped _ refl)), ((λ s. faulty_ruled _ s), ((λ s. faulty_ruled _ s), ((λ s. test_ruled _ _ s (answered _)), ((λ s. test_ruled _ _ s (answered _)), ((λ s. test_ruled _ _ s (answered _)), ((λ s. test_ruled _ _ s (dropped _ refl)), ((λ s. test_ruled _ _ s (answered _)), ((λ s. test_ruled _ _ s (answered _)), ((λ s. goes_on _), ((λ s. test_ruled _ _ s (answered _)), ((λ s. test_ruled _ _ s (answered _)), ((λ s. test_ruled _ _ s (delivered_ruled s.network (packet s))), (switch_ruled, ((λ s. test_ruled _ _ s (answered _)), (wrong_pair_ruled, ((λ s. test_ruled _ _ s (answered _)), (leave_ruled, tt))))))))))))))))))
+table_ruled =
+    let leaving : AllByRecursion IsRuledRow (drop 12 decision_table) = (delivery_ruled, (switch_ruled, (asks _ _, (wrong_pair_ruled, (asks _ _, (leave_ruled, tt)))))) in
+    let authority : AllByRecursion IsRuledRow (drop 9 decision_table) = ((λ s. goes_on _), (asks _ _, (asks _ _, leaving))) in
+    let arriving : AllByRecursion IsRuledRow (drop 3 decision_table) = (asks _ _, (asks _ _, (asks _ _, (drops _ _ refl, (asks _ _, (asks _ _, authority)))))) in
+    (drops _ _ refl, ((λ s. faulty_ruled _ s), ((λ s. faulty_ruled _ s), arriving)))
 
 pub decision_ruled : (n : Network) (link : ℕ) (source : Underlay) (moment : ℕ) (bytes : List ℕ) → IsRuled (verdict n link source moment bytes)
 unfolding verdict

@@ -1,16 +1,15 @@
 -- What the decision has to do with the verdict of the table.
-use Rattle.std.proofs.Common.{◌≡◌, ◌⊎◌, inl, inr, ℕ, ◌<◌, ◌+◌, ◌*◌, ◌/◌, ◌%◌, ◌^◌, Bool, true, false, not, ◌&&◌, ◌||◌, ◌==◌, nat_lt, List, [], ◌∷◌, ◌++◌, length, drop, Option, Some, None, if◌then◌else◌, refl, sym, ap, subst, ◌∙◌, arith}
+use Rattle.std.proofs.Common.{◌≡◌, inl, inr, ℕ, ◌<◌, ◌+◌, ◌*◌, ◌^◌, Bool, true, false, not, ◌&&◌, nat_lt, List, ◌++◌, length, drop, Option, Some, None, if◌then◌else◌, refl, ap, subst, ◌∙◌, arith}
 use Rattle.std.specs.Option.{is_some, option_map}
 use Rattle.std.proofs.lemmas.Bool.{cases_Bool, eq-eqb, or_left, or_right}
 use Rattle.byteorder.specs.Numbers.{big_number-reads_back}
-use Rattle.field_rows.specs.Row.{field, number_of, rows}
 use Rattle.field_rows.specs.Place.{number_at}
 use Rattle.flow_key.specs.Flow.{is_high}
-use Rattle.pipe_order.specs.Rules.{Asks, Drops, Sends}
+use Rattle.pipe_order.specs.Rules.{Drops, Sends}
 use Rattle.process_packet.specs.Decide.{decision_of, decision_table, moved_by, verdict, verdict_of}
 use Rattle.process_packet.specs.Laws.{LeavesByItsEgress, LeftLawfully, NothingElseChanges, OnlyLawfulWays}
 use Rattle.process_packet.specs.Network.{Network, has_link, network, own_link}
-use Rattle.process_packet.specs.Rows.{Verdict, Sent, Answered, Dropped, Row, cause_of, ends_where, faulty, then_rows}
+use Rattle.process_packet.specs.Rows.{Verdict, Sent, Answered, Dropped, cause_of, ends_where, faulty, then_rows}
 use Rattle.process_packet.specs.Standing.{Standing, arrives, chained, egress, is_along, is_external, turned_back}
 use Rattle.process_packet.specs.declared.cause.Cause.{Cause}
 use Rattle.process_packet.specs.declared.cause.Cause.TheVariants as cause

@@ -1,15 +1,15 @@
 -- The router's rules are lawful.
-use Rattle.std.proofs.Common.{◌≡◌, ◌<◌, ℕ, ◌+◌, sym, subst, ap, ◌∙◌, arith}
+use Rattle.std.proofs.Common.{◌≡◌, ◌<◌, ℕ, sym, subst, ◌∙◌}
 use Rattle.std.proofs.Math.Nat.{mod-lt}
 use Rattle.pipe_order.specs.Item.{Arrival}
-use Rattle.pipe_order.specs.Rules.{IsLawful, Replies, Sends}
+use Rattle.pipe_order.specs.Rules.{Replies, Sends}
 use Rattle.process_packet.specs.Laws.{NothingElseChanges, OnlyLawfulWays}
 use Rattle.process_packet.specs.declared.config.Config.{Config}
 use Rattle.process_packet.specs.declared.decision.Problem.{Problem}
 use Rattle.router_rules.specs.Datagram.{Parcel}
 use Rattle.router_rules.specs.Laws.{AreLawful}
 use Rattle.router_rules.specs.Links.{link_count, link_index}
-use Rattle.router_rules.specs.Rules.{Arrives, decided, kinds, replied, rules}
+use Rattle.router_rules.specs.Rules.{Arrives, decided, kinds, replied}
 use Rattle.router_rules.proofs.DecisionLemmas.{keeps_band, leaves_by_link, refused_is_dropped}
 use Rattle.router_rules.proofs.FlowLemmas.{one_flow}
 use Rattle.router_rules.proofs.LinkLemmas.{index_within}

@@ -1,15 +1,15 @@
 -- The links by their ranks.
-use Rattle.std.proofs.Common.{◌≡◌, ◌⊎◌, inl, inr, ℕ, ◌<◌, ◌≤◌, Bool, true, false, not, ◌&&◌, ◌||◌, ◌==◌, nat_le, cond, List, [], ◌∷◌, ◌++◌, map, length, Option, Some, None, refl, sym, ap, subst, ◌∙◌, arith}
+use Rattle.std.proofs.Common.{◌≡◌, inl, inr, ℕ, ◌<◌, ◌≤◌, Bool, true, false, not, ◌&&◌, ◌||◌, ◌==◌, nat_le, cond, List, [], ◌∷◌, ◌++◌, map, Option, Some, None, refl, sym, ap, ◌∙◌, arith}
 use Rattle.std.specs.Option.{is_some, unwrap_or}
-use Rattle.std.specs.List.{find, list_all, list_any}
-use Rattle.std.proofs.lemmas.Bool.{and_from, and_parts, cases_Bool, cases_lt, cond-true, cond-false, eqb-true, eq-eqb, leb-true, lt-leb, ne_eqb, not_from_false, or_from, cases_eq}
+use Rattle.std.specs.List.{find, list_all}
+use Rattle.std.proofs.lemmas.Bool.{and_from, and_parts, cases_lt, cond-true, cond-false, eqb-true, eq-eqb, leb-true, ne_eqb, not_from_false, or_from, cases_eq}
 use Rattle.process_packet.specs.Neighbours.{are_distinct, has_port, is_link, link_id, sibling_id}
-use Rattle.process_packet.specs.Network.{has_link, network, own_link}
+use Rattle.process_packet.specs.Network.{has_link, network}
 use Rattle.process_packet.specs.declared.config.Config.{Config}
 use Rattle.process_packet.specs.declared.neighbours.Link.{Link}
 use Rattle.router_rules.specs.Laws.{StandInOrder}
 use Rattle.router_rules.specs.Links.{interface_at, interfaces, link_count, link_index, or_zero, rank}
-use Rattle.router_rules.proofs.RankLemmas.{Found, OfRank, fewer, found, has, member_below, no_fewer, none_below_zero, of_rank, same_rank}
+use Rattle.router_rules.proofs.RankLemmas.{Found, OfRank, found, has, member_below, no_fewer, none_below_zero, of_rank, same_rank}
 
 -- ---- the interfaces differ
 

@@ -1,5 +1,5 @@
 -- What the pipeline asks of the router: its decision, its answers, and the flows of its packets.
-use Rattle.std.specs.Prelude.{◌≡◌, ◌<◌, ℕ, Bool, true, false, not, ◌&&◌, ◌==◌, nat_lt, List, [], ◌∷◌, length, Option, Some, None, option_map, if◌then◌else◌}
+use Rattle.std.specs.Prelude.{◌≡◌, ◌<◌, ℕ, Bool, true, false, not, ◌&&◌, ◌==◌, nat_lt, List, [], ◌∷◌, length, Option, Some, option_map, if◌then◌else◌}
 use Rattle.flow_key.specs.Flow.{Flow, flow_at, is_high}
 use Rattle.flow_key.specs.Hash.{processor_of}
 use Rattle.pipe_order.specs.Item.{Arrival}

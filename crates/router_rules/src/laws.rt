@@ -1,4 +1,5 @@
-//! What is told of the router's rules as a whole: nothing here runs.
+//! What is told of the router's rules as a whole: nothing here runs. A law of the decision is called for
+//! what it says.
 
 ghost use Rattle.router_rules.specs.Laws.{AreLawful, LinksStandInOrder, OnlyRuledCauses};
 

@@ -4,6 +4,8 @@
 
 mod laws;
 mod links;
+#[cfg(test)]
+mod tests;
 
 pub use laws::{links_stand_in_order, only_ruled_causes, rules_are_lawful};
 pub use links::{has_two_bands, interface_at, link_count, link_index};

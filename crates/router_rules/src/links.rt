@@ -77,10 +77,7 @@ fn are_two(bands: Bands) -> bool
 fn external_has_two_bands(config: &Config, index: usize) -> bool
     ensures { result ≡ list_any (λ k. Rattle.router_rules.specs.Links.rank config.now k.id == index && are_two k.bands) config.now.links.items }
 {
-    config
-        .links
-        .iter()
-        .any(|link| rank(config, link.id) == index && are_two(link.bands))
+    config.links.iter().any(|link| rank(config, link.id) == index && are_two(link.bands))
 }
 
 /// Whether the link with this number has two bands.
