@@ -1,3 +1,5 @@
+ghost use Rattle.std.specs.Prelude.{◌≡◌, IfOk};
+
 use crate::outgoing::{Bytes, Outgoing};
 use crate::place::Place;
 use crate::step::{Queue, Step, Worker};
@@ -101,7 +103,9 @@ fn config(alloc: Global) -> Result<Config, AllocError> {
     })
 }
 
-fn arrival(alloc: Global, number: u64) -> Result<Arrival, AllocError> {
+fn arrival(alloc: Global, number: u64) -> Result<Arrival, AllocError>
+    ensures { IfOk result (λ x. (x.link ≡ 1) × (x.number ≡ number)) }
+{
     Ok(Arrival {
         link: 1,
         number,
