@@ -13,6 +13,7 @@ mod consumer;
 mod entry;
 mod gathered;
 mod notes;
+mod pace;
 mod pipe;
 mod producer;
 mod rule;
