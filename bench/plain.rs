@@ -111,17 +111,21 @@ fn meet(come: &AtomicUsize, count: usize) {
     }
 }
 
-/// Cuts the items into one list for each producer.
-fn sources<T>(mut items: Vec<T>, producers: usize) -> Vec<Vec<T>> {
+/// Takes the items out, into one list for each producer. What comes back goes into the list that they came in,
+/// whose memory the system has given already.
+fn sources<T>(items: &mut Vec<T>, producers: usize) -> Vec<Vec<T>> {
     let each = items.len() / producers;
-    (0..producers).map(|_| items.split_off(items.len() - each)).collect()
+    let take = |_| {
+        let mut source = Vec::with_capacity(each + 1);
+        source.extend((0..each).filter_map(|_| items.pop()));
+        source
+    };
+    (0..producers).map(take).collect()
 }
 
-fn round_queue<T: Send + 'static>(items: Vec<T>, producers: usize) -> (Vec<T>, u128) {
-    let count = items.len();
-    let mut kept = Vec::with_capacity(count);
+fn round_queue<T: Send + 'static>(mut kept: Vec<T>, producers: usize) -> (Vec<T>, u128) {
     let queue = Arc::new(ArrayQueue::new(CAPACITY));
-    let sources = sources(items, producers);
+    let sources = sources(&mut kept, producers);
     let sent: usize = sources.iter().map(Vec::len).sum();
     let come = Arc::new(AtomicUsize::new(0));
     let mut children = Vec::with_capacity(producers);
@@ -157,11 +161,9 @@ fn round_queue<T: Send + 'static>(items: Vec<T>, producers: usize) -> (Vec<T>, u
     (kept, spent)
 }
 
-fn round_mpsc<T: Send + 'static>(items: Vec<T>, producers: usize) -> (Vec<T>, u128) {
-    let count = items.len();
-    let mut kept = Vec::with_capacity(count);
+fn round_mpsc<T: Send + 'static>(mut kept: Vec<T>, producers: usize) -> (Vec<T>, u128) {
     let (to, from) = mpsc::sync_channel(CAPACITY);
-    let sources = sources(items, producers);
+    let sources = sources(&mut kept, producers);
     let sent: usize = sources.iter().map(Vec::len).sum();
     let come = Arc::new(AtomicUsize::new(0));
     let mut children = Vec::with_capacity(producers);

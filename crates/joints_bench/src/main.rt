@@ -86,8 +86,8 @@ fn take_all<T: Drop, R: Wait>(
     Ok(())
 }
 
-// Sends the items through a new pipe, by as many producers, and gives them back with the nanoseconds. The
-// clock starts once all threads run.
+// Sends the items through a new pipe, by as many producers, and gives them back with the nanoseconds, in the list that they
+// came in, whose memory the system has given already. The clock starts once all threads run.
 fn round<T, R>(rt: R, alloc: Global, items: Vec<T>, producers: usize) -> io::Result<(Vec<T>, u128)>
 where
     T: Drop + Send + 'static,
@@ -95,14 +95,13 @@ where
     requires { (0 < producers) × (producers ≤ 64) }
 {
     let count = items.len();
-    let mut kept = Vec::with_capacity(alloc, count)?;
-    let mut items = items;
+    let mut kept = items;
     let (_pipe, ends, mut consumer) = Pipe::<T>::new(alloc, CAPACITY, producers)?;
     let mut sources = Vec::with_capacity(alloc, producers)?;
     for _ in 0..producers {
         let mut source = Vec::with_capacity(alloc, count / producers + 1)?;
         for _ in 0..count / producers {
-            if let Some(item) = items.pop() {
+            if let Some(item) = kept.pop() {
                 source.push(item)?;
             }
         }

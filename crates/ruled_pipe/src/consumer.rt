@@ -41,8 +41,8 @@ impl<T> Model for Consumer<T> {
 
 impl<T: Drop> Consumer<T> {
     /// Takes the entry at the front. At `None` the queue was empty at one moment of the call, and the
-    /// look is noted. It takes no memory. Where it has long kept close behind the producers, it first
-    /// spins for a few microseconds at most, so that entries gather.
+    /// look is noted. It takes no memory. Where many looks in a row found an entry, and few are held, it
+    /// spins for some microseconds first, so that entries gather.
     pub fn take<R: Wait>(&mut self, rt: &R) -> Option<Entry<T>>
         ensures step { MatchOption result (self.new ≡ looked self.old) (λ e. self.new ≡ took self.old e) }
         ensures below { IfSome result (λ e. e.from < self.old.producers) }
@@ -59,7 +59,7 @@ impl<T: Drop> Consumer<T> {
     }
 }
 
-// Looks how many entries are held where the pace asks for it. It takes none.
+// Counts what is held where the pace asks for it, and waits a little where that is few. It takes nothing.
 fn keep_apart<T: Drop, R: Wait>(
     rt: &R,
     queue: &Arc<Queue<T>, Global>,

@@ -1,33 +1,32 @@
 //! How far a consumer keeps behind its producers.
 //!
-//! A slot and its stamp lie on cache lines that hold the neighbouring ones too. A consumer that takes each entry the moment
-//! it is there, and a producer that writes the next one meanwhile, take these lines from one another at
-//! each entry, and both then run at a fraction of their speed. They stay in step, since neither finds the pipe
-//! empty or full. So a consumer that has found an entry at each of many looks, and sees few held, waits a little.
+//! Slots lie side by side, and so do their stamps. A consumer that takes each entry as soon as it is there
+//! therefore takes cache lines from the producer that is writing the next one, and the producer takes them back: each entry
+//! then costs both of them several times what it costs where they are apart. They stay in step so, since neither
+//! finds the pipe empty or full. So a consumer that has taken many in a row counts what is held now and then, and
+//! where that is few it waits a little. After an empty look it doesn't, so that a rare entry is taken at once.
 use std::hint;
 
-/// After so many looks in a row that found an entry, it is minded how many are held.
-const RUN: usize = 32;
+/// So many looks in a row find an entry before what is held is counted, and as many at least between two counts.
+const APART: usize = 32;
 
-/// Fewer than these are few.
-const FEW: usize = 32;
-
-/// How often it spins where few are held: a few microseconds.
+/// How often it spins where fewer than `APART` are held. That takes a few microseconds at most.
 const SPINS: u32 = 64;
 
-/// What a consumer knows of its distance. It changes no answer.
+/// When a consumer next counts what is held. It changes no answer.
 #[derive(Clone, Copy)]
 pub(crate) struct Pace {
-    // how many looks come before the next count
+    // how many looks come before that
     left: usize,
 }
 
 impl Pace {
+    /// That of a consumer which has just begun, or which has just found nothing.
     pub(crate) fn new() -> Pace {
-        Pace { left: RUN }
+        Pace { left: APART }
     }
 
-    /// One more look comes. Whether to count what is held before it.
+    /// Whether what is held is to be counted before the look that comes.
     pub(crate) fn asks(&mut self) -> bool {
         if self.left > 0 {
             self.left -= 1;
@@ -36,13 +35,13 @@ impl Pace {
         true
     }
 
-    /// So many are held.
+    /// So many are held. Where these are few it spins, so that more gather.
     pub(crate) fn keep(&mut self, held: usize) {
-        if held < FEW {
+        if held < APART {
             for _ in 0..SPINS {
                 hint::spin_loop();
             }
         }
-        self.left = held.max(FEW) - 1;
+        self.left = held.max(APART) - 1;
     }
 }
