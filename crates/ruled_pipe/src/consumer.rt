@@ -8,7 +8,7 @@ ghost use Rattle.ruled_pipe.specs.Consumer.{looked, new_taker, took};
 
 use crate::entry::Entry;
 use crate::notes::{Added, Notes};
-use crate::pace::Pace;
+use crate::pace::{Pace, ROOM};
 use crate::rule::{Queue, Seat, Takes};
 use std::alloc::{AllocError, Global};
 use std::marker::{Brand, Model};
@@ -69,6 +69,9 @@ fn keep_apart<T: Drop, R: Wait>(
     requires { IsPassOf (arc_value queue.now) seat.old × (n p : ℕ) × (known_by seat.old ≡ consumer p (size_of n p) (known_by seat.old).taken []) }
     ensures { IsSamePass seat.old seat.new × (known_by seat.new ≡ known_by seat.old) }
 {
+    if queue.capacity() < ROOM {
+        return;
+    }
     if pace.asks() {
         let held = queue.len_as::<Takes, R>(rt, seat);
         pace.keep(held);

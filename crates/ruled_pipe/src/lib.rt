@@ -7,7 +7,7 @@
 //! nothing. These lists exist in proofs alone. Each call makes one step of the queue, and `offer`,
 //! `mark`, `take` and `gather` take no memory; the first three may spin while another thread is inside
 //! a call, and wait for no room and no item. A `take` of many in a row with few held spins for some
-//! microseconds first, and then does what it would have done.
+//! microseconds first, in a pipe for 512 or more, and then does what it would have done.
 #![tactic(auto)]
 
 mod consumer;

@@ -10,8 +10,11 @@ use std::hint;
 /// So many looks in a row find an entry before what is held is counted, and as many at least between two counts.
 const APART: usize = 32;
 
-/// How often it spins where fewer than `APART` are held. That takes a few microseconds at most.
-const SPINS: u32 = 64;
+/// How often it spins where fewer than `APART` are held. That takes some microseconds.
+const SPINS: u32 = 256;
+
+/// In a pipe for fewer than this it never waits: the producers could have filled it long before.
+pub(crate) const ROOM: usize = 512;
 
 /// When a consumer next counts what is held. It changes no answer.
 #[derive(Clone, Copy)]
