@@ -1,5 +1,6 @@
 //! Plain Rust beside the ruled pipe: `plain mpsc|queue word|buffer PRODUCERS` prints the tenths of a
-//! nanosecond that one item took. Rounds, counts and sizes are those of `crates/joints_bench`.
+//! nanosecond that one item took in the middle one of its rounds. Rounds, counts, sizes and the way of
+//! waiting are those of `crates/joints_bench`.
 use std::cell::UnsafeCell;
 use std::mem::MaybeUninit;
 use std::sync::atomic::{AtomicUsize, Ordering};
@@ -9,7 +10,7 @@ use std::time::Instant;
 
 const CAPACITY: usize = 1024;
 const ITEMS: usize = 8192;
-const ROUNDS: u32 = 60;
+const ROUNDS: usize = 61;
 const BUFFER: usize = 9217;
 
 /// Alone on its cache lines.
@@ -84,36 +85,74 @@ impl<T> ArrayQueue<T> {
     }
 }
 
-/// Cuts the items into one list for each producer.
-fn sources<T>(mut items: Vec<T>, producers: usize) -> Vec<Vec<T>> {
-    let each = items.len() / producers;
-    (0..producers).map(|_| items.split_off(items.len() - each)).collect()
+/// Waits between looks as crossbeam's `Backoff::snooze` does, which the pipe's side uses.
+struct Backoff(u32);
+
+impl Backoff {
+    fn snooze(&mut self) {
+        if self.0 <= 6 {
+            for _ in 0..1u32 << self.0 {
+                std::hint::spin_loop();
+            }
+        } else {
+            thread::yield_now();
+        }
+        if self.0 <= 10 {
+            self.0 += 1;
+        }
+    }
 }
 
-fn round_queue<T: Send + 'static>(items: Vec<T>, producers: usize) -> (Vec<T>, u128) {
-    let count = items.len();
-    let mut kept = Vec::with_capacity(count);
+/// Waits until so many threads have come, so that they run side by side from the first item on.
+fn meet(come: &AtomicUsize, count: usize) {
+    come.fetch_add(1, Ordering::SeqCst);
+    while come.load(Ordering::SeqCst) < count {
+        std::hint::spin_loop();
+    }
+}
+
+/// Takes the items out, into one list for each producer. What comes back goes into the list that they came in,
+/// whose memory the system has given already.
+fn sources<T>(items: &mut Vec<T>, producers: usize) -> Vec<Vec<T>> {
+    let each = items.len() / producers;
+    let take = |_| {
+        let mut source = Vec::with_capacity(each + 1);
+        source.extend((0..each).filter_map(|_| items.pop()));
+        source
+    };
+    (0..producers).map(take).collect()
+}
+
+fn round_queue<T: Send + 'static>(mut kept: Vec<T>, producers: usize) -> (Vec<T>, u128) {
     let queue = Arc::new(ArrayQueue::new(CAPACITY));
-    let sources = sources(items, producers);
+    let sources = sources(&mut kept, producers);
     let sent: usize = sources.iter().map(Vec::len).sum();
-    let start = Instant::now();
+    let come = Arc::new(AtomicUsize::new(0));
     let mut children = Vec::with_capacity(producers);
     for source in sources {
-        let queue = Arc::clone(&queue);
+        let (queue, come) = (Arc::clone(&queue), Arc::clone(&come));
         children.push(thread::spawn(move || {
+            meet(&come, producers + 1);
             for mut item in source {
+                let mut backoff = Backoff(0);
                 while let Err(back) = queue.push(item) {
                     item = back;
-                    thread::yield_now();
+                    backoff.snooze();
                 }
             }
         }));
     }
+    meet(&come, producers + 1);
+    let start = Instant::now();
     while kept.len() < sent {
-        match queue.pop() {
-            Some(item) => kept.push(item),
-            None => thread::yield_now(),
-        }
+        let mut backoff = Backoff(0);
+        let item = loop {
+            match queue.pop() {
+                Some(item) => break item,
+                None => backoff.snooze(),
+            }
+        };
+        kept.push(item);
     }
     let spent = start.elapsed().as_nanos();
     for child in children {
@@ -122,22 +161,23 @@ fn round_queue<T: Send + 'static>(items: Vec<T>, producers: usize) -> (Vec<T>, u
     (kept, spent)
 }
 
-fn round_mpsc<T: Send + 'static>(items: Vec<T>, producers: usize) -> (Vec<T>, u128) {
-    let count = items.len();
-    let mut kept = Vec::with_capacity(count);
+fn round_mpsc<T: Send + 'static>(mut kept: Vec<T>, producers: usize) -> (Vec<T>, u128) {
     let (to, from) = mpsc::sync_channel(CAPACITY);
-    let sources = sources(items, producers);
+    let sources = sources(&mut kept, producers);
     let sent: usize = sources.iter().map(Vec::len).sum();
-    let start = Instant::now();
+    let come = Arc::new(AtomicUsize::new(0));
     let mut children = Vec::with_capacity(producers);
     for source in sources {
-        let to = to.clone();
+        let (to, come) = (to.clone(), Arc::clone(&come));
         children.push(thread::spawn(move || {
+            meet(&come, producers + 1);
             for item in source {
                 to.send(item).unwrap();
             }
         }));
     }
+    meet(&come, producers + 1);
+    let start = Instant::now();
     while kept.len() < sent {
         kept.push(from.recv().unwrap());
     }
@@ -149,14 +189,14 @@ fn round_mpsc<T: Send + 'static>(items: Vec<T>, producers: usize) -> (Vec<T>, u1
 }
 
 fn tenths<T: Send + 'static>(round: fn(Vec<T>, usize) -> (Vec<T>, u128), mut items: Vec<T>, producers: usize) -> u128 {
-    let (mut spent, mut passed) = (0, 0);
+    let mut figures = Vec::with_capacity(ROUNDS);
     for _ in 0..ROUNDS {
         let (kept, nanos) = round(items, producers);
-        passed += kept.len() as u128;
-        spent += nanos;
+        figures.push(nanos * 10 / (kept.len() as u128).max(1));
         items = kept;
     }
-    spent * 10 / passed.max(1)
+    figures.sort();
+    figures[ROUNDS / 2]
 }
 
 fn main() {

@@ -1,13 +1,14 @@
 //! The consumer's end.
 
-ghost use Rattle.std.specs.Prelude.{◌≡◌, ◌<◌, ◌++◌, ◌∷◌, [], IfOk, IfSome, MatchOption, length};
+ghost use Rattle.std.specs.Prelude.{◌≡◌, ℕ, ◌<◌, ◌++◌, ◌∷◌, [], IfOk, IfSome, MatchOption, length};
 ghost use Rattle.std.specs.Arc.{arc_value};
-ghost use Rattle.crossbeam_queue.specs.Passes.{IsPassOf, ruled_capacity};
+ghost use Rattle.crossbeam_queue.specs.Passes.{IsPassOf, IsSamePass, ruled_capacity};
 ghost use Rattle.ruled_pipe.specs.Rule.{known_by, consumer, size_of};
 ghost use Rattle.ruled_pipe.specs.Consumer.{looked, new_taker, took};
 
 use crate::entry::Entry;
 use crate::notes::{Added, Notes};
+use crate::pace::{Pace, ROOM};
 use crate::rule::{Queue, Seat, Takes};
 use std::alloc::{AllocError, Global};
 use std::marker::{Brand, Model};
@@ -20,6 +21,7 @@ pub struct Consumer<T> {
     pub(crate) queue: Arc<Queue<T>, Global>,
     pub(crate) seat: Seat<T>,
     pub(crate) looks: Notes<usize>,
+    pub(crate) pace: Pace,
     pub(crate) producers: usize,
 }
 
@@ -39,18 +41,40 @@ impl<T> Model for Consumer<T> {
 
 impl<T: Drop> Consumer<T> {
     /// Takes the entry at the front. At `None` the queue was empty at one moment of the call, and the
-    /// look is noted. It takes no memory.
+    /// look is noted. It takes no memory. Where many looks in a row found an entry, and few are held, it
+    /// spins for some microseconds first, so that entries gather.
     pub fn take<R: Wait>(&mut self, rt: &R) -> Option<Entry<T>>
         ensures step { MatchOption result (self.new ≡ looked self.old) (λ e. self.new ≡ took self.old e) }
         ensures below { IfSome result (λ e. e.from < self.old.producers) }
     {
+        keep_apart(rt, &self.queue, &mut self.seat, &mut self.pace);
         match self.queue.pop_as::<Takes, R>(rt, &mut self.seat) {
             Some(entry) => Some(entry),
             None => {
+                self.pace = Pace::new();
                 note_look::<T, Brand, R>(rt, &mut self.looks, &self.seat);
                 None
             }
         }
+    }
+}
+
+// Counts what is held where the pace asks for it, and waits a little where that is few. It takes nothing.
+fn keep_apart<T: Drop, R: Wait>(
+    rt: &R,
+    queue: &Arc<Queue<T>, Global>,
+    seat: &mut Seat<T>,
+    pace: &mut Pace,
+)
+    requires { IsPassOf (arc_value queue.now) seat.old × (n p : ℕ) × (known_by seat.old ≡ consumer p (size_of n p) (known_by seat.old).taken []) }
+    ensures { IsSamePass seat.old seat.new × (known_by seat.new ≡ known_by seat.old) }
+{
+    if queue.capacity() < ROOM {
+        return;
+    }
+    if pace.asks() {
+        let held = queue.len_as::<Takes, R>(rt, seat);
+        pace.keep(held);
     }
 }
 
@@ -78,6 +102,7 @@ pub(crate) fn consumer_of<T: Drop>(
         queue,
         seat,
         looks,
+        pace: Pace::new(),
         producers,
     })
 }

@@ -61,6 +61,7 @@ impl<T: Drop> Pipe<T> {
             queue: _,
             mut seat,
             looks: _,
+            pace: _,
             producers: _,
         } = consumer;
         let queue: &Queue<T> = &self.queue;
