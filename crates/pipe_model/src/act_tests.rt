@@ -119,12 +119,7 @@ fn state(alloc: Global, config: &Config) -> Result<State, Fail> {
 }
 
 /// Makes a step; where an allocation failed it makes the step once more, since the state is as it was.
-fn made(
-    state: &mut State,
-    alloc: Global,
-    config: &Config,
-    step: Step,
-) -> Result<(), StepFault> {
+fn made(state: &mut State, alloc: Global, config: &Config, step: Step) -> Result<(), StepFault> {
     match state.step(alloc, config, step) {
         Err(StepFault::NoMemory) => state.step(alloc, config, step),
         first => first,
@@ -230,7 +225,12 @@ fn steps_in_turn(rt: HostRuntime) -> Result<(), Fail> {
         return Err(Fail::new("one packet was sent"));
     };
     assert_eq!(rt;
-        (outgoing.arrived, outgoing.number, outgoing.answer, outgoing.to),
+        (
+            outgoing.arrived,
+            outgoing.number,
+            outgoing.answer,
+            outgoing.to
+        ),
         (1, 1, false, None)
     );
     assert!(rt; is_what_leaves(bytes.as_slice()));

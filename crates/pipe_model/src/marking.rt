@@ -46,14 +46,20 @@ impl State {
                 Some(_) => false,
             },
             Actor::Processor(_) => self.pipes.ends_taken(worker.seat(config)) == link_count(config),
-            Actor::Slow => self.pipes.ends_taken(worker.seat(config)) == usize::from(config.processors),
+            Actor::Slow => self.pipes.ends_taken(worker.seat(config))
+                == usize::from(config.processors),
             Actor::Forwarder(_) => false,
             Actor::Controller => true,
         }
     }
 
     /// A worker pushes its end mark.
-    pub(crate) fn end_mark(&mut self, config: &Config, worker: Actor, channel: Channel) -> Result<(), StepFault>
+    pub(crate) fn end_mark(
+        &mut self,
+        config: &Config,
+        worker: Actor,
+        channel: Channel,
+    ) -> Result<(), StepFault>
         ensures ok { OnOk result (next (rules config.now) self.old (Step.End (worker_of worker) (queue_of channel)) ≡ Some self.new) }
         ensures not_now { IsErrOf result StepFault.NotNow ↔ (next (rules config.now) self.old (Step.End (worker_of worker) (queue_of channel)) ≡ None) }
         ensures err { OnErr result (self.new ≡ self.old) }

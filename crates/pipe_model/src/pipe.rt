@@ -62,11 +62,7 @@ impl Pipe {
     }
 
     /// What arrives on a link, with nothing of it received.
-    pub fn of_arrivals(
-        alloc: Global,
-        link: usize,
-        arrivals: Vec<Arrival>,
-    ) -> Result<Pipe, NoMemory>
+    pub fn of_arrivals(alloc: Global, link: usize, arrivals: Vec<Arrival>) -> Result<Pipe, NoMemory>
         ensures { IfOk result (λ pipe. pipe ≡ source link arrivals.items) }
     {
         let mut pipe = Pipe::new(alloc, 0);
@@ -169,9 +165,7 @@ impl Pipe {
     pub fn has_end_of(&self, worker: Actor) -> bool
         ensures { result ≡ has_end_of (worker_of worker) self.now }
     {
-        self.history
-            .iter()
-            .any(|entry| entry.is_end_of(worker))
+        self.history.iter().any(|entry| entry.is_end_of(worker))
     }
 }
 

@@ -15,7 +15,12 @@ use std::alloc::Global;
 
 impl State {
     /// Makes a step, if it is possible.
-    pub(crate) fn step(&mut self, alloc: Global, config: &Config, step: Step) -> Result<(), StepFault>
+    pub(crate) fn step(
+        &mut self,
+        alloc: Global,
+        config: &Config,
+        step: Step,
+    ) -> Result<(), StepFault>
         ensures ok { OnOk result (next (rules config.now) self.old (step_in config.now step) ≡ Some self.new) }
         ensures not_now { IsErrOf result StepFault.NotNow ↔ (next (rules config.now) self.old (step_in config.now step) ≡ None) }
         ensures err { OnErr result (self.new ≡ self.old) }
