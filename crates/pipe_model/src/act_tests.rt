@@ -89,6 +89,99 @@ fn config(alloc: Global) -> Result<Config, AllocError> {
     })
 }
 
+/// The first packet goes to the processor of its flow, the second waits behind it.
+const TO_ITS_PROCESSOR: [(Step, Result<(), StepFault>); 10] = [
+    (Step::Offer(RECEIVER), NOT),
+    (Step::Receive(1), DONE),
+    (Step::Receive(1), NOT),
+    (Step::Offer(RECEIVER), DONE),
+    (Step::Receive(1), DONE),
+    (Step::Offer(RECEIVER), NOT),
+    (Step::Take(TO_PROCESSOR), DONE),
+    (Step::Take(TO_PROCESSOR), NOT),
+    (Step::Offer(RECEIVER), DONE),
+    (Step::Refuse(RECEIVER), NOT),
+];
+
+/// The third is dropped as it comes, the fourth at a full pipe, the fifth for want of a buffer.
+const DROPPED: [(Step, Result<(), StepFault>); 6] = [
+    (Step::Receive(1), DONE),
+    (Step::Receive(1), DONE),
+    (Step::Refuse(RECEIVER), DONE),
+    (Step::Receive(1), DONE),
+    (Step::NoBuffer(1), DONE),
+    (Step::NoBuffer(1), NOT),
+];
+
+/// The first leaves by the low pipe of a link with two bands.
+const SENT: [(Step, Result<(), StepFault>); 13] = [
+    (Step::Route(0), DONE),
+    (Step::Route(0), NOT),
+    (Step::Route(1), NOT),
+    (Step::Route(2), NOT),
+    (Step::Refuse(PROCESSOR), NOT),
+    (Step::Offer(PROCESSOR), DONE),
+    (Step::Take(ON), NOT),
+    (Step::Look(1), NOT),
+    (Step::Look(2), DONE),
+    (Step::Take(ON), DONE),
+    (Step::Look(2), NOT),
+    (Step::Send(2, true), DONE),
+    (Step::Send(2, true), NOT),
+];
+
+/// The second is answered, and the answer is not sent.
+const ANSWERED: [(Step, Result<(), StepFault>); 10] = [
+    (Step::Take(TO_PROCESSOR), DONE),
+    (Step::Route(0), DONE),
+    (Step::Offer(PROCESSOR), DONE),
+    (Step::Answer, NOT),
+    (Step::Take(Queue::Of(Worker::Slow)), DONE),
+    (Step::Answer, DONE),
+    (Step::Lack(Worker::Slow), NOT),
+    (Step::Offer(Worker::Slow), DONE),
+    (Step::Take(BACK), DONE),
+    (Step::Send(1, false), DONE),
+];
+
+/// The sixth finds no memory.
+const WITHOUT_MEMORY: [(Step, Result<(), StepFault>); 8] = [
+    (Step::EndMark(RECEIVER, TO_PROCESSOR), NOT),
+    (Step::Receive(1), DONE),
+    (Step::Receive(1), NOT),
+    (Step::Offer(RECEIVER), DONE),
+    (Step::Take(TO_PROCESSOR), DONE),
+    (Step::Lack(RECEIVER), NOT),
+    (Step::Lack(PROCESSOR), DONE),
+    (Step::Lack(PROCESSOR), NOT),
+];
+
+/// A link is closed, and what stands behind the mark is swept.
+const CLOSED: [(Step, Result<(), StepFault>); 13] = [
+    (Step::CloseMark(TO_PROCESSOR), NOT),
+    (Step::CloseMark(BACK), DONE),
+    (Step::CloseMark(BACK), NOT),
+    (Step::Sweep(BACK), NOT),
+    (Step::Take(BACK), DONE),
+    (Step::Sweep(BACK), NOT),
+    (Step::EndMark(RECEIVER, BACK), NOT),
+    (Step::EndMark(Worker::Controller, BACK), DONE),
+    (Step::EndMark(Worker::Controller, BACK), NOT),
+    (Step::Take(BACK), NOT),
+    (Step::Sweep(BACK), DONE),
+    (Step::EndMark(RECEIVER, TO_PROCESSOR), DONE),
+    (Step::EndMark(PROCESSOR, Queue::Of(Worker::Slow)), NOT),
+];
+
+/// What isn't there.
+const NOT_THERE: [(Step, Result<(), StepFault>); 5] = [
+    (Step::Receive(3), NOT),
+    (Step::Take(Queue::High(1)), NOT),
+    (Step::Take(Queue::High(2)), NOT),
+    (Step::Offer(Worker::Processor(2)), NOT),
+    (Step::Send(9, true), NOT),
+];
+
 fn arrival(alloc: Global, number: u64, now: u64, bytes: &[u8]) -> Result<Arrival, AllocError> {
     Ok(Arrival {
         link: 1,
@@ -126,6 +219,21 @@ fn made(state: &mut State, alloc: Global, config: &Config, step: Step) -> Result
     }
 }
 
+/// Makes steps, and says whether each was made or not as it is told there.
+fn are_made(
+    state: &mut State,
+    alloc: Global,
+    config: &Config,
+    rows: &[(Step, Result<(), StepFault>)],
+) -> bool {
+    for (step, wanted) in rows {
+        if made(state, alloc, config, *step) != *wanted {
+            return false;
+        }
+    }
+    true
+}
+
 /// Whether these are the bytes with which the datagram leaves by link 2.
 fn is_what_leaves(bytes: &[u8]) -> bool {
     let mut wanted = DATAGRAM;
@@ -141,83 +249,17 @@ fn is_what_leaves(bytes: &[u8]) -> bool {
 fn steps_in_turn(rt: HostRuntime) -> Result<(), Fail> {
     let config = config(rt.alloc())?;
     let mut state = state(rt.alloc(), &config)?;
-    let rows = [
-        // the first packet goes to the processor of its flow, the second waits behind it
-        (Step::Offer(RECEIVER), NOT),
-        (Step::Receive(1), DONE),
-        (Step::Receive(1), NOT),
-        (Step::Offer(RECEIVER), DONE),
-        (Step::Receive(1), DONE),
-        (Step::Offer(RECEIVER), NOT),
-        (Step::Take(TO_PROCESSOR), DONE),
-        (Step::Take(TO_PROCESSOR), NOT),
-        (Step::Offer(RECEIVER), DONE),
-        (Step::Refuse(RECEIVER), NOT),
-        // the third is dropped as it comes, the fourth at a full pipe, the fifth for want of a buffer
-        (Step::Receive(1), DONE),
-        (Step::Receive(1), DONE),
-        (Step::Refuse(RECEIVER), DONE),
-        (Step::Receive(1), DONE),
-        (Step::NoBuffer(1), DONE),
-        (Step::NoBuffer(1), NOT),
-        // the first leaves by the low pipe of a link with two bands
-        (Step::Route(0), DONE),
-        (Step::Route(0), NOT),
-        (Step::Route(1), NOT),
-        (Step::Route(2), NOT),
-        (Step::Refuse(PROCESSOR), NOT),
-        (Step::Offer(PROCESSOR), DONE),
-        (Step::Take(ON), NOT),
-        (Step::Look(1), NOT),
-        (Step::Look(2), DONE),
-        (Step::Take(ON), DONE),
-        (Step::Look(2), NOT),
-        (Step::Send(2, true), DONE),
-        (Step::Send(2, true), NOT),
-        // the second is answered, and the answer is not sent
-        (Step::Take(TO_PROCESSOR), DONE),
-        (Step::Route(0), DONE),
-        (Step::Offer(PROCESSOR), DONE),
-        (Step::Answer, NOT),
-        (Step::Take(Queue::Of(Worker::Slow)), DONE),
-        (Step::Answer, DONE),
-        (Step::Lack(Worker::Slow), NOT),
-        (Step::Offer(Worker::Slow), DONE),
-        (Step::Take(BACK), DONE),
-        (Step::Send(1, false), DONE),
-        // the sixth finds no memory
-        (Step::EndMark(RECEIVER, TO_PROCESSOR), NOT),
-        (Step::Receive(1), DONE),
-        (Step::Receive(1), NOT),
-        (Step::Offer(RECEIVER), DONE),
-        (Step::Take(TO_PROCESSOR), DONE),
-        (Step::Lack(RECEIVER), NOT),
-        (Step::Lack(PROCESSOR), DONE),
-        (Step::Lack(PROCESSOR), NOT),
-        // a link is closed, and what stands behind the mark is swept
-        (Step::CloseMark(TO_PROCESSOR), NOT),
-        (Step::CloseMark(BACK), DONE),
-        (Step::CloseMark(BACK), NOT),
-        (Step::Sweep(BACK), NOT),
-        (Step::Take(BACK), DONE),
-        (Step::Sweep(BACK), NOT),
-        (Step::EndMark(RECEIVER, BACK), NOT),
-        (Step::EndMark(Worker::Controller, BACK), DONE),
-        (Step::EndMark(Worker::Controller, BACK), NOT),
-        (Step::Take(BACK), NOT),
-        (Step::Sweep(BACK), DONE),
-        (Step::EndMark(RECEIVER, TO_PROCESSOR), DONE),
-        (Step::EndMark(PROCESSOR, Queue::Of(Worker::Slow)), NOT),
-        // what isn't there
-        (Step::Receive(3), NOT),
-        (Step::Take(Queue::High(1)), NOT),
-        (Step::Take(Queue::High(2)), NOT),
-        (Step::Offer(Worker::Processor(2)), NOT),
-        (Step::Send(9, true), NOT),
+    let turns = [
+        TO_ITS_PROCESSOR.as_slice(),
+        DROPPED.as_slice(),
+        SENT.as_slice(),
+        ANSWERED.as_slice(),
+        WITHOUT_MEMORY.as_slice(),
+        CLOSED.as_slice(),
+        NOT_THERE.as_slice(),
     ];
-    for (i, (step, wanted)) in rows.iter().enumerate() {
-        let done = made(&mut state, rt.alloc(), &config, *step);
-        assert_eq!(rt; done, *wanted, "step {i}: {step:?}");
+    for rows in turns {
+        assert!(rt; are_made(&mut state, rt.alloc(), &config, rows));
     }
     assert_eq!(rt; state.fates.len(), 5);
     assert_eq!(rt; state.sent.on(1).len(), 0);
