@@ -1,5 +1,5 @@
 -- What a pipe keeps, as its history grows and is taken.
-use Rattle.std.proofs.Common.{◌≡◌, ℕ, zero, suc, ◌+◌, ◌≤◌, ◌<◌, Bool, true, false, ◌||◌, if◌then◌else◌, cond, List, [], ◌∷◌, ◌++◌, length, take, refl, sym, ◌∙◌, ap, arith, slice_get, slice_index_or}
+use Rattle.std.proofs.Common.{◌≡◌, ℕ, zero, suc, ◌+◌, ◌≤◌, ◌<◌, Bool, true, false, ◌||◌, if◌then◌else◌, List, [], ◌∷◌, ◌++◌, length, take, refl, sym, ◌∙◌, ap, arith, slice_get, slice_index_or}
 use Rattle.std.specs.Prelude.{IsSome}
 use Rattle.pipe_order.specs.Item.{Item, ends, has_close, is_close, is_end}
 use Rattle.pipe_order.specs.Pipe.{Entry, items}

@@ -1,11 +1,11 @@
 -- The first place at which a packet stands, looked for along the hands, the pipes and the fates.
-use Rattle.std.proofs.Common.{◌≡◌, ℕ, ◌+◌, ◌<◌, ◌≤◌, Bool, true, false, cond, ◌||◌, List, [], ◌∷◌, ◌++◌, length, drop, get_or, refl, sym, ◌∙◌, ap, arith}
-use Rattle.std.specs.Prelude.{Option, Some, None, option_map}
+use Rattle.std.proofs.Common.{◌≡◌, ℕ, ◌+◌, ◌<◌, ◌≤◌, Bool, true, false, cond, ◌||◌, List, [], ◌∷◌, ◌++◌, length, drop, get_or, refl, ◌∙◌, ap, arith}
+use Rattle.std.specs.Prelude.{Some, None, option_map}
 use Rattle.std.specs.Option.{option_or}
 use Rattle.std.specs.List.{flat_map}
 use Rattle.std.proofs.lemmas.List.{at_drop_all, at_drop_more, drop-map, drop_more}
 use Rattle.pipe_order.specs.Item.{Item, Outgoing, is_named}
-use Rattle.pipe_order.specs.Pipe.{Entry, Pipe, empty_pipe, items}
+use Rattle.pipe_order.specs.Pipe.{Entry, Pipe, items}
 use Rattle.pipe_order.specs.Place.{Place, InHand, Dropped, here_if, in_fates, in_hands, in_pipe, in_pipes, in_sent, place_at, worker_at}
 use Rattle.pipe_order.specs.Rules.{Rules}
 use Rattle.pipe_order.specs.World.{Fate, Hand, Empty, Got, Owes}
@@ -70,12 +70,12 @@ module _ (R : Rules kinds) (named : ℕ → ℕ → Bool) where
       let next : a + i + 1 ≡ a + (i + 1) = omega arith in
       at_drop_more (λ xs. first (in_pipes R named (a + i) xs)) ps i d h
       ∙ (
-        pipe_first (a + i) (get_or ps i d) (drop (i + 1) ps)
-        ∙ (
-          ap (λ (v : Bool). cond v (Some (place_at R (a + i))) (first (in_pipes R named (a + i + 1) (drop (i + 1) ps)))) e
-          ∙ ap (λ (k : ℕ). cond b (Some (place_at R (a + i))) (first (in_pipes R named k (drop (i + 1) ps)))) next
-          )
-        )
+      pipe_first (a + i) (get_or ps i d) (drop (i + 1) ps)
+      ∙ (
+      ap (λ (v : Bool). cond v (Some (place_at R (a + i))) (first (in_pipes R named (a + i + 1) (drop (i + 1) ps)))) e
+      ∙ ap (λ (k : ℕ). cond b (Some (place_at R (a + i))) (first (in_pipes R named k (drop (i + 1) ps)))) next
+      )
+      )
 
   pub pipes_end : (ps : List (Pipe kinds)) (q i : ℕ) → length ps ≤ i → first (in_pipes R named q (drop i ps)) ≡ None
   pipes_end ps q i h = at_drop_all (λ xs. first (in_pipes R named q xs)) ps i h
@@ -103,9 +103,9 @@ module _ (named : ℕ → ℕ → Bool) where
       let rest = in_sent named (joined (drop (i + 1) ws) (drop (i + 1) es)) in
       ap (λ (xs : List Way). first (in_sent named (joined xs (drop i es)))) (drop_more ws i w h)
       ∙ (
-        ap (λ (xs : List (Left × List ℕ)). first (in_sent named (joined (get_or ws i w ∷ drop (i + 1) ws) xs))) (drop_more es i e (omega arith))
-        ∙ (ap (λ (v : Bool). first (here_if v at ++ rest)) same ∙ go at rest b)
-        )
+      ap (λ (xs : List (Left × List ℕ)). first (in_sent named (joined (get_or ws i w ∷ drop (i + 1) ws) xs))) (drop_more es i e (omega arith))
+      ∙ (ap (λ (v : Bool). first (here_if v at ++ rest)) same ∙ go at rest b)
+      )
     where
       go : (at : Place kinds) (rest : List (Place kinds)) (v : Bool) → first (here_if v at ++ rest) ≡ cond v (Some at) (first rest)
       go at rest true = refl

@@ -1,5 +1,5 @@
 -- What is kept of what was sent.
-use Rattle.std.proofs.Common.{◌≡◌, ℕ, suc, List, [], ◌∷◌, ◌++◌, map, length, if◌then◌else◌, Bool, true, refl, sym, ap, ◌∙◌, arith}
+use Rattle.std.proofs.Common.{◌≡◌, ℕ, List, [], ◌∷◌, ◌++◌, map, length, if◌then◌else◌, Bool, true, refl, ap, ◌∙◌, arith}
 use Rattle.pipe_order.specs.Item.{Outgoing}
 use Rattle.router_rules.specs.Rules.{kinds}
 use Rattle.pipe_model.specs.Sent.{joined, rejoined}

@@ -1,16 +1,15 @@
 -- A pipeline before its first step.
-use Rattle.std.proofs.Common.{◌≡◌, ℕ, zero, suc, ◌+◌, ◌*◌, ◌<◌, List, [], ◌∷◌, ◌++◌, map, replicate, length, get_or, refl, sym, subst, ap, ◌∙◌, arith}
+use Rattle.std.proofs.Common.{◌≡◌, ℕ, zero, suc, ◌+◌, ◌*◌, ◌<◌, List, [], ◌∷◌, ◌++◌, map, replicate, length, get_or, refl, subst, ap, ◌∙◌, arith}
 use Rattle.std.specs.List.{Contains}
 use Rattle.std.specs.declared.alloc.Global.{Global}
 use Rattle.std.specs.declared.vec.Vec.{Vec}
 use Rattle.pipe_order.specs.Item.{Arrival, Arrived, Item}
 use Rattle.pipe_order.specs.Pipe.{Pipe, empty_pipe, items}
 use Rattle.pipe_order.specs.Start.{AreSources, HasArrival, Numbered, first_world}
-use Rattle.pipe_order.specs.World.{World}
 use Rattle.pipe_order.proofs.Begins.{begins}
 use Rattle.process_packet.specs.declared.arrival.Arrival.{Arrival as Came}
 use Rattle.process_packet.specs.declared.config.Config.{Config}
-use Rattle.router_rules.specs.Links.{link_count, link_index}
+use Rattle.router_rules.specs.Links.{link_index}
 use Rattle.router_rules.specs.Rules.{Arrives, kinds, rules}
 use Rattle.pipe_model.specs.Arrivals.{AreArrivals, AreFrom, AreNumbered, arrived_in, source, source_entry, sources_from}
 use Rattle.pipe_model.specs.Headline.{IsReached}

@@ -1,9 +1,8 @@
 -- What some steps led to keeps what the headline says.
-use Rattle.std.proofs.Common.{◌≡◌, ℕ, ◌<◌}
 use Rattle.pipe_order.specs.Item.{Arrival}
 use Rattle.pipe_order.specs.Kinds.{Kinds}
 use Rattle.pipe_order.specs.Rules.{IsLawful, Rules}
-use Rattle.pipe_order.specs.Start.{HasArrival, IsLawfulFor, Reached}
+use Rattle.pipe_order.specs.Start.{HasArrival, IsLawfulFor}
 use Rattle.pipe_order.specs.World.{World}
 use Rattle.pipe_order.proofs.ByRules.{keeps_rules}
 use Rattle.pipe_order.proofs.Close.{keeps_close}

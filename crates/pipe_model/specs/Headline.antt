@@ -8,7 +8,6 @@ use Rattle.pipe_order.specs.Item.{Arrival}
 use Rattle.pipe_order.specs.Once.{IsOnce}
 use Rattle.pipe_order.specs.Order.{InOrder}
 use Rattle.pipe_order.specs.Place.{IsPlaced}
-use Rattle.pipe_order.specs.Rules.{Rules}
 use Rattle.pipe_order.specs.Sent.{IsSent}
 use Rattle.pipe_order.specs.Start.{HasArrival, Reached}
 use Rattle.pipe_order.specs.Totals.{answered_count, dropped_count, received_count, sent_count, waiting_count}

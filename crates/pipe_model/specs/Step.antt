@@ -1,5 +1,4 @@
 -- The steps as the pipeline's laws know them: with links by their numbers.
-use Rattle.std.specs.Prelude.{ℕ, Bool}
 use Rattle.pipe_order.specs.Step.{Step}
 use Rattle.pipe_order.specs.Worker.{Worker, Receiver, Processor, Slow, Forwarder, Controller, Queue, Of, High}
 use Rattle.process_packet.specs.declared.config.Config.{Config}

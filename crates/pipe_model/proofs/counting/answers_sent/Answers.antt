@@ -1,4 +1,4 @@
-use Rattle.std.proofs.Common.{◌≡◌, ◌∙◌, ℕ, List, [], not, get_or, ap, arith}
+use Rattle.std.proofs.Common.{◌∙◌, ℕ, List, [], get_or, ap, arith}
 use Rattle.pipe_order.specs.Counts.{count}
 use Rattle.pipe_order.specs.Item.{Outgoing}
 use Rattle.router_rules.specs.Rules.{kinds}

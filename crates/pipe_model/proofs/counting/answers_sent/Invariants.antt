@@ -1,4 +1,4 @@
-use Rattle.std.proofs.Common.{◌≡◌, ◌≤◌, ◌*◌, ◌^◌, not, take}
+use Rattle.std.proofs.Common.{◌≡◌, ◌≤◌, ◌*◌, ◌^◌, take}
 use Rattle.pipe_order.specs.Counts.{count, total}
 use Rattle.pipe_model.proofs.counting.answers_sent.Given as goal
 

@@ -1,4 +1,4 @@
-use Rattle.std.proofs.Common.{◌≡◌, ◌∙◌, ap}
+use Rattle.std.proofs.Common.{◌∙◌, ap}
 use Rattle.pipe_order.specs.Counts.{count}
 use Rattle.pipe_order.specs.Pipe.{Entry}
 use Rattle.pipe_order.specs.Totals.{is_packet}

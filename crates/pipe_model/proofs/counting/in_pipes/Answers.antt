@@ -1,4 +1,4 @@
-use Rattle.std.proofs.Common.{◌≡◌, ◌∙◌, ap, arith}
+use Rattle.std.proofs.Common.{◌∙◌, ap, arith}
 use Rattle.pipe_order.specs.Counts.{count}
 use Rattle.pipe_order.specs.Pipe.{Pipe, held}
 use Rattle.pipe_order.specs.Totals.{is_packet}

@@ -1,4 +1,4 @@
-use Rattle.std.proofs.Common.{◌≡◌, ◌∙◌, ap, arith}
+use Rattle.std.proofs.Common.{◌∙◌, ap, arith}
 use Rattle.pipe_order.specs.Pipe.{Pipe}
 use Rattle.router_rules.specs.Rules.{kinds}
 use Rattle.pipe_model.proofs.Sums.{total_more}

@@ -1,4 +1,4 @@
-use Rattle.std.proofs.Common.{◌≡◌, ℕ, List, drop, sym, ap, ◌∙◌, subst, rules}
+use Rattle.std.proofs.Common.{◌≡◌, ℕ, List, drop, sym, ap, ◌∙◌, subst}
 use Rattle.std.specs.List.{flat_map}
 use Rattle.std.specs.Prelude.{option_map}
 use Rattle.pipe_order.specs.Item.{is_one}
@@ -26,6 +26,6 @@ returns c =
     let P : World kinds → Type 0 = λ w. c.find_in_fates.result ≡ option_map f (first (places R c.args.link c.args.number w)) in
     subst P c.state.view_is
     (
-      c.find_in_fates.ensures
-      ∙ sym (last_of_four f (in_hands R named 0 s.hands) (in_pipes R named (link_count config) (drop (link_count config) s.pipes)) (flat_map (in_sent named) s.sent) (in_fates named s.fates) no_hand no_pipe none_sent)
-      )
+    c.find_in_fates.ensures
+    ∙ sym (last_of_four f (in_hands R named 0 s.hands) (in_pipes R named (link_count config) (drop (link_count config) s.pipes)) (flat_map (in_sent named) s.sent) (in_fates named s.fates) no_hand no_pipe none_sent)
+    )

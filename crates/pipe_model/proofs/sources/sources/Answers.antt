@@ -14,6 +14,6 @@ loop-of_link-preserved c =
     let made : c.in_ok-pipe.pipe ≡ source (0 + length before) xs.items = c.in_ok-pipe.ensures ∙ ap (λ (k : ℕ). source k xs.items) place in
     pushed
     ∙ (
-      ap (λ (ps : List (Pipe kinds)). ps ++ c.in_ok-pipe.pipe ∷ []) c.loop-of_link.invariant
-      ∙ (ap (λ (p : Pipe kinds). sources_from 0 before ++ p ∷ []) made ∙ sym (sources_from_more 0 before xs))
-      )
+    ap (λ (ps : List (Pipe kinds)). ps ++ c.in_ok-pipe.pipe ∷ []) c.loop-of_link.invariant
+    ∙ (ap (λ (p : Pipe kinds). sources_from 0 before ++ p ∷ []) made ∙ sym (sources_from_more 0 before xs))
+    )

@@ -1,6 +1,6 @@
-use Rattle.std.proofs.Common.{◌≡◌, ◌∷◌, [], ◌++◌, ◌||◌, ap, sym, ◌∙◌, take, length, arith, length-append}
+use Rattle.std.proofs.Common.{ap, sym, ◌∙◌, length, arith, length-append}
 use Rattle.pipe_order.specs.Item.{ends, has_close, is_close}
-use Rattle.pipe_order.specs.Pipe.{Entry, items}
+use Rattle.pipe_order.specs.Pipe.{Entry}
 use Rattle.router_rules.specs.Rules.{kinds}
 use Rattle.pipe_model.proofs.KeptLemmas.{marked_pushed, take_pushed}
 use Rattle.pipe_model.proofs.pipe.Pipe.push.Goals as goal

@@ -1,4 +1,4 @@
-use Rattle.std.proofs.Common.{◌≡◌, ◌∙◌, ap, not}
+use Rattle.std.proofs.Common.{◌∙◌, ap, not}
 use Rattle.pipe_model.proofs.SentLemmas.{joined_pushed}
 use Rattle.pipe_model.proofs.sent.Outbox.push.Goals as goal
 

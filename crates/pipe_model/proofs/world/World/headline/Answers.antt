@@ -1,5 +1,5 @@
-use Rattle.std.proofs.Common.{◌≡◌, subst}
-use Rattle.pipe_model.specs.Headline.{IsHeadline, IsReached, IsWayGood}
+use Rattle.std.proofs.Common.{subst}
+use Rattle.pipe_model.specs.Headline.{IsHeadline}
 use Rattle.pipe_model.specs.Pipeline.{Pipeline}
 use Rattle.pipe_model.proofs.Upheld.{headline, way_good}
 use Rattle.pipe_model.proofs.world.World.headline.Goals as goal

@@ -1,7 +1,6 @@
-use Rattle.std.proofs.Common.{◌≡◌, List, sym, ap, ◌∙◌, subst}
+use Rattle.std.proofs.Common.{List, sym, ap, ◌∙◌, subst}
 use Rattle.pipe_order.specs.Pipe.{Pipe}
 use Rattle.pipe_order.specs.Start.{first_world}
-use Rattle.pipe_order.specs.World.{World}
 use Rattle.router_rules.specs.Rules.{kinds, rules}
 use Rattle.pipe_model.specs.Headline.{IsReached}
 use Rattle.pipe_model.proofs.Starts.{begun_is_reached}
