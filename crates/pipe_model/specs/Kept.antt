@@ -2,7 +2,9 @@
 use Rattle.std.specs.Prelude.{◌≡◌, ◌≤◌, ℕ, List, length, slice_index_or, take}
 use Rattle.pipe_order.specs.Item.{ends, has_close}
 use Rattle.pipe_order.specs.Pipe.{Pipe, empty_pipe, items}
+use Rattle.pipe_order.specs.Worker.{Worker}
 use Rattle.router_rules.specs.Rules.{kinds}
+use Rattle.pipe_model.specs.Ended.{has_ended, has_entry}
 use Rattle.pipe_model.specs.declared.pipe.Pipe.TheInside.{Inside}
 
 abbrev pub history_of : Inside → Pipe kinds
@@ -12,6 +14,7 @@ pub record IsKept (p : Inside) : Type 0 where
   pub within : p.taken ≤ length p.history.items
   pub marked : p.marked ≡ has_close (items p.history.items)
   pub shut : p.shut ≡ has_close (take p.taken (items p.history.items))
+  pub ended : (W : Worker) → has_ended p.ended.items W ≡ has_entry p.history.items W
   pub ends : p.ends ≡ ends (take p.taken (items p.history.items))
 
 -- one that isn't there is empty, and has no room

@@ -3,6 +3,7 @@ pub mod Actor
 pub mod Items
 pub mod Causes
 pub mod Outcomes
+pub mod Ended
 pub mod Kept
 pub mod Pipeline
 pub mod Arrivals

@@ -1,8 +1,6 @@
 //! An item in a pipe, with the worker that pushed it.
 
-ghost use Rattle.std.specs.Prelude.{◌≡◌, ◌&&◌};
-ghost use Rattle.pipe_order.specs.Item.{is_end};
-ghost use Rattle.pipe_order.specs.Worker.{same_worker};
+ghost use Rattle.std.specs.Prelude.{◌≡◌};
 ghost use Rattle.pipe_model.specs.Actor.{worker_of};
 ghost use Rattle.pipe_model.specs.Items.{item_in};
 
@@ -40,12 +38,5 @@ impl Entry {
         ensures { item_in result.now ≡ self.now.item }
     {
         &self.item
-    }
-
-    /// Whether it is the end mark of a worker.
-    pub fn is_end_of(&self, worker: Actor) -> bool
-        ensures { result ≡ (is_end self.now.item && same_worker (worker_of worker) self.now.from) }
-    {
-        self.item.is_end() && worker.is(self.from)
     }
 }

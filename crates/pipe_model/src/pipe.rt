@@ -1,11 +1,12 @@
 //! One pipe, kept as the list of all that was ever pushed.
 
-ghost use Rattle.std.specs.Prelude.{◌≡◌, Some, None, MatchOption, IfOk, is_ok, IsSome, if◌then◌else◌};
-ghost use Rattle.pipe_order.specs.Item.{ends};
+ghost use Rattle.std.specs.Prelude.{◌≡◌, ◌&&◌, ◌++◌, ◌∷◌, [], Some, None, MatchOption, IfOk, is_ok, IsSome, if◌then◌else◌};
+ghost use Rattle.pipe_order.specs.Item.{ends, is_end};
 ghost use Rattle.pipe_order.specs.Pipe.{empty_pipe, front, gone, has_end_of, has_room, is_marked, is_shut, one_taken, pushed, refusal_of, refused};
 ghost use Rattle.pipe_model.specs.Actor.{worker_of};
 ghost use Rattle.pipe_model.specs.Arrivals.{source};
 ghost use Rattle.pipe_model.specs.Items.{item_in};
+ghost use Rattle.pipe_model.specs.Ended.{has_ended};
 
 use crate::actor::Actor;
 use crate::came::Came;
@@ -29,6 +30,8 @@ pub struct Pipe {
     shut: bool,
     /// How many end marks were taken.
     ends: usize,
+    /// Which workers' end marks were pushed.
+    ended: Vec<Actor>,
 }
 
 impl Model for Pipe {
@@ -45,6 +48,23 @@ impl Model for Pipe {
     ghost invariant = { IsKept };
 }
 
+/// Whether the worker is one of these.
+fn is_among(worker: Actor, ended: &[Actor]) -> bool
+    ensures { result ≡ has_ended ended.now (worker_of worker) }
+{
+    ended.iter().any(|other| worker.is(*other))
+}
+
+/// Adds a worker to those whose end mark was pushed, where the item is one.
+fn note_end(ended: &mut Vec<Actor>, from: Actor, item: &Item) -> Result<(), AllocError>
+    ensures { ended.new.items ≡ (if is_ok result && is_end (item_in item.now) then ended.old.items ++ from ∷ [] else ended.old.items) }
+{
+    if item.is_end() {
+        ended.push(from)?;
+    }
+    Ok(())
+}
+
 impl Pipe {
     /// A pipe with nothing in it.
     pub fn new(alloc: Global, capacity: usize) -> Pipe
@@ -58,6 +78,7 @@ impl Pipe {
             marked: false,
             shut: false,
             ends: 0,
+            ended: Vec::new(alloc),
         }
     }
 
@@ -118,7 +139,12 @@ impl Pipe {
         ensures { self.new ≡ (if is_ok result then pushed self.old (worker_of from) (item_in item) else self.old) }
     {
         let closes = item.is_close();
-        self.history.push(Entry::new(from, item))?;
+        let before = self.ended.len();
+        note_end(&mut self.ended, from, &item)?;
+        if self.history.push(Entry::new(from, item)).is_err() {
+            self.ended.truncate(before);
+            return Err(AllocError);
+        }
         self.marked |= closes;
         Ok(())
     }
@@ -165,7 +191,7 @@ impl Pipe {
     pub fn has_end_of(&self, worker: Actor) -> bool
         ensures { result ≡ has_end_of (worker_of worker) self.now }
     {
-        self.history.iter().any(|entry| entry.is_end_of(worker))
+        is_among(worker, self.ended.as_slice())
     }
 }
 

@@ -1,5 +1,5 @@
-use Rattle.std.proofs.Common.{◌≡◌, true, false, sym, ap, subst, ◌∙◌, arith}
-use Rattle.pipe_order.specs.Item.{is_close, is_end}
+use Rattle.std.proofs.Common.{◌≡◌, ◌<◌, ◌≤◌, ◌+◌, true, false, ◌||◌, if◌then◌else◌, refl, sym, ap, subst, ◌∙◌, take, length, arith, slice_index_or}
+use Rattle.pipe_order.specs.Item.{ends, has_close, is_close, is_end}
 use Rattle.pipe_order.specs.Pipe.{Pipe, front, items}
 use Rattle.std.specs.Prelude.{IsSome}
 use Rattle.router_rules.specs.Rules.{kinds}
@@ -24,6 +24,7 @@ invariant_of-self c =
     record {
       within = omega (arith, here);
       marked = c.self.invariant.marked;
+      ended = c.self.invariant.ended;
       shut = shut_taken _ _ t xs c.index.result.now c.self.invariant.shut closes here c.index.ensures;
       ends = omega (arith, c.self.invariant.ends, ended);
     }
@@ -39,6 +40,7 @@ invariant_of-self-else-ends c =
     record {
       within = omega (arith, here);
       marked = c.self.invariant.marked;
+      ended = c.self.invariant.ended;
       shut = shut_taken _ _ t xs c.index.result.now c.self.invariant.shut closes here c.index.ensures;
       ends = omega (arith, c.self.invariant.ends, ended);
     }

@@ -1,0 +1,16 @@
+-- Whose end marks were pushed.
+use Rattle.std.specs.Prelude.{Bool, ◌&&◌, List}
+use Rattle.std.specs.List.{list_any}
+use Rattle.pipe_order.specs.Item.{is_end}
+use Rattle.pipe_order.specs.Pipe.{Entry}
+use Rattle.pipe_order.specs.Worker.{Worker, same_worker}
+use Rattle.router_rules.specs.Rules.{kinds}
+use Rattle.pipe_model.specs.Actor.{worker_of}
+use Rattle.pipe_model.specs.declared.actor.Actor.{Actor}
+
+-- the worker's end mark was pushed, by the list of those whose was, and by the history
+abbrev pub has_ended : List Actor → Worker → Bool
+has_ended vs W = list_any (λ v. same_worker W (worker_of v)) vs
+
+abbrev pub has_entry : List (Entry kinds) → Worker → Bool
+has_entry xs W = list_any (λ e. is_end e.item && same_worker W e.from) xs
