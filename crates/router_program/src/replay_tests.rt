@@ -41,8 +41,8 @@ fn replays_the_worked_schedules(rt: HostRuntime) {
     let alloc = rt.alloc();
     for schedule in SCHEDULES {
         let mut input = Vec::new(alloc);
-        for line in schedule.arrivals {
-            for part in [*line, SHARED, "\n"] {
+        for line in schedule.arrivals.lines() {
+            for part in [line, SHARED, "\n"] {
                 input
                     .extend_from_slice(part.as_bytes())
                     .expect(&rt, "input");

@@ -9,7 +9,7 @@ pub struct Schedule {
     /// What is told of the bands of the links 1, 2 and 3.
     pub bands: [&'static str; 3],
     /// The lines that tell what arrives, each without the bytes that all its datagrams share.
-    pub arrivals: &'static [&'static str],
+    pub arrivals: &'static str,
     pub steps: &'static str,
     pub text: &'static str,
 }
@@ -36,11 +36,9 @@ pub const SCHEDULES: [Schedule; 8] = [
         name: "a full queue",
         sizes: "version = 1\nprocessors = 1\ncapacity = 1\nseed = 0\n",
         bands: ONE_BAND,
-        arrivals: &[
-            "arrive 1 - 1694499816 00000001",
-            "arrive 1 - 1694499816 00000001",
-            "arrive 1 - 1694499816 00000001",
-        ],
+        arrivals: "arrive 1 - 1694499816 00000001\n\
+         arrive 1 - 1694499816 00000001\n\
+         arrive 1 - 1694499816 00000001\n",
         steps: "receive 1\noffer r1\nreceive 1\nrefuse r1\ntake p0\nroute p0\noffer p0\nreceive 1\n\
          offer r1\ntake f2\nsend 2 ok\ntake p0\nroute p0\noffer p0\ntake f2\nsend 2 ok\n",
         text: "link 0 sent -\nlink 1 sent -\nlink 2 sent 1.1 1.3\nlink 3 sent -\nreceived 3\n\
@@ -50,10 +48,8 @@ pub const SCHEDULES: [Schedule; 8] = [
         name: "a closing mark between two packets",
         sizes: USUAL,
         bands: ONE_BAND,
-        arrivals: &[
-            "arrive 1 - 1694499816 00000001",
-            "arrive 1 - 1694499816 00000001",
-        ],
+        arrivals: "arrive 1 - 1694499816 00000001\n\
+         arrive 1 - 1694499816 00000001\n",
         steps: "receive 1\noffer r1\ntake p0\nroute p0\noffer p0\nclose 2\nclose 2\nreceive 1\n\
          offer r1\ntake p0\nroute p0\noffer p0\ntake f2\nsend 2 ok\ntake f2\ntake f2\n\
          sweep 2\n",
@@ -64,10 +60,8 @@ pub const SCHEDULES: [Schedule; 8] = [
         name: "two processors",
         sizes: "version = 1\nprocessors = 2\ncapacity = 4\nseed = 0\n",
         bands: ONE_BAND,
-        arrivals: &[
-            "arrive 1 - 1694499816 00000001",
-            "arrive 1 - 1694499816 00000002",
-        ],
+        arrivals: "arrive 1 - 1694499816 00000001\n\
+         arrive 1 - 1694499816 00000002\n",
         steps: "receive 1\noffer r1\nreceive 1\noffer r1\ntake p1\nroute p1\noffer p1\ntake p0\n\
          route p0\noffer p0\ntake f2\nsend 2 ok\ntake f2\nsend 2 failed\n",
         text: "link 0 sent -\nlink 1 sent -\nlink 2 sent 1.2\nlink 3 sent -\nreceived 2\nsent 1\n\
@@ -77,10 +71,8 @@ pub const SCHEDULES: [Schedule; 8] = [
         name: "two processors by another seed",
         sizes: "version = 1\nprocessors = 2\ncapacity = 4\nseed = 1\n",
         bands: ONE_BAND,
-        arrivals: &[
-            "arrive 1 - 1694499816 00000001",
-            "arrive 1 - 1694499816 00000002",
-        ],
+        arrivals: "arrive 1 - 1694499816 00000001\n\
+         arrive 1 - 1694499816 00000002\n",
         steps: "receive 1\noffer r1\ntake p0\ntake p1\nreceive 1\noffer r1\nroute p1\noffer p1\n\
          take p1\ntake p0\n",
         text: "not now 5\nnot now 11\nlink 0 sent -\nlink 1 sent -\nlink 2 sent -\nlink 3 sent -\n\
@@ -90,7 +82,7 @@ pub const SCHEDULES: [Schedule; 8] = [
         name: "an answer",
         sizes: USUAL,
         bands: ONE_BAND,
-        arrivals: &["arrive 1 - 1694520417 00000001"],
+        arrivals: "arrive 1 - 1694520417 00000001\n",
         steps: "receive 1\noffer r1\ntake p0\nroute p0\noffer p0\ntake s\nanswer\noffer s\ntake f1\n\
          send 1 ok\n",
         text: "link 0 sent -\nlink 1 sent 1.1a\nlink 2 sent -\nlink 3 sent -\nreceived 1\nsent 0\n\
@@ -100,10 +92,8 @@ pub const SCHEDULES: [Schedule; 8] = [
         name: "two bands",
         sizes: BANDED,
         bands: TWO_BANDS,
-        arrivals: &[
-            "arrive 1 - 1694499816 00000001",
-            "arrive 1 - 1694499816 0b800001",
-        ],
+        arrivals: "arrive 1 - 1694499816 00000001\n\
+         arrive 1 - 1694499816 0b800001\n",
         steps: "receive 1\noffer r1\nreceive 1\noffer r1\ntake p0\nroute p0\noffer p0\ntake p0\n\
          route p0\noffer p0\ntake f2\nlook h2\ntake h2\nsend 2 ok\nlook h2\ntake f2\n\
          send 2 ok\n",
@@ -114,12 +104,10 @@ pub const SCHEDULES: [Schedule; 8] = [
         name: "no buffer",
         sizes: "version = 1\nprocessors = 1\ncapacity = 4\nseed = 0\nbuffers = 2\n",
         bands: ONE_BAND,
-        arrivals: &[
-            "arrive 1 - 1694499816 00000001",
-            "arrive 1 - 1694499816 00000001",
-            "arrive 1 - 1694499816 00000001",
-            "arrive 1 - 1694499816 00000001",
-        ],
+        arrivals: "arrive 1 - 1694499816 00000001\n\
+         arrive 1 - 1694499816 00000001\n\
+         arrive 1 - 1694499816 00000001\n\
+         arrive 1 - 1694499816 00000001\n",
         steps: "receive 1\noffer r1\nreceive 1\nnobuffer 1\nreceive 1\nnobuffer 1\ntake p0\n\
          route p0\noffer p0\ntake f2\nsend 2 ok\nreceive 1\noffer r1\ntake p0\nroute p0\n\
          offer p0\ntake f2\nsend 2 ok\n",
@@ -130,11 +118,9 @@ pub const SCHEDULES: [Schedule; 8] = [
         name: "a sink that fails",
         sizes: USUAL,
         bands: ONE_BAND,
-        arrivals: &[
-            "arrive 1 - 1694499816 00000001",
-            "arrive 1 - 1694499816 00000001",
-            "arrive 1 - 1694499816 00000001",
-        ],
+        arrivals: "arrive 1 - 1694499816 00000001\n\
+         arrive 1 - 1694499816 00000001\n\
+         arrive 1 - 1694499816 00000001\n",
         steps: "receive 1\noffer r1\ntake p0\nroute p0\noffer p0\ntake f2\nsend 2 ok\nreceive 1\n\
          offer r1\ntake p0\nroute p0\noffer p0\ntake f2\nsend 2 failed\nreceive 1\noffer r1\n\
          take p0\nroute p0\noffer p0\ntake f2\nsend 2 ok\n",
