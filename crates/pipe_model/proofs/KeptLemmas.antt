@@ -1,10 +1,9 @@
 -- What a pipe keeps, as its history grows and is taken.
-use Rattle.std.proofs.Common.{◌≡◌, ℕ, zero, suc, ◌+◌, ◌≤◌, ◌<◌, Bool, true, false, ◌||◌, ◌&&◌, if◌then◌else◌, cond, List, [], ◌∷◌, ◌++◌, length, take, refl, sym, ◌∙◌, ap, arith, slice_get, slice_index_or}
+use Rattle.std.proofs.Common.{◌≡◌, ℕ, zero, suc, ◌+◌, ◌≤◌, ◌<◌, Bool, true, false, ◌||◌, ◌&&◌, if◌then◌else◌, List, [], ◌∷◌, ◌++◌, length, take, refl, sym, ◌∙◌, ap, arith, slice_get, slice_index_or}
 use Rattle.std.specs.Prelude.{IsSome}
 use Rattle.pipe_order.specs.Item.{Item, ends, has_close, is_close, is_end}
 use Rattle.pipe_order.specs.Pipe.{Entry, items}
 use Rattle.pipe_order.specs.Worker.{Worker, same_worker}
-use Rattle.std.specs.List.{list_any}
 use Rattle.std.proofs.lemmas.List.Folds.{list_any-append}
 use Rattle.router_rules.specs.Rules.{kinds}
 use Rattle.pipe_model.specs.Actor.{worker_of}

@@ -1,5 +1,5 @@
-use Rattle.std.proofs.Common.{◌≡◌, ◌<◌, ◌≤◌, ◌+◌, true, false, ◌||◌, if◌then◌else◌, refl, sym, ap, subst, ◌∙◌, take, length, arith, slice_index_or}
-use Rattle.pipe_order.specs.Item.{ends, has_close, is_close, is_end}
+use Rattle.std.proofs.Common.{◌≡◌, true, false, sym, ap, subst, ◌∙◌, arith}
+use Rattle.pipe_order.specs.Item.{is_close, is_end}
 use Rattle.pipe_order.specs.Pipe.{Pipe, front, items}
 use Rattle.std.specs.Prelude.{IsSome}
 use Rattle.router_rules.specs.Rules.{kinds}

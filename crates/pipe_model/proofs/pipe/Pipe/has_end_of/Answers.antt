@@ -1,4 +1,4 @@
-use Rattle.std.proofs.Common.{◌≡◌, ◌∙◌, ap, List}
+use Rattle.std.proofs.Common.{◌∙◌, ap, List}
 use Rattle.pipe_order.specs.Pipe.{Pipe, has_end_of}
 use Rattle.router_rules.specs.Rules.{kinds}
 use Rattle.pipe_model.specs.Actor.{worker_of}

@@ -1,6 +1,6 @@
-use Rattle.std.proofs.Common.{◌≡◌, Bool, true, not, if◌then◌else◌, ◌∷◌, [], ◌++◌, ◌||◌, refl, ap, sym, ◌∙◌, take, length, arith, length-append}
-use Rattle.pipe_order.specs.Item.{ends, has_close, is_close}
-use Rattle.pipe_order.specs.Pipe.{Entry, items}
+use Rattle.std.proofs.Common.{◌≡◌, Bool, true, not, if◌then◌else◌, ◌∷◌, [], ◌++◌, refl, ap, sym, ◌∙◌, length, arith, length-append}
+use Rattle.pipe_order.specs.Item.{ends, has_close}
+use Rattle.pipe_order.specs.Pipe.{Entry}
 use Rattle.router_rules.specs.Rules.{kinds}
 use Rattle.pipe_model.specs.Actor.{worker_of}
 use Rattle.pipe_model.specs.Items.{item_in}
