@@ -1,5 +1,5 @@
 -- What arrives, link by link: one more datagram, and the pipeline that begins with all of them.
-use Rattle.std.proofs.Common.{◌≡◌, ◌≢◌, ◌<◌, ◌≤◌, ℕ, zero, suc, ◌+◌, eqb, true, false, List, [], ◌∷◌, ◌++◌, length, map, get_or, refl, sym, ap, subst, ◌∙◌, arith, inl, inr, add-zero, add-suc, add-one}
+use Rattle.std.proofs.Common.{◌≡◌, ◌≢◌, ◌<◌, ℕ, zero, suc, ◌+◌, eqb, true, List, [], ◌∷◌, ◌++◌, length, map, refl, sym, ap, subst, ◌∙◌, arith, inl, inr, add-zero}
 use Rattle.std.specs.Prelude.{slice_set, slice_index_or}
 use Rattle.std.specs.List.{range_with_len}
 use Rattle.std.specs.declared.alloc.Global.{Global}
@@ -10,9 +10,8 @@ use Rattle.process_packet.specs.declared.arrival.Arrival.{Arrival as Came}
 use Rattle.process_packet.specs.declared.config.Config.{Config}
 use Rattle.pipe_order.specs.Pipe.{Entry, Pipe}
 use Rattle.pipe_model.specs.Arrivals.{AreArrivals, AreFrom, AreNumbered, begun, datagram_of, source, source_entry, sources_from}
-use Rattle.pipe_model.specs.Pipeline.{Pipeline}
 use Rattle.router_rules.specs.Datagram.{Datagram}
-use Rattle.router_rules.specs.Links.{link_count, link_index}
+use Rattle.router_rules.specs.Links.{link_index}
 use Rattle.router_rules.specs.Rules.{kinds}
 use Rattle.router_lines.specs.Gathered.{AreGathered, AreOf, entry, numbered, source_of, starting}
 

@@ -1,5 +1,5 @@
 -- How datagrams arrive.
-use Rattle.std.specs.Prelude.{ℕ, ◌==◌, find, Option, Some, None, option_map, if◌then◌else◌}
+use Rattle.std.specs.Prelude.{ℕ, ◌==◌, find, Option, Some, option_map, if◌then◌else◌}
 use Rattle.process_packet.specs.declared.config.Config.{Config}
 use Rattle.process_packet.specs.declared.neighbours.Link.{Link}
 use Rattle.process_packet.specs.declared.underlay.Underlay.{Underlay}

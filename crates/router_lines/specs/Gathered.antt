@@ -3,7 +3,7 @@ use Rattle.std.specs.Prelude.{◌≡◌, ℕ, ◌+◌, ◌==◌, if◌then◌els
 use Rattle.std.specs.List.{range_with_len}
 use Rattle.std.specs.declared.alloc.Global.{Global}
 use Rattle.std.specs.declared.vec.Vec.{Vec}
-use Rattle.pipe_order.specs.Item.{Arrival, Arrived}
+use Rattle.pipe_order.specs.Item.{Arrived}
 use Rattle.pipe_order.specs.Pipe.{Entry, Pipe}
 use Rattle.pipe_order.specs.Start.{first_world}
 use Rattle.pipe_order.specs.Worker.{Receiver}

@@ -1,5 +1,5 @@
 -- What a replay prints: the lines whose steps weren't possible, and the report of what each link sent, and of the counts.
-use Rattle.std.specs.Prelude.{ℕ, Bool, ◌+◌, ◌==◌, if◌then◌else◌, List, [], ◌∷◌, ◌++◌, codes, decimal}
+use Rattle.std.specs.Prelude.{ℕ, ◌+◌, ◌==◌, if◌then◌else◌, List, [], ◌∷◌, ◌++◌, codes, decimal}
 use Rattle.std.specs.List.{flat_map, range_with_len}
 use Rattle.process_packet.specs.declared.totals.Totals.{Totals}
 use Rattle.router_rules.specs.Links.{interface_at, link_count}

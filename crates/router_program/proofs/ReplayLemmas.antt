@@ -1,6 +1,6 @@
 -- The lines of a replay one after the other: what is gathered in front, what is noted of the steps, and where the engine ends.
-use Rattle.std.proofs.Common.{◌≡◌, ◌≢◌, ◌<◌, ◌≤◌, ℕ, ◌+◌, Bool, true, false, List, [], ◌∷◌, ◌++◌, length, take, drop, Option, Some, None, Result, Ok, Err, refl, sym, ap, subst, ◌∙◌, append_assoc, length-append, arith}
-use Rattle.std.specs.Prelude.{⊤, IfErr, IfSome, OnOk}
+use Rattle.std.proofs.Common.{◌≡◌, ◌≢◌, ℕ, ◌+◌, Bool, true, false, List, [], ◌∷◌, ◌++◌, length, take, drop, Option, Some, None, Result, Ok, Err, refl, sym, ap, subst, ◌∙◌, append_assoc}
+use Rattle.std.specs.Prelude.{IfErr, IfSome, OnOk}
 use Rattle.std.specs.Bool.{OnFalse, OnTrue}
 use Rattle.std.specs.Io.BufRead.{drop_through, first_piece}
 use Rattle.std.specs.Io.KnownBytes.{Appends}
@@ -17,7 +17,7 @@ use Rattle.pipe_model.specs.Pipeline.{Pipeline, rules_in, stepped, with_world}
 use Rattle.pipe_model.specs.Step.{step_in}
 use Rattle.pipe_model.specs.declared.step.Step.{Step}
 use Rattle.router_lines.specs.ArriveLine.{datagram_of_line}
-use Rattle.router_lines.specs.Gathered.{AreGathered, starting}
+use Rattle.router_lines.specs.Gathered.{starting}
 use Rattle.router_lines.specs.Report.{not_now_text, report}
 use Rattle.router_lines.specs.StepLine.{step_of_line}
 use Rattle.router_program.proofs.EngineLemmas.{Appends-nothing, Appends-then, lines_step}

@@ -1,5 +1,5 @@
 -- What `replay` writes for the lines that it reads: in front the lines that tell what arrives, then the steps.
-use Rattle.std.specs.Prelude.{◌≡◌, ℕ, ◌+◌, List, [], ◌∷◌, ◌++◌, length, Option, Some, None, Result}
+use Rattle.std.specs.Prelude.{ℕ, ◌+◌, List, [], ◌∷◌, ◌++◌, length, Option, Some, None, Result}
 use Rattle.process_packet.specs.declared.config.Config.{Config}
 use Rattle.router_rules.specs.Datagram.{Datagram}
 use Rattle.pipe_model.specs.Pipeline.{Pipeline, stepped}

@@ -1,6 +1,5 @@
-use Rattle.std.proofs.Common.{◌≡◌, ◌++◌, refl, rules}
+use Rattle.std.proofs.Common.{◌≡◌, ◌++◌, refl}
 use Rattle.std.specs.List.{flat_map, range_with_len}
-use Rattle.pipe_model.specs.Shown.{totals_of, waiting_of}
 use Rattle.router_rules.specs.Links.{link_count}
 use Rattle.router_lines.specs.Report.{counts_text, drops_text, link_line, report}
 use Rattle.router_lines.proofs.ReportLemmas.{reported}

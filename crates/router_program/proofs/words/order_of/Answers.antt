@@ -1,4 +1,4 @@
-use Rattle.std.proofs.Common.{◌≡◌, ◌∙◌, Some, None, codes, option_map, sym, ap, refl}
+use Rattle.std.proofs.Common.{◌≡◌, ◌∙◌, Some, codes, refl}
 use Rattle.std.proofs.lemmas.Bool.{false≢true}
 use Rattle.clap.specs.Matches.{found_of}
 use Rattle.clap.specs.Simple.{subcommand_rows_of}
@@ -35,5 +35,5 @@ returns c =
     record {
       found = tt;
       none = no_order s _ (name_read (out-ArgMatches c.args.matches.now).subcommand) (λ named. false≢true (c.in_default.ensures.found.1 named))
-        (λ named. false≢true (c.in_default-subcommand_matches.ensures.found.1 named));
+          (λ named. false≢true (c.in_default-subcommand_matches.ensures.found.1 named));
     }
