@@ -1,29 +1,11 @@
 use crate::fault::StepFault;
 use crate::pipe::Pipe;
+use crate::samples::{DATAGRAM, EXPIRED, IN_TIME, arrival, config, is_what_leaves};
 use crate::state::State;
 use crate::step::{Queue, Step, Worker};
-use cmac_core::Cmac;
-use process_packet::{Arrival, Bands, Config, Ip, Link, Underlay};
-use segment_switch::LinkKind;
-use std::alloc::{AllocError, Global};
+use process_packet::{Bands, Config};
+use std::alloc::Global;
 use std::test::*;
-
-/// From 1-ff00:0:111 to 1-ff00:0:112 over three hops, at the second one.
-const DATAGRAM: [u8; 92] = *b"\x00\x00\x00\x01\x11\x15\x00\x08\x01\x00\x00\x00\
-    \x00\x01\xff\x00\x00\x00\x01\x12\x00\x01\xff\x00\x00\x00\x01\x11\x0a\x02\x00\x07\x0a\x01\x00\x05\
-    \x01\x00\x30\x00\x01\x00\x12\x34\x65\x00\x00\x00\
-    \x00\x3f\x00\x00\x00\x11\xa0\xa1\xa2\xa3\xa4\xa5\
-    \x00\x3f\x00\x01\x00\x02\x0e\x66\xd2\x97\x45\x36\
-    \x00\x3f\x00\x12\x00\x00\xb0\xb1\xb2\xb3\xb4\xb5\
-    \x75\x59\x75\x59\x00\x08\x00\x00";
-
-/// Where the bytes differ with which it leaves by link 2, as a model over OpenSSL has them.
-const CHANGES: [(usize, u8); 3] = [(36, 0x02), (42, 0x1c), (43, 0x52)];
-
-/// The second at which its hop is within its time, and one at which it has expired.
-const IN_TIME: u64 = 1694499816;
-
-const EXPIRED: u64 = 1694999999;
 
 const RECEIVER: Worker = Worker::Receiver(1);
 
@@ -38,56 +20,6 @@ const ON: Queue = Queue::Of(Worker::Forwarder(2));
 const DONE: Result<(), StepFault> = Ok(());
 
 const NOT: Result<(), StepFault> = Err(StepFault::NotNow);
-
-/// The router of 1-ff00:0:110 with a parent, and a child link of two bands. Its pipes hold one packet.
-fn config(alloc: Global) -> Result<Config, AllocError> {
-    let links = [
-        Link {
-            id: 1,
-            kind: LinkKind::Parent,
-            local: Underlay {
-                ip: Ip::V4([10, 1, 0, 1]),
-                port: 40000,
-            },
-            remote: Underlay {
-                ip: Ip::V4([10, 1, 0, 2]),
-                port: 40000,
-            },
-            bands: Bands::One,
-        },
-        Link {
-            id: 2,
-            kind: LinkKind::Child,
-            local: Underlay {
-                ip: Ip::V4([10, 2, 0, 1]),
-                port: 40000,
-            },
-            remote: Underlay {
-                ip: Ip::V4([10, 2, 0, 2]),
-                port: 40000,
-            },
-            bands: Bands::Two,
-        },
-    ];
-    Ok(Config {
-        isd: 1,
-        autonomous_system: 0xff00_0000_0110,
-        key: Cmac::new(b"\x2b\x7e\x15\x16\x28\xae\xd2\xa6\xab\xf7\x15\x88\x09\xcf\x4f\x3c"),
-        internal: Underlay {
-            ip: Ip::V4([10, 0, 0, 1]),
-            port: 30000,
-        },
-        internal_bands: Bands::One,
-        host_port: 30041,
-        processors: 2,
-        capacity: 1,
-        seed: 0,
-        buffers: 64,
-        links: Vec::from_array(alloc, links)?,
-        siblings: Vec::new(alloc),
-        services: Vec::new(alloc),
-    })
-}
 
 /// The first packet goes to the processor of its flow, the second waits behind it.
 const TO_ITS_PROCESSOR: [(Step, Result<(), StepFault>); 10] = [
@@ -182,19 +114,6 @@ const NOT_THERE: [(Step, Result<(), StepFault>); 5] = [
     (Step::Send(9, true), NOT),
 ];
 
-fn arrival(alloc: Global, number: u64, now: u64, bytes: &[u8]) -> Result<Arrival, AllocError> {
-    Ok(Arrival {
-        link: 1,
-        number,
-        source: Underlay {
-            ip: Ip::V4([10, 1, 0, 2]),
-            port: 40000,
-        },
-        now,
-        bytes: Vec::from_slice(alloc, bytes)?,
-    })
-}
-
 /// Six datagrams by link 1: the second has expired, the third is cut within its header.
 fn state(alloc: Global, config: &Config) -> Result<State, Fail> {
     let mut arrivals = Vec::new(alloc);
@@ -234,20 +153,9 @@ fn are_made(
     true
 }
 
-/// Whether these are the bytes with which the datagram leaves by link 2.
-fn is_what_leaves(bytes: &[u8]) -> bool {
-    let mut wanted = DATAGRAM;
-    for (at, byte) in CHANGES {
-        if at < 92 {
-            wanted[at] = byte;
-        }
-    }
-    bytes == wanted.as_slice()
-}
-
 #[test]
 fn steps_in_turn(rt: HostRuntime) -> Result<(), Fail> {
-    let config = config(rt.alloc())?;
+    let config = config(rt.alloc(), Bands::Two)?;
     let mut state = state(rt.alloc(), &config)?;
     let turns = [
         TO_ITS_PROCESSOR.as_slice(),

@@ -29,6 +29,8 @@ mod place;
 mod receiving;
 mod refusal;
 mod rules;
+#[cfg(test)]
+mod samples;
 mod sending;
 mod sent;
 mod sources;

@@ -8,6 +8,7 @@ ghost use Rattle.pipe_model.specs.Causes.{cause_in};
 ghost use Rattle.pipe_model.specs.Shown.{named_in, stands_in, why_of};
 
 use crate::cause::Cause;
+use crate::numbers::slow_seat;
 use crate::place::Place;
 use crate::step::Worker;
 use process_packet::{Cause as Reason, Config};
@@ -18,7 +19,7 @@ pub fn worker_at(config: &Config, seat: usize) -> Worker
     ensures { result ≡ named_in config.now (Rattle.pipe_order.specs.Place.worker_at (rules config.now) seat) }
 {
     let links = link_count(config);
-    let slow = links + usize::from(config.processors);
+    let slow = slow_seat(config);
     if seat < links {
         Worker::Receiver(interface_at(config, seat))
     } else if seat < slow {
@@ -49,7 +50,7 @@ pub fn place_at(config: &Config, pipe: usize) -> Place
     ensures { result ≡ stands_in config.now (place_at (rules config.now) pipe) }
 {
     let links = link_count(config);
-    let slow = links + usize::from(config.processors);
+    let slow = slow_seat(config);
     if pipe < slow {
         Place::Pipe(Worker::Processor((pipe - links) as u8))
     } else if slow < pipe {

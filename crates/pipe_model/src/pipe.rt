@@ -48,8 +48,8 @@ impl Model for Pipe {
     ghost invariant = { IsKept };
 }
 
-/// Whether the worker is one of these.
-fn is_among(worker: Actor, ended: &[Actor]) -> bool
+/// Whether the worker is one of those that ended.
+fn has_ended(ended: &[Actor], worker: Actor) -> bool
     ensures { result ≡ has_ended ended.now (worker_of worker) }
 {
     ended.iter().any(|other| worker.is(*other))
@@ -191,7 +191,7 @@ impl Pipe {
     pub fn has_end_of(&self, worker: Actor) -> bool
         ensures { result ≡ has_end_of (worker_of worker) self.now }
     {
-        is_among(worker, self.ended.as_slice())
+        has_ended(self.ended.as_slice(), worker)
     }
 }
 

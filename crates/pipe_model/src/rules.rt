@@ -15,23 +15,20 @@ use crate::outcome::Outcome;
 use crate::outgoing::Bytes;
 use crate::packet::{Asked, Packet};
 use flow_key::{flow_of, processor_of};
-use process_packet::{Cause as Reason, Config, Decision, answers_are_sound, route_in_place};
+use process_packet::{
+    Cause as Reason, Config, Decision, LONGEST_DATAGRAM, answers_are_sound, route_in_place,
+};
 use router_rules::{has_two_bands, link_count};
 use scion_header::{HeaderFault, check_header};
-use scmp_answer::{AnswerLen, answer_into};
+use scmp_answer::{AnswerLen, LONGEST_ANSWER, answer_into};
 use std::alloc::{AllocError, Global};
-
-/// The most bytes of a datagram that is carried, and of an answer.
-const LONGEST: usize = 9216;
-
-const LONGEST_ANSWER: usize = 1232;
 
 /// The fault for which a receiver drops a datagram, if it does: its length, or its header's.
 pub fn inspect(bytes: &[u8]) -> Option<Reason>
     ensures fault { result ≡ inspected bytes.now }
     ensures sound { IfNone result (header_fault bytes.now ≡ None) }
 {
-    if bytes.len() > LONGEST {
+    if bytes.len() > LONGEST_DATAGRAM {
         return Some(Reason::TooLong);
     }
     match check_header(bytes) {

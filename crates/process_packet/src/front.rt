@@ -6,7 +6,7 @@ use path_fields::{Meta, check_path};
 use scion_header::{HeaderEnds, check_header};
 
 /// The most bytes that a datagram has.
-pub(crate) const LONGEST: usize = 9216;
+pub const LONGEST_DATAGRAM: usize = 9216;
 
 /// Where the path of a datagram lies, and its meta header.
 #[derive(Clone, Copy)]
@@ -35,7 +35,7 @@ impl Front {
         ensures are { IsBytes bytes.now }
         ensures says { (s : Standing) → bytes.now ≡ s.bytes → Says (row.then_rows (row.GoesOn s) (row.too_long ∷ row.faulty_header ∷ [])) s result }
     {
-        if bytes.len() > LONGEST {
+        if bytes.len() > LONGEST_DATAGRAM {
             return Err(Refusal::Drop(Cause::TooLong));
         }
         match check_header(bytes) {

@@ -30,6 +30,7 @@ pub use arrival::{Arrival, NoMemory, Routed};
 pub use cause::Cause;
 pub use config::Config;
 pub use decision::{Decision, Problem};
+pub use front::LONGEST_DATAGRAM;
 pub use laws::{answers_are_sound, nothing_else_changes, only_authorised, only_lawful_ways};
 pub use neighbours::{Bands, Link, Service, Sibling};
 pub use request::trace_request;

@@ -8,7 +8,7 @@ use crate::arrival::{Arrival, NoMemory, Routed};
 use crate::cause::Cause;
 use crate::config::Config;
 use crate::decision::Decision;
-use crate::front::LONGEST;
+use crate::front::LONGEST_DATAGRAM;
 use crate::routing::route_in_place;
 use std::alloc::Global;
 
@@ -30,10 +30,10 @@ pub fn route(alloc: Global, config: &Config, arrival: &Arrival) -> Result<Routed
         (λ _. IsSend (decision_for (network config.now) arrival.entry.now)) }
 {
     let len = arrival.bytes.len();
-    if len > LONGEST {
+    if len > LONGEST_DATAGRAM {
         return Ok(Routed::Drop(Cause::TooLong));
     }
-    let mut room = [0; LONGEST];
+    let mut room = [0; LONGEST_DATAGRAM];
     let bytes = &mut room[..len];
     bytes.copy_from_slice(arrival.bytes.as_slice());
     match route_in_place(config, arrival.link, arrival.source, arrival.now, bytes) {

@@ -1,7 +1,8 @@
 //! Numbers in plain decimal digits.
-ghost use Rattle.std.specs.Prelude.{◌≡◌, ◌≢◌, ◌≤◌, ℕ, decimal, IfNone, IfSome};
+ghost use Rattle.std.specs.Prelude.{◌≡◌, ◌≢◌, ◌≤◌, ◌++◌, ℕ, decimal, IfNone, IfSome, OnOk};
 
-use itoa::Buffer;
+use itoa::{Buffer, Integer};
+use std::alloc::AllocError;
 
 /// The number up to the limit that a text is, in decimal digits with no sign and no leading zero.
 pub fn read_decimal(text: &str, limit: u64) -> Option<u64>
@@ -18,4 +19,12 @@ pub fn read_decimal(text: &str, limit: u64) -> Option<u64>
     } else {
         None
     }
+}
+
+/// Adds a number's decimal digits to the text.
+pub fn push_decimal<I: Integer>(text: &mut Vec<u8>, number: I) -> Result<(), AllocError>
+    ensures { OnOk result (text.new.items ≡ text.old.items ++ I.text number) }
+{
+    let mut buffer = Buffer::new();
+    text.extend_from_slice(buffer.format(number).as_bytes())
 }

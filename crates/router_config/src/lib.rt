@@ -17,6 +17,6 @@ mod tests;
 
 pub use address::read_underlay;
 pub use config::read_config;
-pub use decimal::read_decimal;
+pub use decimal::{push_decimal, read_decimal};
 pub use fault::ConfigFault;
 pub use shown::push_underlay;

@@ -3,7 +3,7 @@ ghost use Rattle.std.specs.Prelude.{◌≡◌, ◌++◌, ◌<◌, ◌∷◌, [],
 ghost use Rattle.std.specs.Fmt.{digit_glyph, digits};
 ghost use Rattle.router_config.specs.Shown.{first_groups, group, groups_text, last_groups, octets_text, text_of, with_colon};
 
-use itoa::Buffer;
+use crate::decimal::push_decimal;
 use process_packet::{Ip, Underlay};
 use std::alloc::AllocError;
 
@@ -39,20 +39,12 @@ fn push_group(text: &mut Vec<u8>, group: u16) -> Result<(), AllocError>
     }
 }
 
-/// Adds the decimal digits of a number.
-fn push_decimal(text: &mut Vec<u8>, number: u16) -> Result<(), AllocError>
-    ensures { OnOk result (text.new.items ≡ text.old.items ++ decimal number) }
-{
-    let mut buffer = Buffer::new();
-    text.extend_from_slice(buffer.format(number).as_bytes())
-}
-
 /// Adds a `.` and an octet in decimals.
 fn push_dotted(text: &mut Vec<u8>, octet: u8) -> Result<(), AllocError>
     ensures { OnOk result (text.new.items ≡ text.old.items ++ (46 ∷ decimal octet)) }
 {
     text.push(b'.')?;
-    push_decimal(text, octet.into())
+    push_decimal(text, octet)
 }
 
 /// Adds the decimals of the octets, joined by `.`.
@@ -60,7 +52,7 @@ fn push_dotted(text: &mut Vec<u8>, octet: u8) -> Result<(), AllocError>
 fn push_octets(text: &mut Vec<u8>, octets: &[u8; 4]) -> Result<(), AllocError>
     ensures { OnOk result (text.new.items ≡ text.old.items ++ octets_text octets.now) }
 {
-    push_decimal(text, octets[0].into())?;
+    push_decimal(text, octets[0])?;
     push_dotted(text, octets[1])?;
     push_dotted(text, octets[2])?;
     push_dotted(text, octets[3])

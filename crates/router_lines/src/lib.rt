@@ -5,7 +5,6 @@
 mod answers;
 mod arrive_line;
 mod arriving;
-mod decimal;
 mod gathered;
 mod hex_line;
 mod laws;

@@ -4,9 +4,9 @@ ghost use Rattle.std.specs.List.{flat_map, range_with_len};
 ghost use Rattle.router_rules.specs.Links.{link_count};
 ghost use Rattle.router_lines.specs.Report.{count_text, counts_text, drop_line, drops_text, link_line, link_text, name_text, names_text, not_now_text, report};
 
-use crate::decimal::push_decimal;
 use pipe_model::{Bytes, Outgoing, World};
 use process_packet::Totals;
+use router_config::push_decimal;
 use router_rules::{interface_at, link_count};
 use std::alloc::AllocError;
 

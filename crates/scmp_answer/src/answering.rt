@@ -22,7 +22,7 @@ use scion_header::{Address, Header, Upper, lawful, upper_layer};
 use std::alloc::Global;
 
 /// The most bytes that an answer has.
-const LONGEST: usize = 1232;
+pub const LONGEST_ANSWER: usize = 1232;
 
 /// Whether the packet is an SCMP error message, or can't be told from one, and the answer would be
 /// another.
@@ -81,7 +81,7 @@ pub fn answer_into(
     source: Underlay,
     bytes: &[u8],
     problem: &Problem,
-    out: &mut [u8; LONGEST],
+    out: &mut [u8; LONGEST_ANSWER],
 ) -> AnswerLen
     requires { first_fault bytes.now ≡ None }
     ensures answer { outcome_in out.new result ≡ outcome (reply (local_address config.now) link source bytes.now problem.now) }
@@ -120,7 +120,7 @@ pub fn answer(
     ensures refused { let a = arrival.entry.now in
         OnErr result (is_sent (reply (local_address config.now) a.link a.source a.bytes.items problem.now) ≡ true) }
 {
-    let mut out = [0; LONGEST];
+    let mut out = [0; LONGEST_ANSWER];
     let bytes = arrival.bytes.as_slice();
     match answer_into(
         config,

@@ -13,5 +13,5 @@ mod tests;
 mod way_back;
 mod writing;
 
-pub use answering::{answer, answer_into};
+pub use answering::{LONGEST_ANSWER, answer, answer_into};
 pub use outcome::{AnswerLen, Answered};

@@ -4,7 +4,7 @@ use Rattle.process_packet.specs.Network.{network}
 use Rattle.process_packet.proofs.FrontLemmas.{too_long_dropped}
 use Rattle.process_packet.proofs.routed.route.Goals as goal
 
-pub returns-then-len-gt-LONGEST : goal.returns-then-len-gt-LONGEST
-returns-then-len-gt-LONGEST c =
+pub returns-then-len-gt-LONGEST_DATAGRAM : goal.returns-then-len-gt-LONGEST_DATAGRAM
+returns-then-len-gt-LONGEST_DATAGRAM c =
     let a = c.args.arrival.now in
-    ap decision_of (too_long_dropped (network c.args.config.now) a.link a.source a.now a.bytes.items (omega (arith, c.if-len-gt-LONGEST.true, c.len-len.ensures)))
+    ap decision_of (too_long_dropped (network c.args.config.now) a.link a.source a.now a.bytes.items (omega (arith, c.if-len-gt-LONGEST_DATAGRAM.true, c.len-len.ensures)))

@@ -9,4 +9,4 @@ use Rattle.pipe_model.proofs.pipe.Pipe.has_end_of.Goals as goal
 pub returns : goal.returns
 returns c =
     let W = worker_of c.args.worker in
-    c.is_among.ensures ∙ (ap (λ (vs : List Actor). has_ended vs W) c.as_slice.ensures.value ∙ (c.self.invariant.ended W ∙ ap (λ (p : Pipe kinds). has_end_of W p) c.self.view_is))
+    c.has_ended.ensures ∙ (ap (λ (vs : List Actor). has_ended vs W) c.as_slice.ensures.value ∙ (c.self.invariant.ended W ∙ ap (λ (p : Pipe kinds). has_end_of W p) c.self.view_is))
