@@ -1,9 +1,11 @@
 -- Rounds on words, against rounds on states.
-use Rattle.std.proofs.Common.{◌≡◌, ℕ, ◌+◌, ◌*◌, ◌<◌, List, [], ◌∷◌, get_or, length, map, bit_xor, refl, sym, ap, ◌∙◌, arith}
+use Rattle.std.proofs.Common.{◌≡◌, ℕ, suc, ◌+◌, ◌*◌, ◌<◌, List, [], ◌∷◌, get_or, length, map, bit_xor, refl, sym, ap, ◌∙◌, arith}
 use Rattle.std.proofs.lemmas.List.{get_or-map}
 use Rattle.aes128_core.specs.SBox.{s_box}
-use Rattle.aes128_core.specs.State.{xor_words, state_from}
-use Rattle.aes128_core.specs.Rounds.{sub_bytes, shift_rows, mix_column, mix_columns, add_round_key}
+use Rattle.aes128_core.specs.State.{xor_words, state_from, bytes_of}
+use Rattle.aes128_core.specs.Aes128.{cipher}
+use Rattle.aes128_core.specs.KeyExpansion.{key_expansion}
+use Rattle.aes128_core.specs.Rounds.{sub_bytes, shift_rows, mix_column, mix_columns, add_round_key, rounds}
 use Rattle.aes128_core.specs.Columns.{word_bytes, state_of_words, word_from}
 use Rattle.aes128_core.proofs.ColumnLemmas.{word_bytes-xor}
 
@@ -66,3 +68,21 @@ first_round_is w block x0 x1 x2 x3 inside e0 e1 e2 e3 =
     let s2 = word_bytes-xor x2 (get_or w 2 0) in
     let s3 = word_bytes-xor x3 (get_or w 3 0) in
     cc
+
+-- ---- round after round
+
+pub no_round : (w s a : List (List ℕ)) → a ≡ add_round_key w 0 s → a ≡ rounds w s 0
+unfolding rounds
+no_round w s a made = made
+
+pub round_more : (w s : List (List ℕ)) (n : ℕ) (a b : List (List ℕ)) → a ≡ rounds w s n
+    → b ≡ add_round_key w (n + 1) (mix_columns (shift_rows (sub_bytes a))) → b ≡ rounds w s (suc n)
+unfolding rounds
+round_more w s n a b is made = made ∙ ap (λ (x : List (List ℕ)). add_round_key w (n + 1) (mix_columns (shift_rows (sub_bytes x)))) is
+
+pub last_round_more : (key block : List ℕ) (w a b : List (List ℕ)) → w ≡ key_expansion key → a ≡ rounds w (state_from block) 9
+    → b ≡ add_round_key w 10 (shift_rows (sub_bytes a)) → bytes_of b ≡ cipher key block
+unfolding cipher
+last_round_more key block w a b words is made =
+    ap bytes_of (made ∙ ap (λ (x : List (List ℕ)). add_round_key w 10 (shift_rows (sub_bytes x))) is)
+    ∙ ap (λ (v : List (List ℕ)). bytes_of (add_round_key v 10 (shift_rows (sub_bytes (rounds v (state_from block) 9))))) words

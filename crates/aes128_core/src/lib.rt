@@ -53,7 +53,6 @@ impl Aes128 {
     }
 
     /// Encrypts one block of 16 bytes: the standard's `Cipher` of 10 rounds (FIPS 197, section 5.1).
-    #[tactic(auto, unfolding(crate::specs::Rounds::rounds, crate::specs::Aes128::cipher))]
     pub fn encrypt(&self, block: &[u8; 16]) -> [u8; 16]
         ensures { result ≡ cipher self.now block.now }
     {
