@@ -1,3 +1,1 @@
-pub mod EngineLemmas
-pub mod ReplayLemmas
 pub mod WordsLemmas

@@ -1,5 +1,1 @@
-pub mod Lines
-pub mod Engine
-pub mod Replay
-pub mod ReplayParts
 pub mod Words

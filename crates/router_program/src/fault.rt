@@ -1,45 +1,11 @@
 //! Why the program ends before its work is done.
-ghost use Rattle.std.specs.Prelude.{◌≡◌};
-ghost use Rattle.router_program.specs.declared.fault.LinesFault.TheVariants.{Memory};
 
 use crate::words::WordsFault;
 use router_config::ConfigFault;
-use std::alloc::{AllocError, AllocFailed};
+use router_engine::LinesFault;
+use std::alloc::AllocFailed;
 use std::io;
 use thiserror::Error;
-
-/// Why an engine stopped before the end of its input.
-#[derive(Clone, Copy, Debug, Drop, PartialEq, Eq, Error)]
-pub enum LinesFault {
-    /// The line with this number, counted from 1, is none of the format.
-    #[error("line {0}")]
-    Line(u64),
-    /// The reader failed.
-    #[error("input")]
-    Input,
-    /// The writer failed.
-    #[error("output")]
-    Output,
-    /// No memory was left for the engine itself.
-    #[error("memory")]
-    Memory,
-}
-
-impl From<AllocError> for LinesFault {
-    ghost from_gives = { λ _ e. e ≡ Memory };
-
-    fn from(_error: AllocError) -> LinesFault {
-        LinesFault::Memory
-    }
-}
-
-impl<T: Drop> From<AllocFailed<T>> for LinesFault {
-    ghost from_gives = { λ _ e. e ≡ Memory };
-
-    fn from(_error: AllocFailed<T>) -> LinesFault {
-        LinesFault::Memory
-    }
-}
 
 /// Why the program ends with another status than 0. Its text follows `fault: `.
 #[derive(Debug, Drop, Error)]

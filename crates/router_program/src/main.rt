@@ -2,25 +2,16 @@
 //! datagrams, one a line in hex; `router replay --config FILE` makes steps of the pipeline, one a line.
 #![tactic(auto)]
 
-mod engine;
 mod fault;
-mod replay;
-#[cfg(test)]
-mod replay_tests;
-#[cfg(test)]
-mod rows;
-#[cfg(test)]
-mod schedules;
 #[cfg(test)]
 mod tests;
 mod words;
 
-use crate::engine::route_lines;
 use crate::fault::Fault;
-use crate::replay::replay_lines;
 use crate::words::{Order, read_words};
 use process_packet::{Config, Underlay};
 use router_config::read_config;
+use router_engine::{LinesFault, replay_lines, route_lines};
 use router_lines::{Arriving, usual_source};
 use std::io::BufReader;
 use std::process::ExitCode;
@@ -94,7 +85,7 @@ fn main(rt: HostRuntime) -> ExitCode {
     let fault = match fault {
         Fault::Words(words::WordsFault::Told(error)) => match error.print(&rt) {
             Ok(()) => return ExitCode::from(if error.use_stderr() { 2 } else { 0 }),
-            Err(_) => Fault::Lines(fault::LinesFault::Output),
+            Err(_) => Fault::Lines(LinesFault::Output),
         },
         other => other,
     };

@@ -1,0 +1,40 @@
+use Rattle.std.proofs.Common.{Ok, ap, ◌∙◌}
+use Rattle.router_engine.proofs.RouteLemmas.{answered, cut_short, ended, refused, stopped}
+use Rattle.router_engine.proofs.route.route_lines.Goals as goal
+
+pub returns-in-Ok-false : goal.returns-in-Ok-false
+returns-in-Ok-false g c =
+    let none_left = c.in-Ok-false.is ∙ ap (λ b. Ok b) c.in-Ok-false.field-0-test in
+    ended _ _ _ _ _ _ c.loop-number.invariant (rw none_left at c.read_line.ensures.end)
+
+pub returns-in-Err : goal.returns-in-Err
+returns-in-Err g c = stopped _ _ _ _ _ _ c.loop-number.invariant
+
+pub returns-in-Err-2 : goal.returns-in-Err-2
+returns-in-Err-2 g c = stopped _ _ _ _ _ _ c.loop-number.invariant
+
+pub returns-in-Ok-false-answer_line : goal.returns-in-Ok-false-answer_line
+returns-in-Ok-false-answer_line g c =
+    let read = rw (c.in-Ok-true.is ∙ ap (λ b. Ok b) c.in-Ok-true.field-0-test) at c.read_line.ensures.line in
+    let answer = rw c.in-Ok-false-answer_line.field-0-test at c.in-Ok-false-answer_line.ensures in
+    refused _ _ _ _ _ _ _ c.as_slice.result.now c.loop-number.invariant (rw (← c.as_slice.ensures.value) at read) answer
+
+pub returns-in-Err-answer_line : goal.returns-in-Err-answer_line
+returns-in-Err-answer_line g c = stopped _ _ _ _ _ _ c.loop-number.invariant
+
+pub returns-in-Err-send : goal.returns-in-Err-send
+returns-in-Err-send g c =
+    let read = rw (c.in-Ok-true.is ∙ ap (λ b. Ok b) c.in-Ok-true.field-0-test) at c.read_line.ensures.line in
+    let answer = rw c.in-Ok-true-answer_line.field-0-test at c.in-Ok-true-answer_line.ensures in
+    cut_short _ _ _ _ _ _ _ _ _ c.as_slice.result.now _ c.loop-number.invariant (rw (← c.as_slice.ensures.value) at read) answer
+    (rw c.as_slice-in-loop-number.ensures.value at c.send.ensures.begins.1)
+
+pub loop-number-preserved : goal.loop-number-preserved
+loop-number-preserved g c =
+    let read = rw (c.in-Ok-true.is ∙ ap (λ b. Ok b) c.in-Ok-true.field-0-test) at c.read_line.ensures.line in
+    let answer = rw c.in-Ok-true-answer_line.field-0-test at c.in-Ok-true-answer_line.ensures in
+    answered _ _ _ _ _ _ _ _ c.as_slice.result.now _ c.loop-number.invariant (rw (← c.as_slice.ensures.value) at read) answer
+    (rw c.as_slice-in-loop-number.ensures.value at c.in-Ok.ensures.ok)
+
+pub returns : goal.returns
+returns g c = stopped _ _ _ _ _ _ c.loop-number.invariant

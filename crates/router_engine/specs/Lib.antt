@@ -1,0 +1,4 @@
+pub mod Lines
+pub mod Route
+pub mod Replay
+pub mod ReplayParts

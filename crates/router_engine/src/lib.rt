@@ -1,0 +1,20 @@
+//! The engines of the router's commands, over any reader and writer: `route` answers datagrams line by
+//! line, `replay` makes steps of the pipeline and reports.
+#![tactic(auto)]
+
+mod fault;
+mod lines;
+mod replay;
+#[cfg(test)]
+mod replay_tests;
+mod route;
+#[cfg(test)]
+mod rows;
+#[cfg(test)]
+mod schedules;
+#[cfg(test)]
+mod tests;
+
+pub use fault::LinesFault;
+pub use replay::replay_lines;
+pub use route::route_lines;

@@ -1,0 +1,50 @@
+//! Lines read from a reader, and texts written to a writer.
+ghost use Rattle.std.specs.Prelude.{◌≡◌, ◌≢◌, ℕ, take, Some, IfOk, IfErr, IfSome, OnOk, []};
+ghost use Rattle.std.specs.Bool.{OnFalse, OnTrue};
+ghost use Rattle.std.specs.Io.BufRead.{drop_through, first_piece};
+ghost use Rattle.std.specs.Io.KnownBytes.{Appends};
+ghost use Rattle.router_engine.specs.declared.fault.LinesFault.TheVariants as faults;
+
+use crate::fault::LinesFault;
+use std::io::{self, BufRead, Write};
+
+/// Writes all of the text, or a beginning of it where the writer fails, and hands it on at once.
+pub(crate) fn send<W: Write>(writer: &mut W, text: &[u8]) -> Result<(), LinesFault>
+    ensures ok { OnOk result (Appends (W.contents writer.old) (W.contents writer.new) text.now) }
+    ensures begins { (k : ℕ) × Appends (W.contents writer.old) (W.contents writer.new) (take k text.now) }
+    ensures err { IfErr result (λ e. e ≡ faults.Output) }
+{
+    let mut at = 0;
+    while at < text.len() {
+        match writer.write(&text[at..]) {
+            Ok(0) => return Err(LinesFault::Output),
+            Ok(count) => at += count,
+            Err(_) => return Err(LinesFault::Output),
+        }
+    }
+    match writer.flush() {
+        Ok(()) => Ok(()),
+        Err(_) => Err(LinesFault::Output),
+    }
+}
+
+/// Whether an error of a reader that fills a buffer is want of memory for the buffer.
+pub(crate) fn is_memory(error: &io::Error) -> bool {
+    error.kind() == io::ErrorKind::OutOfMemory
+}
+
+/// Replaces the line with the next one, without its end; false where nothing is left.
+pub(crate) fn read_line<R: BufRead>(reader: &mut R, line: &mut Vec<u8>) -> io::Result<bool>
+    ensures end { IfOk result (λ more. OnFalse more (IfSome (R.remaining reader.old) (λ input. input ≡ []))) }
+    ensures line { IfOk result (λ more. OnTrue more (IfSome (R.remaining reader.old) (λ input.
+        (input ≢ []) × (line.new.items ≡ first_piece 10 input) × (R.remaining reader.new ≡ Some (drop_through 10 input))))) }
+{
+    line.clear();
+    if reader.read_until(b'\n', line)? == 0 {
+        return Ok(false);
+    }
+    if line.last() == Some(&b'\n') {
+        line.pop();
+    }
+    Ok(true)
+}
