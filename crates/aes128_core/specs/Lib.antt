@@ -5,4 +5,3 @@ pub mod KeyExpansion
 pub mod Rounds
 pub mod SBox
 pub mod State
-pub mod Vectors

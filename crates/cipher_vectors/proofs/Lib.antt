@@ -1,0 +1,2 @@
+pub mod Aes128
+pub mod Cmac
