@@ -39,17 +39,23 @@ impl Came {
         }
     }
 
-    pub fn copied(&self) -> Result<Came, AllocError>
-        ensures { IfOk result (λ came. came ≡ self.entry.now) }
+    /// The same arrival with other bytes.
+    pub fn with(&self, bytes: Bytes) -> Came
+        ensures { result ≡ record self.entry.now { bytes = bytes } }
     {
-        let bytes = self.bytes.copied()?;
-        Ok(Came {
+        Came {
             link: self.link,
             number: self.number,
             interface: self.interface,
             source: self.source,
             now: self.now,
             bytes,
-        })
+        }
+    }
+
+    pub fn copied(&self) -> Result<Came, AllocError>
+        ensures { IfOk result (λ came. came ≡ self.entry.now) }
+    {
+        Ok(self.with(self.bytes.copied()?))
     }
 }

@@ -3,11 +3,14 @@
 ghost use Rattle.std.specs.Prelude.{◌≡◌, None, IfNone, IfOk, slice_index};
 ghost use Rattle.pipe_order.specs.Next as next;
 ghost use Rattle.pipe_order.specs.World.{home};
+ghost use Rattle.process_packet.specs.Decide.{decide, moved};
+ghost use Rattle.process_packet.specs.Network.{network};
 ghost use Rattle.router_rules.specs.Rules.{inspected, is_urgent, rules};
 ghost use Rattle.scion_packet.specs.Header.{header_fault};
 ghost use Rattle.pipe_model.specs.Items.{arrival_in, item_in};
 ghost use Rattle.pipe_model.specs.Outcomes.{outcome_in};
 
+use crate::came::Came;
 use crate::cause::Cause;
 use crate::item::{Item, Out, Parcel};
 use crate::numbers::{link_number, link_pipe, slow_seat};
@@ -85,14 +88,29 @@ pub fn home(config: &Config, item: &Item) -> usize
     }
 }
 
+/// What is decided of a datagram, and its bytes afterwards.
+fn route(config: &Config, came: &Came) -> Result<(Decision, Bytes), AllocError>
+    ensures decision { IfOk result (λ made. made.0 ≡ decide (network config.now) came.entry.now.interface came.entry.now.source came.entry.now.now came.entry.now.bytes) }
+    ensures bytes { IfOk result (λ made. made.1 ≡ moved (network config.now) came.entry.now.interface came.entry.now.source came.entry.now.now came.entry.now.bytes) }
+{
+    let mut bytes = came.bytes.to_vec()?;
+    let decision = route_in_place(
+        config,
+        came.interface,
+        came.source,
+        came.now,
+        bytes.as_mut_slice(),
+    );
+    Ok((decision, Bytes::new(bytes)))
+}
+
 /// What a processor makes of a packet.
 pub fn decide(config: &Config, packet: &Packet) -> Result<Outcome, AllocError>
     ensures { IfOk result (λ made. outcome_in made ≡ next.decided (arrival_in packet.now.came) ((rules config.now).decide (arrival_in packet.now.came))) }
 {
     let came = &packet.came;
-    let mut bytes = came.bytes.to_vec()?;
-    let slice = bytes.as_mut_slice();
-    match route_in_place(config, came.interface, came.source, came.now, slice) {
+    let (decision, bytes) = route(config, came)?;
+    match decision {
         Decision::Send { link, to } => Ok(Outcome::Makes(Item::Out(Out {
             arrived: came.link,
             number: came.number,
@@ -101,12 +119,13 @@ pub fn decide(config: &Config, packet: &Packet) -> Result<Outcome, AllocError>
             parcel: Parcel {
                 came_by: came.interface,
                 to,
-                bytes: Bytes::new(bytes),
+                bytes,
             },
         }))),
         Decision::Answer(problem) => {
             answers_are_sound();
-            let came = came.copied()?;
+            // The bytes are as they came.
+            let came = came.with(bytes);
             Ok(Outcome::Makes(Item::Asked(Asked { came, problem })))
         }
         Decision::Drop(reason) => Ok(Outcome::Ends(Cause::Ruled(reason))),

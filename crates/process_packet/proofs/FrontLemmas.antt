@@ -1,19 +1,18 @@
 -- From the parts of a datagram to its packet.
-use Rattle.std.proofs.Common.{◌≡◌, ◌≤◌, ◌<◌, ◌+◌, ◌-◌, ◌*◌, ℕ, Bool, None, Some, Option, List, [], ◌∷◌, ◌++◌, length, take, drop, sym, subst, ap, ap₂, ◌∙◌, arith, length-drop}
+use Rattle.std.proofs.Common.{◌≡◌, ◌≤◌, ◌<◌, ◌+◌, ◌-◌, ℕ, Bool, None, Some, Option, List, [], ◌∷◌, ◌++◌, length, take, drop, sym, subst, ap, ap₂, ◌∙◌, arith}
 use Rattle.std.proofs.lemmas.Bool.Decides.{Decides-ltb}
-use Rattle.std.proofs.lemmas.List.{drop-drop, take_all}
+use Rattle.std.proofs.lemmas.List.{drop-drop}
 use Rattle.field_rows.specs.Place.{IsBytes, text_at}
 use Rattle.path_fields.specs.declared.meta.Meta.{Meta}
 use Rattle.scion_packet.specs.Fault.{Fault}
-use Rattle.scion_packet.specs.Header.{HeaderFields, front_end, front_len, header_end, header_fault, header_of}
+use Rattle.scion_packet.specs.Header.{front_end, header_end, header_fault}
 use Rattle.scion_packet.specs.Lengths.{info_place}
 use Rattle.scion_packet.specs.Packet.{packet_of, path_bytes}
 use Rattle.scion_packet.specs.Path as packet
 use Rattle.scion_packet.specs.Path.{PathFields, Place, hop_number, lengths_of, path_fault, path_of, path_text}
-use Rattle.scion_packet.proofs.HeaderBack.{front_is}
-use Rattle.scion_packet.proofs.HeaderSpelled.{header_passes, header_spelled}
 use Rattle.scion_packet.proofs.Offsets.{fields_stand}
-use Rattle.scion_packet.proofs.PacketLaws.{part-are, pass_both, path_written_over}
+use Rattle.scion_packet.proofs.PacketLaws.{pass_both, path_written_over}
+use Rattle.scion_packet.proofs.Parts.{path_are, path_between}
 use Rattle.scion_packet.proofs.PathSpelled.{path_spelled}
 use Rattle.process_packet.specs.Decide.{decision_table, ends_as, moved_by, verdict, verdict_of}
 use Rattle.process_packet.specs.Departure.{Departs, moved_path}
@@ -29,37 +28,6 @@ use Rattle.process_packet.specs.declared.refusal.Refusal.TheVariants.{Answer, Dr
 use Rattle.process_packet.specs.declared.underlay.Underlay.{Underlay}
 use Rattle.process_packet.proofs.RowLemmas.{passed, stopped}
 use borrow.Rule.Slice.PartMut.{put_mid}
-
--- ---- where the path lies
-
-pub record PathLies (bytes : List ℕ) (h : HeaderFields) : Type 0 where
-  pub begin : front_len h ≡ front_end bytes
-  pub end : 4 * h.header_length ≡ header_end bytes
-  pub order : front_end bytes ≤ header_end bytes
-  pub inside : header_end bytes ≤ length bytes
-
-pub path_lies : (bytes : List ℕ) (h : HeaderFields) → IsBytes bytes → header_fault bytes ≡ None → h ≡ header_of bytes → PathLies bytes h
-path_lies bytes h are none is =
-    let ends = front_is bytes (header_of bytes) (header_spelled bytes are none) in
-    let passes = header_passes bytes none in
-    record {
-      begin = ap front_len is ∙ sym ends.0;
-      end = ap (λ (g : HeaderFields). 4 * g.header_length) is ∙ sym ends.1;
-      order = passes.covers;
-      inside = passes.whole;
-    }
-
--- the bytes between these places are those of the path
-pub path_between : (bytes : List ℕ) (begin end : ℕ) → begin ≡ front_end bytes → end ≡ header_end bytes → text_at bytes begin (end - begin) ≡ path_bytes bytes
-path_between bytes begin end begin-is end-is = ap₂ (λ (b e : ℕ). text_at bytes b (e - b)) begin-is end-is
-
--- what stands behind a place
-pub rest_of : (bytes : List ℕ) (end other : ℕ) → end ≡ other → take (length bytes - end) (drop end bytes) ≡ drop other bytes
-rest_of bytes end other same =
-    take_all (length bytes - end) (drop end bytes) (omega (arith, length-drop end bytes)) ∙ ap (λ (e : ℕ). drop e bytes) same
-
-pub path_are : (bytes : List ℕ) → IsBytes bytes → IsBytes (path_bytes bytes)
-path_are bytes are = part-are bytes (front_end bytes) (header_end bytes - front_end bytes) are
 
 pub meta_of : (m : Meta) (path other : List ℕ) → path ≡ other → IsBytes other → path_fault path ≡ None → m.lengths ≡ lengths_of path → m.current_info ≡ packet.current_info path
     → m.current_hop ≡ packet.current_hop path → IsMetaOf m other

@@ -15,7 +15,7 @@ impl Bands {
     ghost use Rattle.process_packet.specs.Neighbours.{are_two};
 
     /// Whether they are two.
-    pub(crate) fn are_two(&self) -> bool
+    pub fn are_two(&self) -> bool
         ensures { result ≡ are_two self.now }
     {
         match self {

@@ -6,7 +6,7 @@ ghost use Rattle.pipe_order.specs.Counts.{count};
 ghost use Rattle.process_packet.specs.Neighbours.{are_two, link_id};
 ghost use Rattle.router_rules.specs.Links.{has_two_bands, interface_at, link_count, link_index};
 
-use process_packet::{Bands, Config, Link};
+use process_packet::{Config, Link};
 
 /// How many links the router has, the internal network among them.
 pub fn link_count(config: &Config) -> usize
@@ -67,22 +67,16 @@ pub fn interface_at(config: &Config, index: usize) -> u16
     external_interface_at(config, index).unwrap_or(0)
 }
 
-fn are_two(bands: Bands) -> bool
-    ensures { result ≡ are_two bands }
-{
-    matches!(bands, Bands::Two)
-}
-
 /// Whether the link of this number to another AS has two bands.
 fn external_has_two_bands(config: &Config, index: usize) -> bool
     ensures { result ≡ list_any (λ k. Rattle.router_rules.specs.Links.rank config.now k.id == index && are_two k.bands) config.now.links.items }
 {
-    config.links.iter().any(|link| rank(config, link.id) == index && are_two(link.bands))
+    config.links.iter().any(|link| rank(config, link.id) == index && link.bands.are_two())
 }
 
 /// Whether the link with this number has two bands.
 pub fn has_two_bands(config: &Config, index: usize) -> bool
     ensures { result ≡ has_two_bands config.now index }
 {
-    index == 0 && are_two(config.internal_bands) || external_has_two_bands(config, index)
+    index == 0 && config.internal_bands.are_two() || external_has_two_bands(config, index)
 }

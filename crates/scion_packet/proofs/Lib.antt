@@ -8,5 +8,6 @@ pub mod PathBack
 pub mod HeaderSpelled
 pub mod HeaderBack
 pub mod PacketLaws
+pub mod Parts
 pub mod Offsets
 pub mod Reversing

@@ -6,9 +6,9 @@ use Rattle.process_packet.specs.Network.{network}
 use Rattle.process_packet.specs.Rows.{Verdict, delivery, egress_request, expired, ingress_request, leave, switch, turn_back_segment_id, unknown_egress, wrong_destination, wrong_ingress, wrong_mac, wrong_pair, wrong_payload_length, wrong_source, wrong_underlay_source}
 use Rattle.process_packet.specs.Sight.{IsAlike}
 use Rattle.process_packet.specs.Standing.{arrives, turned_back}
-use Rattle.process_packet.proofs.FrontLemmas.{path_between, rest_of}
 use Rattle.process_packet.proofs.RowLemmas.{passed, stopped}
 use Rattle.process_packet.proofs.TurningLemmas.{alike_turned, keeps_turned, turned_stays}
+use Rattle.scion_packet.proofs.Parts.{path_between, rest_of}
 use Rattle.process_packet.proofs.routing.depart.Goals as goal
 
 pub returns-in-Err : goal.returns-in-Err

@@ -2,8 +2,8 @@ use Rattle.std.proofs.Common.{refl, sym, arith, length-drop, ◌∙◌}
 use Rattle.scion_packet.specs.Header.{header_end, header_of}
 use Rattle.scion_packet.specs.Packet.{path_bytes}
 use Rattle.scion_packet.proofs.Offsets.{fields_stand}
-use Rattle.process_packet.proofs.FrontLemmas.{path_between, path_lies}
 use Rattle.process_packet.proofs.SpotLemmas.{count_of, first_spot, has_current, whole_path}
+use Rattle.scion_packet.proofs.Parts.{path_between, path_lies}
 use Rattle.process_packet.proofs.routing.sight_of.Goals as goal
 
 pub read-requires-clause-there : goal.read-requires-clause-there

@@ -1,5 +1,4 @@
 use Rattle.std.proofs.Common.{◌∙◌, ℕ, List, Option, sym, subst, ap, ap₂, arith}
-use Rattle.process_packet.proofs.FrontLemmas.{rest_of}
 use Rattle.process_packet.specs.declared.underlay.Underlay.{Underlay}
 use Rattle.scion_packet.specs.Header.{HostAddress}
 use Rattle.scion_packet.specs.Packet.{Packet, packet_of}
@@ -8,6 +7,7 @@ use Rattle.scmp_answer.specs.Outcome.{IfSent, IsGood, IsWritten, Leaves, outcome
 use Rattle.scmp_answer.specs.Reply.{Reply, answer_packet, local_address}
 use Rattle.scmp_answer.specs.WayBack.{has_no_way_back, way_back}
 use Rattle.scmp_answer.proofs.ReplyLemmas.{no_way, sent, unanswered}
+use Rattle.scion_packet.proofs.Parts.{rest_of}
 use Rattle.scmp_answer.proofs.answering.answer_into.Goals as goal
 
 pub returns-then-is_left_unanswered-clause-answer : goal.returns-then-is_left_unanswered-clause-answer

@@ -1,7 +1,7 @@
 use Rattle.std.proofs.Common.{◌≡◌, true, false, ap, sym, ◌∙◌}
-use Rattle.process_packet.proofs.FrontLemmas.{path_between}
 use Rattle.scion_packet.specs.Path.{path_fault}
 use Rattle.scion_packet.proofs.PacketLaws.{pass_both}
+use Rattle.scion_packet.proofs.Parts.{path_between}
 use Rattle.scmp_answer.proofs.tests.is_sound.Goals as goal
 
 pub returns-in-Ok-check_path : goal.returns-in-Ok-check_path

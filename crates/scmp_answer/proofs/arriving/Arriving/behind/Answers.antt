@@ -1,7 +1,7 @@
 use Rattle.std.proofs.Common.{Option, Some, None, ◌≡◌, ◌*◌, ℕ, ap, ◌∙◌, arith}
-use Rattle.process_packet.proofs.FrontLemmas.{path_between, path_lies}
 use Rattle.scion_packet.specs.Fault.{Fault}
 use Rattle.scion_packet.specs.Path.{path_fault, path_of}
+use Rattle.scion_packet.proofs.Parts.{path_between, path_lies}
 use Rattle.scmp_answer.proofs.arriving.Arriving.behind.Goals as goal
 
 not_both : (o : Option Fault) (f : Fault) → o ≡ None → o ≡ Some f → ⊥
