@@ -1,6 +1,8 @@
 //! Lines read from a reader, and texts written to a writer.
-ghost use Rattle.std.specs.Prelude.{◌≡◌, ◌≢◌, ℕ, take, Some, IfOk, IfErr, IfSome, OnOk, []};
+ghost use Rattle.std.specs.Prelude.{◌≡◌, ◌≢◌, ◌↔◌, ℕ, IsTrue, take, Some, IfOk, IfErr, IfSome, OnOk, []};
 ghost use Rattle.std.specs.Bool.{OnFalse, OnTrue};
+ghost use Rattle.std.specs.IoError.{error_kind};
+ghost use Rattle.std.specs.declared.io.ErrorKind.TheVariants.{OutOfMemory};
 ghost use Rattle.std.specs.Io.BufRead.{drop_through, first_piece};
 ghost use Rattle.std.specs.Io.KnownBytes.{Appends};
 ghost use Rattle.router_engine.specs.declared.fault.LinesFault.TheVariants as faults;
@@ -29,7 +31,9 @@ pub(crate) fn send<W: Write>(writer: &mut W, text: &[u8]) -> Result<(), LinesFau
 }
 
 /// Whether an error of a reader that fills a buffer is want of memory for the buffer.
-pub(crate) fn is_memory(error: &io::Error) -> bool {
+pub(crate) fn is_memory(error: &io::Error) -> bool
+    ensures { IsTrue result ↔ (error_kind error.now ≡ OutOfMemory) }
+{
     error.kind() == io::ErrorKind::OutOfMemory
 }
 

@@ -1,5 +1,10 @@
 //! Why the program ends before its work is done.
 
+ghost use Rattle.std.specs.Prelude.{◌≡◌, ◌≢◌};
+ghost use Rattle.std.specs.IoError.{error_kind};
+ghost use Rattle.std.specs.declared.io.ErrorKind.TheVariants as kind;
+ghost use Rattle.router_program.specs.declared.fault.Fault.TheVariants as fault;
+
 use crate::words::WordsFault;
 use router_config::ConfigFault;
 use router_engine::LinesFault;
@@ -35,7 +40,10 @@ pub enum Fault {
 
 impl Fault {
     /// What an error in reading the configuration's file means.
-    pub fn of_file(error: io::Error) -> Fault {
+    pub fn of_file(error: io::Error) -> Fault
+        ensures memory { error_kind error ≡ kind.OutOfMemory → result ≡ fault.Memory }
+        ensures file { error_kind error ≢ kind.OutOfMemory → result ≡ fault.File }
+    {
         match error.kind() {
             io::ErrorKind::OutOfMemory => Fault::Memory,
             _ => Fault::File,
@@ -43,7 +51,10 @@ impl Fault {
     }
 
     /// What an error in having the command line means.
-    pub fn of_words(error: io::Error) -> Fault {
+    pub fn of_words(error: io::Error) -> Fault
+        ensures memory { error_kind error ≡ kind.OutOfMemory → result ≡ fault.Memory }
+        ensures input { error_kind error ≢ kind.OutOfMemory → result ≡ fault.Input }
+    {
         match error.kind() {
             io::ErrorKind::OutOfMemory => Fault::Memory,
             _ => Fault::Input,
@@ -52,6 +63,8 @@ impl Fault {
 }
 
 impl<T: Drop> From<AllocFailed<T>> for Fault {
+    ghost from_gives = { λ _ told. told ≡ fault.Memory };
+
     fn from(_error: AllocFailed<T>) -> Fault {
         Fault::Memory
     }

@@ -8,7 +8,7 @@ use Rattle.scion_packet.specs.Path.{Segment, current_hop, current_info, hop_at, 
 use Rattle.scion_packet.specs.Places.{hop_there, info_there, is_last_of_path, no_hop, no_segment, segment_there}
 use Rattle.scion_packet.specs.Laws.{FieldsStand}
 use Rattle.scion_packet.proofs.PathSpelled.{current_number, passes_tests, sized_of}
-use Rattle.scion_packet.proofs.Sizes.{EndOf, IsHopOf, LengthCase, One, Two, Three, count_few, end_of, few_hops, hop_is_of, length_case}
+use Rattle.scion_packet.proofs.Sizes.{EndOf, IsHopOf, One, Two, Three, count_few, end_of, few_hops, hop_is_of, length_case}
 
 segment_stands : (path lengths : List ℕ) (k i : ℕ) → k < segment_count lengths → segment_there (segments_at lengths path) (place_at k i) ≡ segment_at lengths path k
 segment_stands path lengths k i below = get_or-map-range_with_len (segment_at lengths path) 0 (segment_count lengths) k k no_segment below (omega arith)
