@@ -1,16 +1,9 @@
 -- Texts that stand one after the other, and writes one after the other.
-use Rattle.std.proofs.Common.{◌≡◌, ◌≤◌, ◌<◌, ℕ, suc, ◌+◌, ◌%◌, List, [], ◌∷◌, ◌++◌, length, get_or, take, drop, refl, sym, ap, ◌∙◌, append_assoc, arith, length-append, length-drop}
+use Rattle.std.proofs.Common.{◌≡◌, ◌≤◌, ◌<◌, ℕ, suc, ◌+◌, ◌%◌, List, [], ◌∷◌, ◌++◌, length, get_or, take, drop, refl, sym, ap, ◌∙◌, append_assoc, arith, length-append, length-drop, take-add}
 use Rattle.std.proofs.lemmas.List.{take-append-drop, length-take-le, take_at, drop_at, drop-drop, drop-take, take-take, drop_more, get_or-take, get_or-drop}
 use Rattle.byteorder.specs.Endian.{big_bytes}
 use Rattle.field_rows.specs.Row.{Field, Fits, row, rows}
 use Rattle.field_rows.specs.Place.{Puts, StandsAt, TableAt}
-
--- the front of a list in two parts
-pub take_two : (m n : ℕ) (xs : List ℕ) → take (m + n) xs ≡ take m xs ++ take n (drop m xs)
-take_two m n xs =
-    let front : take m (take (m + n) xs) ≡ take m xs = take-take m (m + n) xs (omega arith) in
-    let back : drop m (take (m + n) xs) ≡ take n (drop m xs) = drop-take m n xs in
-    sym (take-append-drop m (take (m + n) xs)) ∙ rw (front, back) refl
 
 -- a byte that is there stands at its place
 pub byte-stands : (bytes : List ℕ) (at : ℕ) → at < length bytes → StandsAt bytes at (get_or bytes at 0 ∷ [])
@@ -30,7 +23,7 @@ first_byte-stands bytes at x text stands =
 pub StandsAt-then : (bytes : List ℕ) (at : ℕ) (a b : List ℕ) → StandsAt bytes at a → StandsAt bytes (at + length a) b → StandsAt bytes at (a ++ b)
 StandsAt-then bytes at a b first second =
     let moved : drop (length a) (drop at bytes) ≡ drop (at + length a) bytes = drop-drop (length a) at bytes in
-    let split : take (length a + length b) (drop at bytes) ≡ take (length a) (drop at bytes) ++ take (length b) (drop (length a) (drop at bytes)) = take_two (length a) (length b) (drop at bytes) in
+    let split : take (length a + length b) (drop at bytes) ≡ take (length a) (drop at bytes) ++ take (length b) (drop (length a) (drop at bytes)) = take-add (length a) (length b) (drop at bytes) in
     record { read = rw (length-append a b, split, moved, first.read, second.read) refl }
 
 pub Puts-then : (old mid new : List ℕ) (at : ℕ) (a b : List ℕ) → Puts old mid at a → Puts mid new (at + length a) b → Puts old new at (a ++ b)

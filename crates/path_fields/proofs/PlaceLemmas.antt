@@ -4,9 +4,10 @@ use Rattle.std.proofs.lemmas.Bool.{cases_lt, lt-ltb, le-ltb, cond-true, cond-fal
 use Rattle.scion_packet.specs.Lengths.{are_lengths, first_hop, hop_count, segment_count, segment_of}
 use Rattle.scion_packet.specs.Path.{Place, Segment, hops_in, place_at}
 use Rattle.scion_packet.specs.Places.{is_followed, is_last_of_segment, next}
+use Rattle.scion_packet.proofs.Sizes.{One, Two, Three, in_first, in_second, in_third, length_case}
 use Rattle.path_fields.specs.Path.{place, segments}
 use Rattle.path_fields.specs.declared.path.Path.{Path}
-use Rattle.path_fields.proofs.SegmentLemmas.{HasSizes, count_cases, in_current_segment, in_first, in_second, in_third, path_sizes}
+use Rattle.path_fields.proofs.SegmentLemmas.{HasSizes, in_current_segment, path_sizes}
 
 inside : (ss : List Segment) (k position : ℕ) → position + 1 < hops_in ss k → next ss (place_at k position) ≡ Some (place_at k (position + 1))
 inside ss k position lt = cond-true _ _ _ (lt-ltb _ _ lt)
@@ -34,16 +35,18 @@ step ss lengths h k position k' position' e0 e1 e2 e3 moves =
 -- how many segments there are where a length is not 0
 two_segments : (lengths : List ℕ) → are_lengths lengths ≡ true → 0 < slice_index lengths 1 + slice_index lengths 2 → (1 < segment_count lengths) × (0 < slice_index lengths 1)
 two_segments lengths lawful some =
-    elim (count_cases lengths lawful) [
-      | inl one ↦ absurd (omega (arith, one.0, one.1))
-      | inr more ↦ elim more [ inl two ↦ (omega (arith, two.2), two.0) | inr three ↦ (omega (arith, three.2), three.0) ]
+    elim (length_case lengths lawful) [
+      | One first none nothing count ↦ absurd (omega arith)
+      | Two first more nothing count ↦ (omega arith, more)
+      | Three first more most count ↦ (omega arith, more)
     ]
 
 three_segments : (lengths : List ℕ) → are_lengths lengths ≡ true → 0 < slice_index lengths 2 → 2 < segment_count lengths
 three_segments lengths lawful some =
-    elim (count_cases lengths lawful) [
-      | inl one ↦ absurd (omega (arith, one.1))
-      | inr more ↦ elim more [ inl two ↦ absurd (omega (arith, two.1)) | inr three ↦ omega (arith, three.2) ]
+    elim (length_case lengths lawful) [
+      | One first none nothing count ↦ absurd (omega arith)
+      | Two first more nothing count ↦ absurd (omega arith)
+      | Three first more most count ↦ omega arith
     ]
 
 pub next_hop : (ss : List Segment) (lengths : List ℕ) (h : ℕ) → HasSizes ss lengths → are_lengths lengths ≡ true → h + 1 < hop_count lengths
@@ -83,14 +86,12 @@ last_hop ss lengths h sizes lawful there last =
     let a = slice_index lengths 0 in
     let b = slice_index lengths 1 in
     let at-is = λ (k position : ℕ) (e : segment_of lengths h ≡ k) (f : h - first_hop lengths k ≡ position). ap (λ (at : Place). next ss at) (at_hop_is lengths h k position e f) in
-    elim (count_cases lengths lawful) [
-      | inl one ↦ at-is 0 h (in_first lengths h (omega (arith, one.0, one.1))) (omega arith) ∙ at_end ss 0 h (omega (arith, one.0, one.1, sizes.first)) (omega (arith, one.2, sizes.count))
-      | inr more ↦ elim more [
-        | inl two ↦
-            at-is 1 (h - a) (in_second lengths h (omega (arith, two.0, two.1)) (omega (arith, two.1))) (omega arith) ∙ at_end ss 1 (h - a) (omega (arith, two.1, sizes.second)) (omega (arith, two.2, sizes.count))
-        | inr three ↦
-            at-is 2 (h - (a + b)) (in_third lengths h (omega (arith, three.1))) (omega arith) ∙ at_end ss 2 (h - (a + b)) (omega (arith, sizes.third)) (omega (arith, three.2, sizes.count))
-      ]
+    elim (length_case lengths lawful) [
+      | One some none nothing count ↦ at-is 0 h (in_first lengths h (omega arith)) (omega arith) ∙ at_end ss 0 h (omega (arith, sizes.first)) (omega (arith, sizes.count))
+      | Two some more nothing count ↦
+          at-is 1 (h - a) (in_second lengths h (omega arith) (omega arith)) (omega arith) ∙ at_end ss 1 (h - a) (omega (arith, sizes.second)) (omega (arith, sizes.count))
+      | Three some more most count ↦
+          at-is 2 (h - (a + b)) (in_third lengths h (omega arith)) (omega arith) ∙ at_end ss 2 (h - (a + b)) (omega (arith, sizes.third)) (omega (arith, sizes.count))
     ]
 
 -- ---- for a path

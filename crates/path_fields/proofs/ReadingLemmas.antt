@@ -2,11 +2,11 @@
 use Rattle.std.proofs.Common.{◌≡◌, ◌≢◌, ◌==◌, ◌≤◌, ◌<◌, ℕ, zero, suc, ◌+◌, ◌-◌, ◌*◌, ◌/◌, ◌%◌, true, false, List, [], ◌∷◌, ◌++◌, map, take, drop, slice_index, refl, sym, ap, ap₂, ◌∙◌, arith}
 use Rattle.std.specs.List.{range_with_len}
 use Rattle.std.proofs.lemmas.Bool.{eq-eqb, ne_eqb, and_from, and_left, and_right}
-use Rattle.std.proofs.lemmas.Bool.Decides.{nat_tests}
 use Rattle.std.proofs.lemmas.List.{map-append, drop-map, take-map}
 use Rattle.std.proofs.lemmas.List.FromFn.{map-range_with_len_more, take-map-range_with_len}
 use Rattle.scion_packet.specs.Lengths.{first_hop, hop_count, hop_place, hops_place, info_place, segment_count}
 use Rattle.scion_packet.specs.Path.{HopField, PathFields, Segment, current_hop, current_info, hop_at, info_at, lengths_of, meta_field, no_peering, path_of, place_at, segment_at, segments_at}
+use Rattle.scion_packet.proofs.Sizes.{count_few}
 use Rattle.path_fields.specs.Fields.{hop_field, info_field}
 use Rattle.path_fields.specs.Path.{segments_from}
 use Rattle.path_fields.specs.declared.fields.Info.{Info}
@@ -93,9 +93,6 @@ all_whole lengths (suc zero) below = omega arith
 all_whole lengths (suc (suc zero)) below = omega arith
 all_whole lengths (suc (suc (suc j))) below = absurd (omega arith)
 
-pub few_segments : (lengths : List ℕ) → segment_count lengths ≤ 3
-few_segments lengths = grind (arith, nat_tests)
-
 pub same_fields : (path lengths : List ℕ) (reserved info hop count place all : ℕ) (infos : List Info) (hops : List Hop)
     → reserved ≡ meta_field path 18 6 → info ≡ current_info path → hop ≡ current_hop path → lengths ≡ lengths_of path
     → count ≡ segment_count lengths → place ≡ hops_place lengths → all ≡ hop_count lengths
@@ -103,7 +100,7 @@ pub same_fields : (path lengths : List ℕ) (reserved info hop count place all :
     → map hop_field hops ≡ map (λ j. hop_at path (place + 12 * j)) (range_with_len 0 all)
     → (let p : PathFields = record { reserved = reserved; place = place_at info (hop - first_hop lengths info); segments = segments_from 0 lengths infos hops } in p ≡ path_of path)
 same_fields path lengths reserved info hop count place all infos hops reserved-is info-is hop-is lengths-is count-is place-is all-is infos-are hops-are =
-    let few : segment_count lengths ≤ 3 = few_segments lengths in
+    let few : segment_count lengths ≤ 3 = count_few lengths in
     let infos-named = infos-are ∙ ap (λ n. map (λ j. info_at path (info_place j)) (range_with_len 0 n)) count-is in
     let hops-named = hops-are ∙ ap (λ n. map (λ j. hop_at path (n + 12 * j)) (range_with_len 0 all)) place-is ∙ ap (λ n. map (λ j. hop_at path (hop_place lengths j)) (range_with_len 0 n)) all-is in
     let cut : segments_from 0 lengths infos hops ≡ segments_at lengths path = same_from path lengths 0 (segment_count lengths) infos hops infos-named hops-named (λ j below. all_whole lengths j (omega (arith, below))) in

@@ -6,13 +6,14 @@ use Rattle.scion_packet.specs.Lengths.{are_lengths, first_hop, hop_count, segmen
 use Rattle.scion_packet.specs.Path.{HopField, InfoField, PathFields, Place, Segment, hops_in, place_at}
 use Rattle.scion_packet.specs.Places.{mirrored}
 use Rattle.scion_packet.specs.Reversed.{cleared_hop, reversed_info, reversed_path, reversed_segment}
+use Rattle.scion_packet.proofs.Sizes.{One, Two, Three, few_hops, in_first, in_second, in_third, length_case}
 use Rattle.path_fields.specs.Fields.{hop_field, info_field}
 use Rattle.path_fields.specs.Path.{fields_of, place, segments, segments_from}
 use Rattle.path_fields.specs.Reversed.{reversed_lengths}
 use Rattle.path_fields.specs.declared.fields.Info.{Info}
 use Rattle.path_fields.specs.declared.fields.Hop.{Hop}
 use Rattle.path_fields.specs.declared.path.Path.{Path}
-use Rattle.path_fields.proofs.SegmentLemmas.{count_cases, few_segments, in_current_segment, in_first, in_second, in_third, path_sizes, some_hops}
+use Rattle.path_fields.proofs.SegmentLemmas.{few_segments, in_current_segment, path_sizes}
 
 -- one more item from the end
 pub one_back : {A B : Type 0} (view : A → B) (f : B → B) (xs back : List A) (k : ℕ) (x new : A) → k < length xs
@@ -85,25 +86,25 @@ three_end lengths (suc zero) there = (refl, omega arith)
 three_end lengths (suc (suc zero)) there = (refl, omega arith)
 three_end lengths (suc (suc (suc k))) there = absurd (omega arith)
 
-one_segment_back : (lengths : List ℕ) → are_lengths lengths ≡ true → slice_index lengths 1 ≡ 0 → slice_index lengths 2 ≡ 0 → segment_count lengths ≡ 1 → IsBack lengths (slice_index lengths 0 ∷ 0 ∷ 0 ∷ [])
-one_segment_back lengths lawful none none' count =
-    let some = some_hops lengths lawful in
-    let few : slice_index lengths 0 + 0 + 0 ≤ 64 = omega (arith, some.1) in
+one_segment_back : (lengths : List ℕ) → are_lengths lengths ≡ true → 1 ≤ slice_index lengths 0 → slice_index lengths 1 ≡ 0 → slice_index lengths 2 ≡ 0 → segment_count lengths ≡ 1
+    → IsBack lengths (slice_index lengths 0 ∷ 0 ∷ 0 ∷ [])
+one_segment_back lengths lawful some none none' count =
+    let few : slice_index lengths 0 + 0 + 0 ≤ 64 = omega (arith, few_hops lengths lawful) in
     record {
-      lawful = are_from (slice_index lengths 0 ∷ 0 ∷ 0 ∷ []) some.0 (inr refl) few;
+      lawful = are_from (slice_index lengths 0 ∷ 0 ∷ 0 ∷ []) some (inr refl) few;
       hops = omega arith;
       segments = sym count;
       size = λ k there. rw count (one_end lengths k none none' (omega (arith, there, count))).0;
       end = λ k there. rw count (one_end lengths k none none' (omega (arith, there, count))).1;
     }
 
-two_segments_back : (lengths : List ℕ) → are_lengths lengths ≡ true → 0 < slice_index lengths 1 → slice_index lengths 2 ≡ 0 → segment_count lengths ≡ 2 → IsBack lengths (slice_index lengths 1 ∷ slice_index lengths 0 ∷ 0 ∷ [])
-two_segments_back lengths lawful some none count =
-    let hops = some_hops lengths lawful in
+two_segments_back : (lengths : List ℕ) → are_lengths lengths ≡ true → 1 ≤ slice_index lengths 0 → 1 ≤ slice_index lengths 1 → slice_index lengths 2 ≡ 0 → segment_count lengths ≡ 2
+    → IsBack lengths (slice_index lengths 1 ∷ slice_index lengths 0 ∷ 0 ∷ [])
+two_segments_back lengths lawful first some none count =
     let a = slice_index lengths 0 in
     let b = slice_index lengths 1 in
-    let few : b + a + 0 ≤ 64 = omega (arith, hops.1) in
-    let more : a ≢ 0 = omega (arith, hops.0) in
+    let few : b + a + 0 ≤ 64 = omega (arith, few_hops lengths lawful) in
+    let more : a ≢ 0 = omega (arith, first) in
     record {
       lawful = are_from (b ∷ a ∷ 0 ∷ []) some (inr refl) few;
       hops = omega arith;
@@ -112,15 +113,14 @@ two_segments_back lengths lawful some none count =
       end = λ k there. rw count (two_end lengths k none (omega (arith, there, count))).1;
     }
 
-three_segments_back : (lengths : List ℕ) → are_lengths lengths ≡ true → 0 < slice_index lengths 1 → 0 < slice_index lengths 2 → segment_count lengths ≡ 3
+three_segments_back : (lengths : List ℕ) → are_lengths lengths ≡ true → 1 ≤ slice_index lengths 0 → 1 ≤ slice_index lengths 1 → 1 ≤ slice_index lengths 2 → segment_count lengths ≡ 3
     → IsBack lengths (slice_index lengths 2 ∷ slice_index lengths 1 ∷ slice_index lengths 0 ∷ [])
-three_segments_back lengths lawful some some' count =
-    let hops = some_hops lengths lawful in
+three_segments_back lengths lawful first some some' count =
     let a = slice_index lengths 0 in
     let b = slice_index lengths 1 in
     let c = slice_index lengths 2 in
-    let few : c + b + a ≤ 64 = omega (arith, hops.1) in
-    let more : a ≢ 0 = omega (arith, hops.0) in
+    let few : c + b + a ≤ 64 = omega (arith, few_hops lengths lawful) in
+    let more : a ≢ 0 = omega (arith, first) in
     let more' : b ≢ 0 = omega arith in
     record {
       lawful = are_from (c ∷ b ∷ a ∷ []) some' (inl some) few;
@@ -136,14 +136,14 @@ is_back lengths lawful =
     let b = slice_index lengths 1 in
     let c = slice_index lengths 2 in
     let more = cond (eqb c 0) (b ∷ a ∷ 0 ∷ []) (c ∷ b ∷ a ∷ []) in
-    elim (count_cases lengths lawful) [
-      | inl one ↦ subst (IsBack lengths) (sym (cond-true (eqb b 0) (a ∷ 0 ∷ 0 ∷ []) more (eq-eqb b 0 one.0))) (one_segment_back lengths lawful one.0 one.1 one.2)
-      | inr several ↦ elim several [
-        | inl two ↦
-            subst (IsBack lengths) (sym (cond-false (eqb b 0) (a ∷ 0 ∷ 0 ∷ []) more (ne_eqb b 0 (omega (arith, two.0))) ∙ cond-true (eqb c 0) (b ∷ a ∷ 0 ∷ []) (c ∷ b ∷ a ∷ []) (eq-eqb c 0 two.1))) (two_segments_back lengths lawful two.0 two.1 two.2)
-        | inr three ↦
-            subst (IsBack lengths) (sym (cond-false (eqb b 0) (a ∷ 0 ∷ 0 ∷ []) more (ne_eqb b 0 (omega (arith, three.0))) ∙ cond-false (eqb c 0) (b ∷ a ∷ 0 ∷ []) (c ∷ b ∷ a ∷ []) (ne_eqb c 0 (omega (arith, three.1))))) (three_segments_back lengths lawful three.0 three.1 three.2)
-      ]
+    elim (length_case lengths lawful) [
+      | One first none nothing count ↦ subst (IsBack lengths) (sym (cond-true (eqb b 0) (a ∷ 0 ∷ 0 ∷ []) more (eq-eqb b 0 none))) (one_segment_back lengths lawful first none nothing count)
+      | Two first some nothing count ↦
+          subst (IsBack lengths) (sym (cond-false (eqb b 0) (a ∷ 0 ∷ 0 ∷ []) more (ne_eqb b 0 (omega arith)) ∙ cond-true (eqb c 0) (b ∷ a ∷ 0 ∷ []) (c ∷ b ∷ a ∷ []) (eq-eqb c 0 nothing)))
+          (two_segments_back lengths lawful first some nothing count)
+      | Three first some most count ↦
+          subst (IsBack lengths) (sym (cond-false (eqb b 0) (a ∷ 0 ∷ 0 ∷ []) more (ne_eqb b 0 (omega arith)) ∙ cond-false (eqb c 0) (b ∷ a ∷ 0 ∷ []) (c ∷ b ∷ a ∷ []) (ne_eqb c 0 (omega arith))))
+          (three_segments_back lengths lawful first some most count)
     ]
 
 -- ---- the current hop in reverse

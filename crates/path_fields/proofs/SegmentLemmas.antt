@@ -1,51 +1,19 @@
 -- What a path's info fields and hop fields are once they are cut into segments.
-use Rattle.std.proofs.Common.{◌≡◌, ◌≤◌, ◌<◌, ℕ, zero, suc, ◌+◌, true, leb, eqb, cond, Bool, false, ◌&&◌, ◌||◌, List, [], ◌∷◌, ◌++◌, length, map, take, drop, slice_index, ◌⊎◌, inl, inr, refl, sym, ap, ap₂, ◌∙◌, arith, length-drop}
+use Rattle.std.proofs.Common.{◌≡◌, ◌≤◌, ◌<◌, ℕ, zero, suc, ◌+◌, true, Bool, false, List, [], ◌∷◌, ◌++◌, length, map, take, drop, slice_index, refl, sym, ap, ap₂, ◌∙◌, arith, length-append, length-drop}
 use Rattle.std.specs.List.{AllByRecursion, flat_map}
-use Rattle.std.proofs.lemmas.Bool.{cases_eq, cases_lt, lt-ltb, le-ltb, eq-eqb, ne_eqb, leb-true, eqb-true, and_parts, or_cases, cond-true, cond-false}
 use Rattle.std.proofs.lemmas.List.{append-nil, drop-drop, length-map, length-take-le, take-append-drop, take_all}
 use Rattle.std.proofs.lemmas.List.Concat.{flat_map-append}
 use Rattle.std.proofs.lemmas.List.Folds.{flat_map-map}
 use Rattle.field_rows.specs.Row.{Fits, rows}
-use Rattle.scion_packet.specs.Lengths.{are_lengths, first_hop, hop_count, segment_count, segment_of}
-use Rattle.scion_packet.specs.Path.{IsHop, IsPath, IsSegment, Segment, bit, count_hops, hop_number, hop_text, hops_in, hops_text, info_table, infos_text}
+use Rattle.scion_packet.specs.Lengths.{first_hop, hop_count, path_len, segment_count, segment_of}
+use Rattle.scion_packet.specs.Path.{IsHop, IsPath, IsSegment, Segment, bit, count_hops, hop_number, hop_text, hops_in, hops_text, info_table, infos_text, path_text}
+use Rattle.scion_packet.proofs.Runs.{hops_len, infos_len}
+use Rattle.scion_packet.proofs.Sizes.{IsHopOf, One, Two, Three, count_few, end_inside, few_hops, hop_is_of, length_case, some_hop}
 use Rattle.path_fields.specs.Fields.{hop_field, info_field}
 use Rattle.path_fields.specs.Path.{fields_of, place, segments, segments_from}
 use Rattle.path_fields.specs.declared.fields.Info.{Info}
 use Rattle.path_fields.specs.declared.fields.Hop.{Hop}
 use Rattle.path_fields.specs.declared.path.Path.{Path}
-
--- ---- how many segments there are, by which lengths are 0
-
-rest_none : (b c : ℕ) → (leb 1 b || eqb c 0) ≡ true → b ≡ 0 → c ≡ 0
-rest_none b c some none =
-    elim (or_cases (leb 1 b) (eqb c 0) some) [
-      | inl more ↦ let one : 1 ≤ b = leb-true 1 b more in absurd (omega arith)
-      | inr nothing ↦ eqb-true c 0 nothing
-    ]
-
-pub some_hops : (lengths : List ℕ) → are_lengths lengths ≡ true → (1 ≤ slice_index lengths 0) × (hop_count lengths ≤ 64)
-some_hops lengths lawful =
-    let parts = and_parts (leb 1 (slice_index lengths 0) && (leb 1 (slice_index lengths 1) || eqb (slice_index lengths 2) 0)) (leb (hop_count lengths) 64) lawful in
-    let front = and_parts (leb 1 (slice_index lengths 0)) (leb 1 (slice_index lengths 1) || eqb (slice_index lengths 2) 0) parts.0 in
-    (leb-true 1 (slice_index lengths 0) front.0, leb-true (hop_count lengths) 64 parts.1)
-
-pub count_cases : (lengths : List ℕ) → are_lengths lengths ≡ true
-    → ((slice_index lengths 1 ≡ 0) × (slice_index lengths 2 ≡ 0) × (segment_count lengths ≡ 1))
-    ⊎ (((0 < slice_index lengths 1) × (slice_index lengths 2 ≡ 0) × (segment_count lengths ≡ 2)) ⊎ ((0 < slice_index lengths 1) × (0 < slice_index lengths 2) × (segment_count lengths ≡ 3)))
-count_cases lengths lawful =
-    let b = slice_index lengths 1 in
-    let c = slice_index lengths 2 in
-    let some : (leb 1 b || eqb c 0) ≡ true = (and_parts (leb 1 (slice_index lengths 0)) (leb 1 b || eqb c 0) (and_parts (leb 1 (slice_index lengths 0) && (leb 1 b || eqb c 0)) (leb (hop_count lengths) 64) lawful).0).1 in
-    elim (cases_eq b 0) [
-      | inl none ↦ inl (none, rest_none b c some none, cond-true (eqb b 0) 1 (cond (eqb c 0) 2 3) (eq-eqb b 0 none))
-      | inr is ↦
-          let b-some : 0 < b = omega arith in
-          let two : segment_count lengths ≡ cond (eqb c 0) 2 3 = cond-false (eqb b 0) 1 (cond (eqb c 0) 2 3) (ne_eqb b 0 is) in
-          elim (cases_eq c 0) [
-            | inl none ↦ inr (inl (b-some, none, two ∙ cond-true (eqb c 0) 2 3 (eq-eqb c 0 none)))
-            | inr more ↦ inr (inr (b-some, (omega arith), two ∙ cond-false (eqb c 0) 2 3 (ne_eqb c 0 more)))
-          ]
-    ]
 
 -- ---- the sizes of the segments
 
@@ -84,27 +52,25 @@ path_sizes p =
     let first = hops_in_from 0 0 0 l infos hops refl in
     let second = hops_in_from 0 1 1 l infos hops refl in
     let third = hops_in_from 0 2 2 l infos hops refl in
-    elim (count_cases l p.lengths_are_lawful) [
-      | inl one ↦ record {
+    elim (length_case l p.lengths_are_lawful) [
+      | One some none nothing is ↦ record {
         count = count;
-        first = first (omega (arith, p.has_infos, one.2)) (omega (arith, p.has_hops));
-        second = none_behind 0 1 l infos hops (omega (arith, p.has_infos, one.2)) ∙ sym one.0;
-        third = none_behind 0 2 l infos hops (omega (arith, p.has_infos, one.2)) ∙ sym one.1;
+        first = first (omega (arith, p.has_infos)) (omega (arith, p.has_hops));
+        second = none_behind 0 1 l infos hops (omega (arith, p.has_infos)) ∙ sym none;
+        third = none_behind 0 2 l infos hops (omega (arith, p.has_infos)) ∙ sym nothing;
       }
-      | inr more ↦ elim more [
-        | inl two ↦ record {
-          count = count;
-          first = first (omega (arith, p.has_infos, two.2)) (omega (arith, p.has_hops));
-          second = second (omega (arith, p.has_infos, two.2)) (omega (arith, p.has_hops));
-          third = none_behind 0 2 l infos hops (omega (arith, p.has_infos, two.2)) ∙ sym two.1;
-        }
-        | inr three ↦ record {
-          count = count;
-          first = first (omega (arith, p.has_infos, three.2)) (omega (arith, p.has_hops));
-          second = second (omega (arith, p.has_infos, three.2)) (omega (arith, p.has_hops));
-          third = third (omega (arith, p.has_infos, three.2)) (omega (arith, p.has_hops));
-        }
-      ]
+      | Two some more nothing is ↦ record {
+        count = count;
+        first = first (omega (arith, p.has_infos)) (omega (arith, p.has_hops));
+        second = second (omega (arith, p.has_infos)) (omega (arith, p.has_hops));
+        third = none_behind 0 2 l infos hops (omega (arith, p.has_infos)) ∙ sym nothing;
+      }
+      | Three some more most is ↦ record {
+        count = count;
+        first = first (omega (arith, p.has_infos)) (omega (arith, p.has_hops));
+        second = second (omega (arith, p.has_infos)) (omega (arith, p.has_hops));
+        third = third (omega (arith, p.has_infos)) (omega (arith, p.has_hops));
+      }
     ]
 
 -- ---- the number of a hop
@@ -128,10 +94,12 @@ all_hops (s ∷ t ∷ u ∷ v ∷ ss) lengths sizes few = absurd (omega arith)
 pub few_segments : (p : Path) → (1 ≤ length (segments p)) × (length (segments p) ≤ 3)
 few_segments p =
     let count = (path_sizes p).count in
-    elim (count_cases p.lengths p.lengths_are_lawful) [
-      | inl one ↦ (omega (arith, count, one.2), omega (arith, count, one.2))
-      | inr more ↦ elim more [ inl two ↦ (omega (arith, count, two.2), omega (arith, count, two.2)) | inr three ↦ (omega (arith, count, three.2), omega (arith, count, three.2)) ]
-    ]
+    let some : 1 ≤ segment_count p.lengths = elim (length_case p.lengths p.lengths_are_lawful) [
+      | One some none nothing is ↦ omega arith
+      | Two some more nothing is ↦ omega arith
+      | Three some more most is ↦ omega arith
+    ] in
+    (omega (arith, count, some), omega (arith, count, count_few p.lengths))
 
 -- ---- the texts
 
@@ -178,61 +146,19 @@ pub hops_are : (p : Path) → hops_text (segments p) ≡ text_of p.hops.items
 hops_are p =
     let few = few_segments p in
     let same = from_len 0 p.lengths p.infos.items p.hops.items in
-    let some : 1 ≤ length p.infos.items = omega (arith, few.0, same) in
+    let any : 1 ≤ length p.infos.items = omega (arith, few.0, same) in
     let three : length p.infos.items ≤ 3 = omega (arith, few.1, same) in
-    let texts = three_texts p.lengths p.infos.items p.hops.items some three p.has_hops in
-    elim (count_cases p.lengths p.lengths_are_lawful) [
-      | inl one ↦ texts (λ le. one.0) (λ le. one.1)
-      | inr more ↦ elim more [
-        | inl two ↦ texts (λ le. absurd (omega (arith, le, p.has_infos, two.2))) (λ le. two.1)
-        | inr three ↦ texts (λ le. absurd (omega (arith, le, p.has_infos, three.2))) (λ le. absurd (omega (arith, le, p.has_infos, three.2)))
-      ]
+    let texts = three_texts p.lengths p.infos.items p.hops.items any three p.has_hops in
+    elim (length_case p.lengths p.lengths_are_lawful) [
+      | One some none nothing is ↦ texts (λ le. none) (λ le. nothing)
+      | Two some more nothing is ↦ texts (λ le. absurd (omega (arith, le, p.has_infos))) (λ le. nothing)
+      | Three some more most is ↦ texts (λ le. absurd (omega (arith, le, p.has_infos))) (λ le. absurd (omega (arith, le, p.has_infos)))
     ]
 
 -- ---- the current hop
 
-pub in_first : (lengths : List ℕ) (h : ℕ) → h < slice_index lengths 0 → segment_of lengths h ≡ 0
-in_first lengths h lt = cond-true _ _ _ (lt-ltb _ _ lt)
-
-pub in_second : (lengths : List ℕ) (h : ℕ) → slice_index lengths 0 ≤ h → h < slice_index lengths 0 + slice_index lengths 1 → segment_of lengths h ≡ 1
-in_second lengths h ge lt = cond-false _ _ _ (le-ltb _ _ ge) ∙ cond-true _ _ _ (lt-ltb _ _ lt)
-
-pub in_third : (lengths : List ℕ) (h : ℕ) → slice_index lengths 0 + slice_index lengths 1 ≤ h → segment_of lengths h ≡ 2
-in_third lengths h ge =
-    let above : slice_index lengths 0 ≤ h = omega arith in
-    cond-false _ _ _ (le-ltb _ _ above) ∙ cond-false _ _ _ (le-ltb _ _ ge)
-
--- the segment of a hop is there, and the hop is one of its hops
-pub record InItsSegment (lengths : List ℕ) (hop : ℕ) : Type 0 where
-  pub there : segment_of lengths hop < segment_count lengths
-  pub behind : first_hop lengths (segment_of lengths hop) ≤ hop
-  pub inside : hop < first_hop lengths (segment_of lengths hop) + slice_index lengths (segment_of lengths hop)
-
--- a hop of a path is one of the hops of its segment
-pub in_segment : (lengths : List ℕ) (h : ℕ) → are_lengths lengths ≡ true → h < hop_count lengths → InItsSegment lengths h
-in_segment lengths h lawful there =
-    let a = slice_index lengths 0 in
-    let b = slice_index lengths 1 in
-    let cases = count_cases lengths lawful in
-    elim (cases_lt h a) [
-      | inl lt ↦
-          let e = in_first lengths h lt in
-          let some : 0 < segment_count lengths = elim cases [ inl one ↦ omega (arith, one.2) | inr more ↦ elim more [ inl two ↦ omega (arith, two.2) | inr three ↦ omega (arith, three.2) ] ] in
-          record { there = rw e some; behind = rw e (omega arith); inside = rw e (omega arith) }
-      | inr ge ↦ elim (cases_lt h (a + b)) [
-        | inl lt ↦
-            let e = in_second lengths h ge lt in
-            let some : 1 < segment_count lengths = elim cases [ inl one ↦ absurd (omega (arith, one.0)) | inr more ↦ elim more [ inl two ↦ omega (arith, two.2) | inr three ↦ omega (arith, three.2) ] ] in
-            record { there = rw e some; behind = rw e (omega arith); inside = rw e (omega arith) }
-        | inr beyond ↦
-            let e = in_third lengths h beyond in
-            let some : 2 < segment_count lengths = elim cases [ inl one ↦ absurd (omega (arith, one.0, one.1)) | inr more ↦ elim more [ inl two ↦ absurd (omega (arith, two.1)) | inr three ↦ omega (arith, three.2) ] ] in
-            record { there = rw e some; behind = rw e (omega arith); inside = rw e (omega arith) }
-      ]
-    ]
-
-pub its_segment : (p : Path) → InItsSegment p.lengths p.current_hop
-its_segment p = in_segment p.lengths p.current_hop p.lengths_are_lawful p.current_hop_is_there
+its_segment : (p : Path) → IsHopOf p.lengths p.current_hop (segment_of p.lengths p.current_hop)
+its_segment p = hop_is_of p.lengths p.current_hop p.lengths_are_lawful p.current_hop_is_there
 
 -- the number of the current hop is that of its place
 pub number_is : (p : Path) → hop_number (segments p) (place p) ≡ p.current_hop
@@ -243,7 +169,7 @@ number_is p =
     let few = few_segments p in
     let there : p.current_info < length (segments p) = omega (arith, its.there, info-is, sizes.count) in
     let before = hops_before (segments p) p.lengths p.current_info sizes (omega (arith, few.1)) there in
-    let behind : first_hop p.lengths p.current_info ≤ p.current_hop = rw info-is its.behind in
+    let behind : first_hop p.lengths p.current_info ≤ p.current_hop = rw info-is its.after in
     omega (arith, before, behind)
 
 hops_in_is : (ss : List Segment) (lengths : List ℕ) (k : ℕ) → HasSizes ss lengths → k < 3 → hops_in ss k ≡ slice_index lengths k
@@ -269,7 +195,7 @@ in_current_segment p =
     record {
       few = info-lt;
       there = rw info-is its.there;
-      behind = rw info-is its.behind;
+      behind = rw info-is its.after;
       inside = rw info-is its.inside;
       size = hops_in_is (segments p) p.lengths p.current_info sizes info-lt;
     }
@@ -310,35 +236,30 @@ are_segments k lengths (i ∷ infos) hops lens =
       are_segments (k + 1) lengths infos hops (λ j from below. lens j (omega (arith, from)) (omega (arith, below))),
     )
 
-each_length : (lengths : List ℕ) (n j : ℕ) → are_lengths lengths ≡ true → n ≡ hop_count lengths → j < segment_count lengths
-    → (1 ≤ slice_index lengths j) × (first_hop lengths j + slice_index lengths j ≤ n)
-each_length lengths n zero lawful n-is below = ((some_hops lengths lawful).0, omega arith)
-each_length lengths n (suc zero) lawful n-is below = (
-  elim (count_cases lengths lawful) [ inl one ↦ absurd (omega (arith, below, one.2)) | inr more ↦ elim more [ inl two ↦ two.0 | inr three ↦ three.0 ] ],
-  omega arith,
-)
-each_length lengths n (suc (suc zero)) lawful n-is below = (
-  elim (count_cases lengths lawful) [ inl one ↦ absurd (omega (arith, below, one.2)) | inr more ↦ elim more [ inl two ↦ absurd (omega (arith, below, two.2)) | inr three ↦ three.1 ] ],
-  omega arith,
-)
-each_length lengths n (suc (suc (suc j))) lawful n-is below =
-    absurd (elim (count_cases lengths lawful) [ inl one ↦ omega (arith, below, one.2) | inr more ↦ elim more [ inl two ↦ omega (arith, below, two.2) | inr three ↦ omega (arith, below, three.2) ] ])
-
 pub lawful : (p : Path) → IsPath (fields_of p)
 lawful p =
     let its = in_current_segment p in
     let sizes = path_sizes p in
     let few = few_segments p in
-    let some = some_hops p.lengths p.lengths_are_lawful in
-    let hop-lt : hop_number (segments p) (place p) < 64 = omega (arith, number_is p, p.current_hop_is_there, some.1) in
+    let most = few_hops p.lengths p.lengths_are_lawful in
+    let hop-lt : hop_number (segments p) (place p) < 64 = omega (arith, number_is p, p.current_hop_is_there, most) in
+    let each : (j : ℕ) → j < segment_count p.lengths → (1 ≤ slice_index p.lengths j) × (first_hop p.lengths j + slice_index p.lengths j ≤ length p.hops.items) =
+    λ j below. (some_hop p.lengths j p.lengths_are_lawful below, omega (arith, end_inside p.lengths j p.lengths_are_lawful below, p.has_hops)) in
     record {
       meta = (
         (omega (arith, its.few), (hop-lt, tt)),
         ((p.reserved_fits, (omega (arith, sizes.first, p.lengths_fit.0), (omega (arith, sizes.second, p.lengths_fit.1), (omega (arith, sizes.third, p.lengths_fit.2), tt)))), tt),
       );
-      segments = are_segments 0 p.lengths p.infos.items p.hops.items (λ j from below. each_length p.lengths (length p.hops.items) j p.lengths_are_lawful p.has_hops (omega (arith, below, p.has_infos)));
+      segments = are_segments 0 p.lengths p.infos.items p.hops.items (λ j from below. each j (omega (arith, below, p.has_infos)));
       some = few.0;
       few = few.1;
-      hops = omega (arith, all_hops (segments p) p.lengths sizes few.1, some.1);
+      hops = omega (arith, all_hops (segments p) p.lengths sizes few.1, most);
       inside = omega (arith, its.size, its.inside, its.behind);
     }
+
+-- its text is as long as the lengths say
+pub text_len : (p : Path) → length (path_text (fields_of p)) ≡ path_len p.lengths
+text_len p =
+    let ss = segments p in
+    let sizes = path_sizes p in
+    omega (arith, length-append (infos_text ss) (hops_text ss), infos_len ss, hops_len ss (lawful p).segments, sizes.count, all_hops ss p.lengths sizes (few_segments p).1)

@@ -1,6 +1,7 @@
 -- How many places there are for the packets that are looked for: one for each that was received.
 use Rattle.std.proofs.Common.{◌≡◌, ◌≢◌, ◌⊎◌, inl, inr, ℕ, Bool, true, false, ◌&&◌, ◌+◌, ◌*◌, ◌<◌, ◌≤◌, zero, suc, List, [], ◌∷◌, length, take, drop, refl, sym, subst, ◌∙◌, ap, arith, eqb, length-append}
 use Rattle.std.proofs.lemmas.Bool.{cases_lt, cases_eq, eq-eqb, ne_eqb}
+use Rattle.std.proofs.lemmas.List.{length-take-le, nil_from_length}
 use Rattle.pipe_order.specs.Kinds.{Kinds}
 use Rattle.pipe_order.specs.Item.{Arrival, Arrived, Item, is_one}
 use Rattle.pipe_order.specs.Counts.{total}
@@ -14,16 +15,6 @@ use Rattle.pipe_order.proofs.Runs.{run_keeps, keeps_arrivals}
 use Rattle.pipe_order.proofs.Moves.{Move}
 use Rattle.pipe_order.proofs.ByRules.{Whence, keeps_whence, start_whence}
 use Rattle.pipe_order.proofs.Weights.{Whole, keeps_whole, start_whole, one, one_if, grip, at, out, fate, weight, hands_weight, pipes_weight, all_sent_weight, fates_weight, keeps_weight}
-
--- a list without elements
-none_left : {X : Type 0} (xs : List X) → length xs ≡ 0 → xs ≡ []
-none_left [] h = refl
-none_left (x ∷ xs) h = absurd (omega arith)
-
-pub length_take : {X : Type 0} (k : ℕ) (xs : List X) → k ≤ length xs → length (take k xs) ≡ k
-length_take zero xs h = refl
-length_take (suc k) [] h = absurd (omega arith)
-length_take (suc k) (x ∷ xs) h = let t = length_take k xs (omega arith) in omega arith
 
 module _ {K : Kinds} where
   -- What holds of each world that is reached, on the way to the laws.
@@ -221,7 +212,7 @@ module _ {K : Kinds} where
       placed_once i low high =
           places_count (is_one a n) R s w st law u
           ∙ (below-only (was (is_one a n) R s w st law u) R.links a i (λ b j ne. was_other b j (inl ne))
-          ∙ one_number 1 (gone (pipe w a)) (numbered_take a 1 (pipe w a).taken (arrivals w a) (numbered a i)) low (let f = u.whole.fits a in let t = length_take (pipe w a).taken (arrivals w a) f in omega arith))
+          ∙ one_number 1 (gone (pipe w a)) (numbered_take a 1 (pipe w a).taken (arrivals w a) (numbered a i)) low (let f = u.whole.fits a in let t = length-take-le (pipe w a).taken (arrivals w a) f in omega arith))
 
       was_late : (pipe w a).taken < n → (b : ℕ) → b < R.links → (b ≡ a) ⊎ (b ≡ a → ⊥) → was (is_one a n) R s w st law u b ≡ 0
       unfolding was
@@ -231,7 +222,7 @@ module _ {K : Kinds} where
       was_late late b i (inr e) = was_other b i (inl e)
 
       pub placed_nowhere : (R.links ≤ a) ⊎ ((n ≡ 0) ⊎ ((pipe w a).taken < n)) → places R a n w ≡ []
-      placed_nowhere h = none_left (places R a n w) (places_count (is_one a n) R s w st law u ∙ below-none (was (is_one a n) R s w st law u) R.links (go h))
+      placed_nowhere h = nil_from_length (places R a n w) (places_count (is_one a n) R s w st law u ∙ below-none (was (is_one a n) R s w st law u) R.links (go h))
         where
           go : (R.links ≤ a) ⊎ ((n ≡ 0) ⊎ ((pipe w a).taken < n)) → (b : ℕ) → b < R.links → was (is_one a n) R s w st law u b ≡ 0
           go (inl far) b i = was_other b i (inl (omega arith))

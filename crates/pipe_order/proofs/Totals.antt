@@ -1,6 +1,7 @@
 -- Each received packet is counted once.
 use Rattle.std.proofs.Common.{◌≡◌, ℕ, Bool, true, false, not, ◌+◌, ◌<◌, cond, List, [], ◌∷◌, length, drop, refl, subst, sym, ◌∙◌, arith, length-append}
 use Rattle.std.specs.List.{filter}
+use Rattle.std.proofs.lemmas.List.{length-take-le}
 use Rattle.pipe_order.specs.Kinds.{Kinds}
 use Rattle.pipe_order.specs.Item.{Item, Arrived, Outgoing}
 use Rattle.pipe_order.specs.Counts.{total, count}
@@ -11,7 +12,7 @@ use Rattle.pipe_order.specs.Start.{arrivals, HasArrival, IsStart, Numbered}
 use Rattle.pipe_order.specs.Totals.{is_packet, packets_in_hand, received_count, sent_count, answered_count, waiting_count, dropped_count, KeepsTotals}
 use Rattle.pipe_order.proofs.Sums.{below-agree, total-agree, total-plus, total-take, total-below, count-total}
 use Rattle.pipe_order.proofs.Weights.{one, grip, at, out, fate, hands_weight, pipes_weight, all_sent_weight, fates_weight}
-use Rattle.pipe_order.proofs.Place.{Sound, sound, was, places_count, numbered_take, length_take}
+use Rattle.pipe_order.proofs.Place.{Sound, sound, was, places_count, numbered_take}
 use Rattle.pipe_order.specs.Place.{places_of}
 
 all_pass : {X : Type 0} (xs : List X) → length (filter (λ x. true) xs) ≡ length xs
@@ -58,7 +59,7 @@ module _ {K : Kinds} where
         let N : List (Item K) → Type 0 = λ xs. Numbered b 1 xs in
         let h = subst N (sym (u.same b i)) (st.numbered b i) in
         all_arrived b 1 (gone (pipe w b)) (numbered_take b 1 (pipe w b).taken (arrivals w b) h)
-        ∙ length_take (pipe w b).taken (arrivals w b) (u.whole.fits b)
+        ∙ length-take-le (pipe w b).taken (arrivals w b) (u.whole.fits b)
 
     all_counted : received_count R w ≡ sent_count w + answered_count w + waiting_count R w + dropped_count (λ c. true) w
     all_counted =

@@ -24,13 +24,6 @@ pub Appends-nothing : (a : Option (List ℕ)) → Appends a a []
 Appends-nothing None = tt
 Appends-nothing (Some a) = sym (append-nil a)
 
--- the front of a list in two parts
-pub take_two : (m n : ℕ) (xs : List ℕ) → take (m + n) xs ≡ take m xs ++ take n (drop m xs)
-take_two m n xs =
-    let front : take m (take (m + n) xs) ≡ take m xs = take-take m (m + n) xs (omega arith) in
-    let back : drop m (take (m + n) xs) ≡ take n (drop m xs) = drop-take m n xs in
-    sym (take-append-drop m (take (m + n) xs)) ∙ rw (front, back) refl
-
 -- ---- the first line, and those after it
 
 pieces_step : (x : ℕ) (xs : List ℕ) → pieces_of (x ∷ xs) ≡ take_through 10 (x ∷ xs) ∷ pieces_of (drop_through 10 (x ∷ xs))

@@ -1,14 +1,14 @@
 -- The info field and the hop field at a place stand at one offset each.
-use Rattle.std.proofs.Common.{◌≤◌, ◌≡◌, ◌≢◌, ◌==◌, true, false, ltb, ◌<◌, ◌-◌, ℕ, zero, suc, ◌+◌, None, List, [], ◌∷◌, length, refl, sym, ap, subst, ◌∙◌, arith, inl, inr, slice_index_or, slice_index}
+use Rattle.std.proofs.Common.{◌≡◌, ◌≢◌, ◌==◌, true, false, ltb, ◌<◌, ◌-◌, ℕ, zero, suc, ◌+◌, None, List, [], ◌∷◌, length, refl, sym, ap, subst, ◌∙◌, arith, inl, inr, slice_index_or, slice_index}
 use Rattle.std.proofs.lemmas.List.FromFn.{get_or-map-range_with_len, length-map-range_with_len}
 use Rattle.std.proofs.lemmas.Bool.{and_right, cases_eq, cases_lt, eq-eqb, le-ltb, lt-ltb, ne_eqb}
 use Rattle.field_rows.specs.Place.{IsBytes}
-use Rattle.scion_packet.specs.Lengths.{are_lengths, first_hop, hop_count, hop_place, info_place, segment_count}
-use Rattle.scion_packet.specs.Path.{Segment, current_hop, current_info, hop_at, hops_in, info_at, lengths_of, meta_field, path_fault, path_of, place_at, segment_at, segments_at}
+use Rattle.scion_packet.specs.Lengths.{first_hop, hop_count, hop_place, info_place, segment_count}
+use Rattle.scion_packet.specs.Path.{Segment, current_hop, current_info, hop_at, hops_in, info_at, lengths_of, path_fault, path_of, place_at, segment_at, segments_at}
 use Rattle.scion_packet.specs.Places.{hop_there, info_there, is_last_of_path, no_hop, no_segment, segment_there}
 use Rattle.scion_packet.specs.Laws.{FieldsStand}
 use Rattle.scion_packet.proofs.PathSpelled.{current_number, passes_tests, sized_of}
-use Rattle.scion_packet.proofs.Sizes.{EndOf, IsHopOf, One, Two, Three, count_few, end_of, few_hops, hop_is_of, length_case}
+use Rattle.scion_packet.proofs.Sizes.{EndOf, IsHopOf, count_few, end_inside, end_of, few_hops, hop_is_of, some_hop}
 
 segment_stands : (path lengths : List ℕ) (k i : ℕ) → k < segment_count lengths → segment_there (segments_at lengths path) (place_at k i) ≡ segment_at lengths path k
 segment_stands path lengths k i below = get_or-map-range_with_len (segment_at lengths path) 0 (segment_count lengths) k k no_segment below (omega arith)
@@ -41,8 +41,8 @@ last_is path are none =
     let ss = segments_at lengths path in
     let k = current_info path in
     let hop = current_hop path in
-    let here : IsHopOf lengths hop k = subst (λ (n : ℕ). IsHopOf lengths hop n) (sym passes.info) (hop_is_of (meta_field path 12 6) (meta_field path 6 6) (meta_field path 0 6) hop passes.lengths passes.hop) in
-    let ends : EndOf lengths k = end_of (meta_field path 12 6) (meta_field path 6 6) (meta_field path 0 6) k passes.lengths here.there in
+    let here : IsHopOf lengths hop k = subst (λ (n : ℕ). IsHopOf lengths hop n) (sym passes.info) (hop_is_of lengths hop passes.lengths passes.hop) in
+    let ends : EndOf lengths k = end_of lengths k passes.lengths here.there in
     let len : hops_in ss k ≡ slice_index lengths k = hops_len_at path lengths k here.there in
     let count : length ss ≡ segment_count lengths = length-map-range_with_len (segment_at lengths path) 0 (segment_count lengths) in
     let i = hop - first_hop lengths k in
@@ -62,29 +62,10 @@ last_is path are none =
           ]
     ]
 
-some_hop : (a b c k : ℕ) → are_lengths (a ∷ b ∷ c ∷ []) ≡ true → k < segment_count (a ∷ b ∷ c ∷ []) → 1 ≤ slice_index (a ∷ b ∷ c ∷ []) k
-some_hop a b c zero lawful there =
-    elim (length_case a b c lawful) [ One some none nothing count ↦ some | Two some more nothing count ↦ some | Three some more most count ↦ some ]
-some_hop a b c (suc zero) lawful there =
-    elim (length_case a b c lawful) [ One some none nothing count ↦ absurd (omega arith) | Two some more nothing count ↦ more | Three some more most count ↦ more ]
-some_hop a b c (suc (suc zero)) lawful there =
-    elim (length_case a b c lawful) [ One some none nothing count ↦ absurd (omega arith) | Two some more nothing count ↦ absurd (omega arith) | Three some more most count ↦ most ]
-some_hop a b c (suc (suc (suc k))) lawful there = let few = count_few a b c lawful in absurd (omega arith)
-
-one_behind : (a b c k : ℕ) → are_lengths (a ∷ b ∷ c ∷ []) ≡ true → k + 1 < segment_count (a ∷ b ∷ c ∷ [])
-    → first_hop (a ∷ b ∷ c ∷ []) (k + 1) ≡ first_hop (a ∷ b ∷ c ∷ []) k + slice_index (a ∷ b ∷ c ∷ []) k
-one_behind a b c zero lawful there = omega arith
-one_behind a b c (suc zero) lawful there = refl
-one_behind a b c (suc (suc k)) lawful there = let few = count_few a b c lawful in absurd (omega arith)
-
-hop_within : (a b c k i : ℕ) → are_lengths (a ∷ b ∷ c ∷ []) ≡ true → k < segment_count (a ∷ b ∷ c ∷ []) → i < slice_index (a ∷ b ∷ c ∷ []) k
-    → first_hop (a ∷ b ∷ c ∷ []) k + i < hop_count (a ∷ b ∷ c ∷ [])
-hop_within a b c k i lawful there inside =
-    let ends : EndOf (a ∷ b ∷ c ∷ []) k = end_of a b c k lawful there in
-    elim (cases_lt (k + 1) (segment_count (a ∷ b ∷ c ∷ []))) [
-      | inl more ↦ let before = ends.others more in omega (arith, before, inside)
-      | inr over ↦ let last = ends.last (omega (arith, there, over)) in omega (arith, last, inside)
-    ]
+one_behind : (lengths : List ℕ) (k : ℕ) → k + 1 < segment_count lengths → first_hop lengths (k + 1) ≡ first_hop lengths k + slice_index lengths k
+one_behind lengths zero there = omega arith
+one_behind lengths (suc zero) there = refl
+one_behind lengths (suc (suc k)) there = absurd (omega (arith, count_few lengths))
 
 pub fields_stand : (path : List ℕ) → IsBytes path → path_fault path ≡ None → FieldsStand path
 fields_stand path are none =
@@ -92,7 +73,7 @@ fields_stand path are none =
     let lengths = lengths_of path in
     let k = current_info path in
     let hop = current_hop path in
-    let here : IsHopOf lengths hop k = subst (λ (n : ℕ). IsHopOf lengths hop n) (sym passes.info) (hop_is_of (meta_field path 12 6) (meta_field path 6 6) (meta_field path 0 6) hop passes.lengths passes.hop) in
+    let here : IsHopOf lengths hop k = subst (λ (n : ℕ). IsHopOf lengths hop n) (sym passes.info) (hop_is_of lengths hop passes.lengths passes.hop) in
     let i = hop - first_hop lengths k in
     let number : first_hop lengths k + i ≡ hop = omega (arith, here.after) in
     let sized = sized_of path are none in
@@ -100,10 +81,10 @@ fields_stand path are none =
       count = sym sized.count;
       hops = λ j below. sym (sized.within j (omega (arith, sized.count, below)));
       number = λ j m below. let before = sized.before j (omega (arith, sized.count, below)) in omega (arith, before);
-      some = λ j below. some_hop (meta_field path 12 6) (meta_field path 6 6) (meta_field path 0 6) j passes.lengths below;
-      follows = λ j below. one_behind (meta_field path 12 6) (meta_field path 6 6) (meta_field path 0 6) j passes.lengths below;
-      within = λ j m below inside. hop_within (meta_field path 12 6) (meta_field path 6 6) (meta_field path 0 6) j m passes.lengths below inside;
-      few_hops = few_hops (meta_field path 12 6) (meta_field path 6 6) (meta_field path 0 6) passes.lengths;
+      some = λ j below. some_hop lengths j passes.lengths below;
+      follows = λ j below. one_behind lengths j below;
+      within = λ j m below inside. let end = end_inside lengths j passes.lengths below in omega (arith, end, inside);
+      few_hops = few_hops lengths passes.lengths;
       all_hops = sized.total;
       whole = passes.whole;
       begins = here.after;
@@ -114,7 +95,7 @@ fields_stand path are none =
       current_hop_field = hop_stands path lengths k i here.there (omega (arith, here.after, here.inside))
           ∙ ap (λ (n : ℕ). hop_at path (hop_place lengths n)) number;
       there = omega (arith, length-map-range_with_len (segment_at lengths path) 0 (segment_count lengths), here.there);
-      few = omega (arith, length-map-range_with_len (segment_at lengths path) 0 (segment_count lengths), count_few (meta_field path 12 6) (meta_field path 6 6) (meta_field path 0 6) passes.lengths);
+      few = omega (arith, length-map-range_with_len (segment_at lengths path) 0 (segment_count lengths), count_few lengths);
       info_room = omega (arith, here.there, passes.whole);
       hop_room = omega (arith, passes.hop, passes.whole);
       last = last_is path are none;

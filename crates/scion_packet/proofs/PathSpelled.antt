@@ -141,7 +141,7 @@ segments_spelled path a b c are lawful whole clear =
     let by : (n : ℕ) → segment_count lengths ≡ n → SegmentsSpelled path (4 + 8 * n) lengths (segs path lengths n) → SegmentsSpelled path (hops_place lengths) lengths (segments_at lengths path) =
     λ n is here. subst (λ (m : ℕ). SegmentsSpelled path (4 + 8 * m) lengths (segs path lengths m)) (sym is) here in
     let clear-at : (n : ℕ) → segment_count lengths ≡ n → no_peering n path ≡ true = λ n is. ap (λ (m : ℕ). no_peering m path) (sym is) ∙ clear in
-    elim (length_case a b c lawful) [
+    elim (length_case lengths lawful) [
       | One some none nothing count ↦ by 1 count (one_spelled path a b c are some none nothing (omega arith) (clear-at 1 count))
       | Two some more nothing count ↦ by 2 count (two_spelled path a b c are some more nothing (omega arith) (clear-at 2 count))
       | Three some more most count ↦ by 3 count (three_spelled path a b c are some more most (omega arith) (clear-at 3 count))
@@ -203,7 +203,7 @@ current_number path are none =
     let spelled = segments_spelled path a b c are passes.lengths passes.whole passes.clear in
     let sized : Sized lengths ss = subst (λ (ls : List ℕ). Sized ls ss) spelled.are_sizes (sizes_are ss spelled.some spelled.few spelled.lawful) in
     let k = current_info path in
-    let here : IsHopOf lengths (current_hop path) k = subst (λ (n : ℕ). IsHopOf lengths (current_hop path) n) (sym passes.info) (hop_is_of a b c (current_hop path) passes.lengths passes.hop) in
+    let here : IsHopOf lengths (current_hop path) k = subst (λ (n : ℕ). IsHopOf lengths (current_hop path) n) (sym passes.info) (hop_is_of lengths (current_hop path) passes.lengths passes.hop) in
     let there : k < length ss = omega (arith, sized.count, here.there) in
     omega (arith, sized.before k there, here.after)
 
@@ -219,10 +219,10 @@ path_spelled path are none =
     let sized : Sized lengths ss = subst (λ (ls : List ℕ). Sized ls ss) spelled.are_sizes (sizes_are ss spelled.some spelled.few spelled.lawful) in
     let k = current_info path in
     let hop = current_hop path in
-    let here : IsHopOf lengths hop k = subst (λ (n : ℕ). IsHopOf lengths hop n) (sym passes.info) (hop_is_of a b c hop passes.lengths passes.hop) in
+    let here : IsHopOf lengths hop k = subst (λ (n : ℕ). IsHopOf lengths hop n) (sym passes.info) (hop_is_of lengths hop passes.lengths passes.hop) in
     let there : k < length ss = omega (arith, sized.count, here.there) in
     let number : hop_number ss (path_of path).place ≡ hop = current_number path are none in
-    let few : count_hops ss ≤ 64 = omega (arith, sized.total, few_hops a b c passes.lengths) in
+    let few : count_hops ss ≤ 64 = omega (arith, sized.total, few_hops lengths passes.lengths) in
     let inside : hop - first_hop lengths k < hops_in ss k = omega (arith, sized.within k there, here.after, here.inside) in
     read_spelled path (path_of path) a b c (hops_place lengths) refl number refl refl refl refl (meta_spelled path are passes.long) spelled
     (omega (arith, sized.count)) (omega (arith, passes.whole, sized.total)) few inside

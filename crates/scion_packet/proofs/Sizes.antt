@@ -2,6 +2,7 @@
 use Rattle.std.proofs.Common.{◌≡◌, ◌≢◌, ◌≤◌, cond, ◌<◌, ◌&&◌, ◌||◌, ℕ, zero, suc, ◌+◌, true, leb, eqb, List, [], ◌∷◌, length, take, slice_index, refl, sym, subst, ◌∙◌, arith, inl, inr}
 use Rattle.std.specs.List.{AllByRecursion}
 use Rattle.std.proofs.lemmas.Bool.{cases_eq, cases_lt, eq-eqb, ne_eqb, eqb-true, leb-true, le-leb, lt-ltb, le-ltb, and_parts, and_from, or_cases, cond-true, cond-false}
+use Rattle.std.proofs.lemmas.Bool.Decides.{nat_tests}
 use Rattle.scion_packet.specs.Lengths.{are_lengths, first_hop, hop_count, segment_count, segment_of}
 use Rattle.scion_packet.specs.Path.{IsSegment, Segment, count_hops, hops_in}
 
@@ -36,13 +37,13 @@ are_three a b c some more few =
 
 -- ---- the segment of a hop
 
-in_first : (lengths : List ℕ) (h : ℕ) → h < slice_index lengths 0 → segment_of lengths h ≡ 0
+pub in_first : (lengths : List ℕ) (h : ℕ) → h < slice_index lengths 0 → segment_of lengths h ≡ 0
 in_first lengths h lt = cond-true _ _ _ (lt-ltb _ _ lt)
 
-in_second : (lengths : List ℕ) (h : ℕ) → slice_index lengths 0 ≤ h → h < slice_index lengths 0 + slice_index lengths 1 → segment_of lengths h ≡ 1
+pub in_second : (lengths : List ℕ) (h : ℕ) → slice_index lengths 0 ≤ h → h < slice_index lengths 0 + slice_index lengths 1 → segment_of lengths h ≡ 1
 in_second lengths h ge lt = cond-false _ _ _ (le-ltb _ _ ge) ∙ cond-true _ _ _ (lt-ltb _ _ lt)
 
-in_third : (lengths : List ℕ) (h : ℕ) → slice_index lengths 0 + slice_index lengths 1 ≤ h → segment_of lengths h ≡ 2
+pub in_third : (lengths : List ℕ) (h : ℕ) → slice_index lengths 0 + slice_index lengths 1 ≤ h → segment_of lengths h ≡ 2
 in_third lengths h ge =
     let above : slice_index lengths 0 ≤ h = omega arith in
     cond-false _ _ _ (le-ltb _ _ above) ∙ cond-false _ _ _ (le-ltb _ _ ge)
@@ -138,24 +139,42 @@ pub data LengthCase (a b c count : ℕ) : Type 0 where
   Two : 1 ≤ a → 1 ≤ b → c ≡ 0 → count ≡ 2 → LengthCase a b c count
   Three : 1 ≤ a → 1 ≤ b → 1 ≤ c → count ≡ 3 → LengthCase a b c count
 
-pub length_case : (a b c : ℕ) → are_lengths (a ∷ b ∷ c ∷ []) ≡ true → LengthCase a b c (segment_count (a ∷ b ∷ c ∷ []))
-length_case a b c lawful =
-    let shape = and_parts (leb 1 a && (leb 1 b || eqb c 0)) (leb (a + b + c) 64) lawful in
+pub length_case : (lengths : List ℕ) → are_lengths lengths ≡ true → LengthCase (slice_index lengths 0) (slice_index lengths 1) (slice_index lengths 2) (segment_count lengths)
+length_case lengths lawful =
+    let a = slice_index lengths 0 in
+    let b = slice_index lengths 1 in
+    let c = slice_index lengths 2 in
+    let shape = and_parts (leb 1 a && (leb 1 b || eqb c 0)) (leb (hop_count lengths) 64) lawful in
     let parts = and_parts (leb 1 a) (leb 1 b || eqb c 0) shape.0 in
     let a-some : 1 ≤ a = leb-true 1 a parts.0 in
     elim (cases_eq b 0) [
       | inl none ↦ One a-some none (rest_none b c parts.1 none) (cond-true (eqb b 0) 1 (cond (eqb c 0) 2 3) (eq-eqb b 0 none))
       | inr is ↦
           let b-some : 1 ≤ b = omega arith in
-          let more : segment_count (a ∷ b ∷ c ∷ []) ≡ cond (eqb c 0) 2 3 = count_more b b-some 1 (cond (eqb c 0) 2 3) in
+          let more : segment_count lengths ≡ cond (eqb c 0) 2 3 = count_more b b-some 1 (cond (eqb c 0) 2 3) in
           elim (cases_eq c 0) [
             | inl none ↦ Two a-some b-some none (more ∙ cond-true (eqb c 0) 2 3 (eq-eqb c 0 none))
             | inr other ↦ let c-some : 1 ≤ c = omega arith in Three a-some b-some c-some (more ∙ count_more c c-some 2 3)
           ]
     ]
 
-pub few_hops : (a b c : ℕ) → are_lengths (a ∷ b ∷ c ∷ []) ≡ true → a + b + c ≤ 64
-few_hops a b c lawful = leb-true (a + b + c) 64 (and_parts (leb 1 a && (leb 1 b || eqb c 0)) (leb (a + b + c) 64) lawful).1
+pub few_hops : (lengths : List ℕ) → are_lengths lengths ≡ true → hop_count lengths ≤ 64
+few_hops lengths lawful =
+    let some = leb 1 (slice_index lengths 0) && (leb 1 (slice_index lengths 1) || eqb (slice_index lengths 2) 0) in
+    leb-true (hop_count lengths) 64 (and_parts some (leb (hop_count lengths) 64) lawful).1
+
+pub count_few : (lengths : List ℕ) → segment_count lengths ≤ 3
+count_few lengths = grind (arith, nat_tests)
+
+-- each segment has a hop
+pub some_hop : (lengths : List ℕ) (k : ℕ) → are_lengths lengths ≡ true → k < segment_count lengths → 1 ≤ slice_index lengths k
+some_hop lengths zero lawful there =
+    elim (length_case lengths lawful) [ One some none nothing count ↦ some | Two some more nothing count ↦ some | Three some more most count ↦ some ]
+some_hop lengths (suc zero) lawful there =
+    elim (length_case lengths lawful) [ One some none nothing count ↦ absurd (omega arith) | Two some more nothing count ↦ more | Three some more most count ↦ more ]
+some_hop lengths (suc (suc zero)) lawful there =
+    elim (length_case lengths lawful) [ One some none nothing count ↦ absurd (omega arith) | Two some more nothing count ↦ absurd (omega arith) | Three some more most count ↦ most ]
+some_hop lengths (suc (suc (suc k))) lawful there = absurd (omega (arith, count_few lengths))
 
 -- The hop is one of segment k.
 pub record IsHopOf (lengths : List ℕ) (hop k : ℕ) : Type 0 where
@@ -164,12 +183,13 @@ pub record IsHopOf (lengths : List ℕ) (hop k : ℕ) : Type 0 where
   pub inside : hop < first_hop lengths k + slice_index lengths k
 
 -- every hop is one of its segment
-pub hop_is_of : (a b c hop : ℕ) → are_lengths (a ∷ b ∷ c ∷ []) ≡ true → hop < a + b + c → IsHopOf (a ∷ b ∷ c ∷ []) hop (segment_of (a ∷ b ∷ c ∷ []) hop)
-hop_is_of a b c hop lawful lt =
-    let lengths = a ∷ b ∷ c ∷ [] in
+pub hop_is_of : (lengths : List ℕ) (hop : ℕ) → are_lengths lengths ≡ true → hop < hop_count lengths → IsHopOf lengths hop (segment_of lengths hop)
+hop_is_of lengths hop lawful lt =
+    let a = slice_index lengths 0 in
+    let b = slice_index lengths 1 in
     let by : (k : ℕ) → segment_of lengths hop ≡ k → IsHopOf lengths hop k → IsHopOf lengths hop (segment_of lengths hop) =
     λ k is here. subst (λ (n : ℕ). IsHopOf lengths hop n) (sym is) here in
-    elim (length_case a b c lawful) [
+    elim (length_case lengths lawful) [
       | One some none nothing count ↦ by 0 (in_first lengths hop (omega arith)) (record { there = omega arith; after = omega arith; inside = omega arith })
       | Two some more nothing count ↦ elim (cases_lt hop a) [
         | inl first ↦ by 0 (in_first lengths hop first) (record { there = omega arith; after = omega arith; inside = omega arith })
@@ -189,36 +209,32 @@ pub record EndOf (lengths : List ℕ) (k : ℕ) : Type 0 where
   pub last : k + 1 ≡ segment_count lengths → first_hop lengths k + slice_index lengths k ≡ hop_count lengths
   pub others : k + 1 < segment_count lengths → first_hop lengths k + slice_index lengths k < hop_count lengths
 
-pub end_of : (a b c k : ℕ) → are_lengths (a ∷ b ∷ c ∷ []) ≡ true → k < segment_count (a ∷ b ∷ c ∷ []) → EndOf (a ∷ b ∷ c ∷ []) k
-end_of a b c zero lawful there =
-    elim (length_case a b c lawful) [
+pub end_of : (lengths : List ℕ) (k : ℕ) → are_lengths lengths ≡ true → k < segment_count lengths → EndOf lengths k
+end_of lengths zero lawful there =
+    elim (length_case lengths lawful) [
       | One some none nothing count ↦ record { last = λ e. omega (arith, e); others = λ lt. absurd (omega (arith, lt)) }
       | Two some more nothing count ↦ record { last = λ e. absurd (omega (arith, e)); others = λ lt. omega (arith, lt) }
       | Three some more most count ↦ record { last = λ e. absurd (omega (arith, e)); others = λ lt. omega (arith, lt) }
     ]
-end_of a b c (suc zero) lawful there =
-    elim (length_case a b c lawful) [
+end_of lengths (suc zero) lawful there =
+    elim (length_case lengths lawful) [
       | One some none nothing count ↦ absurd (omega arith)
       | Two some more nothing count ↦ record { last = λ e. omega (arith, e); others = λ lt. absurd (omega (arith, lt)) }
       | Three some more most count ↦ record { last = λ e. absurd (omega (arith, e)); others = λ lt. omega (arith, lt) }
     ]
-end_of a b c (suc (suc zero)) lawful there =
-    elim (length_case a b c lawful) [
+end_of lengths (suc (suc zero)) lawful there =
+    elim (length_case lengths lawful) [
       | One some none nothing count ↦ absurd (omega arith)
       | Two some more nothing count ↦ absurd (omega arith)
       | Three some more most count ↦ record { last = λ e. omega (arith, e); others = λ lt. absurd (omega (arith, lt)) }
     ]
-end_of a b c (suc (suc (suc k))) lawful there =
-    elim (length_case a b c lawful) [
-      | One some none nothing count ↦ absurd (omega arith)
-      | Two some more nothing count ↦ absurd (omega arith)
-      | Three some more most count ↦ absurd (omega arith)
-    ]
+end_of lengths (suc (suc (suc k))) lawful there = absurd (omega (arith, count_few lengths))
 
-pub count_few : (a b c : ℕ) → are_lengths (a ∷ b ∷ c ∷ []) ≡ true → segment_count (a ∷ b ∷ c ∷ []) ≤ 3
-count_few a b c lawful =
-    elim (length_case a b c lawful) [
-      | One some none nothing count ↦ omega arith
-      | Two some more nothing count ↦ omega arith
-      | Three some more most count ↦ omega arith
+-- the last hop of a segment is there
+pub end_inside : (lengths : List ℕ) (k : ℕ) → are_lengths lengths ≡ true → k < segment_count lengths → first_hop lengths k + slice_index lengths k ≤ hop_count lengths
+end_inside lengths k lawful there =
+    let ends : EndOf lengths k = end_of lengths k lawful there in
+    elim (cases_lt (k + 1) (segment_count lengths)) [
+      | inl more ↦ let before = ends.others more in omega (arith, before)
+      | inr over ↦ let last = ends.last (omega (arith, there, over)) in omega (arith, last)
     ]

@@ -1,6 +1,5 @@
 pub mod ChecksumLemmas
 pub mod MessageLemmas
-pub mod SizeLemmas
 pub mod PlaceLemmas
 pub mod TableLemmas
 pub mod AnswerLemmas

@@ -1,15 +1,25 @@
-use Rattle.std.proofs.Common.{◌<◌, [], ◌∷◌, refl, sym, ap, subst, ◌∙◌, length, arith}
+use Rattle.std.proofs.Common.{◌<◌, List, [], ◌∷◌, ◌++◌, refl, sym, ap, subst, ◌∙◌, length, arith}
 use Rattle.scion_packet.specs.Packet.{packet_of, path_bytes}
 use Rattle.scion_packet.specs.Path.{path_of}
 use Rattle.process_packet.specs.Departure.{Tells}
 use Rattle.process_packet.specs.Network.{network}
-use Rattle.process_packet.specs.Rows.{Verdict, delivery, egress_request, expired, ingress_request, leave, switch, turn_back_segment_id, unknown_egress, wrong_destination, wrong_ingress, wrong_mac, wrong_pair, wrong_payload_length, wrong_source, wrong_underlay_source}
+use Rattle.process_packet.specs.Rows.{Row, Verdict, delivery, egress_request, expired, ingress_request, leave, switch, turn_back_segment_id, unknown_egress, wrong_destination, wrong_ingress, wrong_mac, wrong_pair, wrong_payload_length, wrong_source, wrong_underlay_source}
 use Rattle.process_packet.specs.Sight.{IsAlike}
 use Rattle.process_packet.specs.Standing.{arrives, turned_back}
 use Rattle.process_packet.proofs.RowLemmas.{passed, stopped}
 use Rattle.process_packet.proofs.TurningLemmas.{alike_turned, keeps_turned, turned_stays}
 use Rattle.scion_packet.proofs.Parts.{path_between, rest_of}
 use Rattle.process_packet.proofs.routing.depart.Goals as goal
+
+-- the rows before the identifier is turned back, those of its MAC, and those behind
+abbrev coming_in : List Row
+coming_in = expired ∷ wrong_ingress ∷ wrong_payload_length ∷ wrong_underlay_source ∷ wrong_source ∷ wrong_destination ∷ []
+
+abbrev authority : List Row
+authority = wrong_mac ∷ ingress_request ∷ []
+
+abbrev going : List Row
+going = delivery ∷ switch ∷ unknown_egress ∷ wrong_pair ∷ egress_request ∷ leave ∷ []
 
 pub returns-in-Err : goal.returns-in-Err
 returns-in-Err c =
@@ -18,8 +28,7 @@ returns-in-Err c =
     let n = network c.args.config.now in
     let s = arrives n c.args.link c.args.source.now c.args.now bytes in
     let same = path_between bytes f.path_begin f.path_end c.requires.front.begin c.requires.front.end in
-    stopped s _ (expired ∷ wrong_ingress ∷ wrong_payload_length ∷ wrong_underlay_source ∷ wrong_source ∷ wrong_destination ∷ [])
-    (turn_back_segment_id ∷ wrong_mac ∷ ingress_request ∷ delivery ∷ switch ∷ unknown_egress ∷ wrong_pair ∷ egress_request ∷ leave ∷ [])
+    stopped s _ coming_in (turn_back_segment_id ∷ authority ++ going)
     (c.in-Err.ensures s (c.sight_of-sight.ensures.sees n c.args.source.now) refl refl refl (sym (ap (λ t. (path_of t).segments) same)))
 
 pub returns-in-Err-is_authorised : goal.returns-in-Err-is_authorised
@@ -31,12 +40,10 @@ returns-in-Err-is_authorised c =
     let sees = c.sight_of-sight.ensures.sees n c.args.source.now in
     let same = path_between bytes f.path_begin f.path_end c.requires.front.begin c.requires.front.end in
     let stays = turned_stays s in
-    let past = passed s s (expired ∷ wrong_ingress ∷ wrong_payload_length ∷ wrong_underlay_source ∷ wrong_source ∷ wrong_destination ∷ [])
-    (turn_back_segment_id ∷ wrong_mac ∷ ingress_request ∷ delivery ∷ switch ∷ unknown_egress ∷ wrong_pair ∷ egress_request ∷ leave ∷ [])
+    let past = passed s s coming_in (turn_back_segment_id ∷ authority ++ going)
     (c.in_default.ensures s sees refl refl refl (sym (ap (λ t. (path_of t).segments) same))) in
     let payload = rest_of bytes _ _ c.requires.front.end ∙ sym stays.payload in
-    past ∙ stopped (turned_back s) _ (wrong_mac ∷ ingress_request ∷ [])
-    (delivery ∷ switch ∷ unknown_egress ∷ wrong_pair ∷ egress_request ∷ leave ∷ [])
+    past ∙ stopped (turned_back s) _ authority going
     (c.in-Err-is_authorised.ensures (turned_back s) (c.turn_back_segment_id.ensures.sees s sees) (sym stays.network) (sym stays.header) payload)
 
 pub returns : goal.returns
@@ -51,12 +58,10 @@ returns c =
     let sees = first.ensures.sees n c.args.source.now in
     let same = path_between bytes f.path_begin f.path_end c.requires.front.begin c.requires.front.end in
     let stays = turned_stays s in
-    let past = passed s s (expired ∷ wrong_ingress ∷ wrong_payload_length ∷ wrong_underlay_source ∷ wrong_source ∷ wrong_destination ∷ [])
-    (turn_back_segment_id ∷ wrong_mac ∷ ingress_request ∷ delivery ∷ switch ∷ unknown_egress ∷ wrong_pair ∷ egress_request ∷ leave ∷ [])
+    let past = passed s s coming_in (turn_back_segment_id ∷ authority ++ going)
     (c.in_default.ensures s sees refl refl refl (sym (ap (λ t. (path_of t).segments) same))) in
     let payload = rest_of bytes _ _ c.requires.front.end ∙ sym stays.payload in
-    let through = passed (turned_back s) (turned_back s) (wrong_mac ∷ ingress_request ∷ [])
-    (delivery ∷ switch ∷ unknown_egress ∷ wrong_pair ∷ egress_request ∷ leave ∷ [])
+    let through = passed (turned_back s) (turned_back s) authority going
     (c.in_default-is_authorised.ensures (turned_back s) (turned.ensures.sees s sees) (sym stays.network) (sym stays.header) payload) in
     let entered = first.ensures.entered ∙ sees.spot.place.segment in
     let segments = turned.ensures.turned s sees first.ensures.turned entered in

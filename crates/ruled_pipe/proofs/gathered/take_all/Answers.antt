@@ -1,13 +1,10 @@
-use Rattle.std.proofs.Common.{◌≡◌, List, [], ◌∷◌, length, sym, ap, subst, ◌∙◌, append_assoc, refl, append-nil, arith}
+use Rattle.std.proofs.Common.{◌≡◌, List, [], ◌∷◌, length, sym, ap, subst, ◌∙◌, append_assoc, append-nil, arith}
+use Rattle.std.proofs.lemmas.List.{nil_from_length}
 use Rattle.std.specs.Vec.Iter.{into_iter_items}
 use Rattle.ruled_pipe.specs.Producer.{Sender}
 use Rattle.ruled_pipe.specs.Pipe.{EachFull}
 use Rattle.ruled_pipe.proofs.Ends.{known_next, full_next}
 use Rattle.ruled_pipe.proofs.gathered.take_all.Goals as goal
-
-nothing_left : {X : Type 0} (l : List X) → length l ≡ 0 → l ≡ []
-nothing_left [] h = refl
-nothing_left (x ∷ xs) h = absurd (omega arith)
 
 pub loop-producer-preserved : goal.loop-producer-preserved
 loop-producer-preserved g c =
@@ -25,7 +22,7 @@ pub returns-clause-full : goal.returns-clause-full
 returns-clause-full g c =
     let at = c.loop-producer in
     let none = c.in-None.ensures.steps in
-    let empty : into_iter_items at.producer-iterator ≡ [] = nothing_left _ (sym at.invariant.4 ∙ none.0) in
+    let empty : into_iter_items at.producer-iterator ≡ [] = nil_from_length _ (sym at.invariant.4 ∙ none.0) in
     let all = sym (append-nil at.yielded) ∙ rw empty at at.invariant.3 ∙ c.into_iter-producer-iterator.ensures.into_iter_gives.0 in
     let P : List (Sender g.row.T.Denot) → Type 0 = λ l. EachFull l in
     subst P all at.invariant.2
