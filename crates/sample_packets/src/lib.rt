@@ -1,0 +1,11 @@
+//! What the tests of several crates share: a router, and a datagram that crosses it. A case is written as
+//! this datagram with other bytes at an offset, so that what changed is seen.
+#![tactic(auto)]
+
+mod datagram;
+mod router;
+#[cfg(test)]
+mod tests;
+
+pub use datagram::{FIRST, IN_TIME, LATE, MAC_AT, OTHER_MAC, PATH_AT, PAYLOAD_AT, with_bytes};
+pub use router::{CONFIGURATION, KEY};
