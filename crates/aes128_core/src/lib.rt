@@ -18,8 +18,6 @@ mod columns;
 mod key_expansion;
 mod rounds;
 mod tables;
-#[cfg(test)]
-mod tests;
 
 use crate::key_expansion::expand;
 use crate::rounds::{block_of, first_round, last_round, round};

@@ -14,8 +14,6 @@ ghost use Rattle.std.specs.Prelude.{◌≡◌, ℕ, List, take};
 ghost use Rattle.cmac_core.specs.Cmac.{subkey_1, subkey_2, tag};
 
 mod block;
-#[cfg(test)]
-mod tests;
 
 use crate::block::{Block, doubled, filled, xor_blocks};
 use aes128_core::Aes128;

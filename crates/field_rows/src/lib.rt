@@ -4,8 +4,6 @@
 
 mod laws;
 mod reading;
-#[cfg(test)]
-mod tests;
 mod writing;
 
 pub use laws::{numbers_read_back, one_spelling, written_stands};

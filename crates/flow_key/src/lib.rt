@@ -7,8 +7,6 @@
 mod flow;
 mod hash;
 mod key;
-#[cfg(test)]
-mod tests;
 
 pub use flow::flow_of;
 pub use hash::{fnv1a, processor_of};

@@ -8,8 +8,6 @@
 
 mod expiry;
 mod mac;
-#[cfg(test)]
-mod tests;
 
 pub use expiry::expired;
 pub use mac::{chain, mac_input, verify};

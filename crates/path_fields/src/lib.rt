@@ -16,8 +16,6 @@ mod moves;
 mod path;
 mod reading;
 mod reversing;
-#[cfg(test)]
-mod tests;
 mod writing;
 
 pub use fault::{NoRoom, PathEnd, PathFault};

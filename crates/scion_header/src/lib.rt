@@ -16,8 +16,6 @@ mod header;
 mod host;
 mod laws;
 mod reading;
-#[cfg(test)]
-mod tests;
 mod upper;
 mod writing;
 

@@ -10,8 +10,6 @@ mod fault;
 mod kind;
 mod pairs;
 mod switching;
-#[cfg(test)]
-mod tests;
 
 pub use fault::PairFault;
 pub use kind::LinkKind;

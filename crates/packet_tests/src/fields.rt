@@ -1,6 +1,6 @@
 //! Each read and each write once, on bytes written out by hand.
 
-use crate::{array_at, put, put_u8, put_u16, put_u32, put_u48, u16_at, u32_at, u48_at};
+use field_rows::{array_at, put, put_u8, put_u16, put_u32, put_u48, u16_at, u32_at, u48_at};
 
 #[test]
 fn reads_at_a_place(rt: HostRuntime) {

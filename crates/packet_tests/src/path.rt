@@ -1,14 +1,15 @@
-use crate::{
+use field_rows::array_at;
+use path_fields::{
     Hop, Info, Meta, NoRoom, PathEnd, PathFault, advance, check_path, lawful, read_hop, read_info,
     read_meta, read_path, reversed, set_cursor, set_seg_id, write_path,
 };
+use sample_packets::{FIRST, PATH_AT};
 use std::test::Fail;
 
 /// One segment of three hops, travelled along; the cursor is at the second.
-const PATH: [u8; 48] = *b"\x01\x00\x30\x00\x01\x00\x12\x34\x65\x00\x00\x00\
-    \x00\x3f\x00\x00\x00\x11\xa0\xa1\xa2\xa3\xa4\xa5\
-    \x00\x3f\x00\x01\x00\x02\xc0\xc1\xc2\xc3\xc4\xc5\
-    \x00\x3f\x00\x12\x00\x00\xb0\xb1\xb2\xb3\xb4\xb5";
+fn one_segment() -> [u8; 48] {
+    array_at::<48>(&FIRST, PATH_AT)
+}
 
 fn hop(construction_ingress: u16, construction_egress: u16, mac: [u8; 6]) -> Hop {
     Hop {
@@ -34,7 +35,8 @@ fn info() -> Info {
 
 #[test]
 fn reads_and_writes_a_path(rt: HostRuntime) -> Result<(), Fail> {
-    let path = read_path(&PATH)?;
+    let bytes = one_segment();
+    let path = read_path(&bytes)?;
     assert_eq!(rt;
         (path.current_info, path.current_hop, path.reserved),
         (0, 1, 0)
@@ -43,7 +45,7 @@ fn reads_and_writes_a_path(rt: HostRuntime) -> Result<(), Fail> {
     assert_eq!(rt; path.infos.as_slice(), [info()].as_slice());
     let hops = [
         hop(0, 17, [0xa0, 0xa1, 0xa2, 0xa3, 0xa4, 0xa5]),
-        hop(1, 2, [0xc0, 0xc1, 0xc2, 0xc3, 0xc4, 0xc5]),
+        hop(1, 2, [0x0e, 0x66, 0xd2, 0x97, 0x45, 0x36]),
         hop(18, 0, [0xb0, 0xb1, 0xb2, 0xb3, 0xb4, 0xb5]),
     ];
     assert_eq!(rt; path.hops.as_slice(), hops.as_slice());
@@ -51,7 +53,7 @@ fn reads_and_writes_a_path(rt: HostRuntime) -> Result<(), Fail> {
     assert_eq!(rt; write_path(&path, &mut room[..47]), Err(NoRoom));
     assert_eq!(rt; write_path(&path, &mut room), Ok(48));
     let mut written = [0x55; 50];
-    written[..48].copy_from_slice(&PATH);
+    written[..48].copy_from_slice(&bytes);
     assert_eq!(rt; room, written);
     lawful();
     Ok(())
@@ -65,26 +67,28 @@ fn reads_one_field(rt: HostRuntime) {
         reserved: 0,
         lengths: [3, 0, 0],
     };
-    assert_eq!(rt; read_meta(&PATH), meta);
-    assert_eq!(rt; check_path(&PATH), Ok(meta));
+    let path = one_segment();
+    assert_eq!(rt; read_meta(&path), meta);
+    assert_eq!(rt; check_path(&path), Ok(meta));
     assert_eq!(rt;
         (meta.segment_count(), meta.hop_count(), meta.path_len()),
         (1, 3, 48)
     );
     assert_eq!(rt; (meta.segment_of(2), meta.first_hop(0)), (0, 0));
     assert_eq!(rt; (meta.hops_place(), meta.hop_place(1)), (12, 24));
-    assert_eq!(rt; read_info(&PATH, 0), info());
+    assert_eq!(rt; read_info(&path, 0), info());
     assert_eq!(rt;
-        read_hop(&PATH, 24),
-        hop(1, 2, [0xc0, 0xc1, 0xc2, 0xc3, 0xc4, 0xc5])
+        read_hop(&path, 24),
+        hop(1, 2, [0x0e, 0x66, 0xd2, 0x97, 0x45, 0x36])
     );
 }
 
 #[test]
 fn refuses_what_is_no_path(rt: HostRuntime) {
+    let whole = one_segment();
     for len in [0, 3, 44, 47] {
         assert_eq!(rt;
-            check_path(&PATH[..len]),
+            check_path(&whole[..len]),
             Err(PathFault::Header),
             "{len} bytes"
         );
@@ -96,11 +100,11 @@ fn refuses_what_is_no_path(rt: HostRuntime) {
         [0x03, 0x00, 0x30, 0x00],
     ];
     for meta in metas {
-        let mut path = PATH;
+        let mut path = whole;
         path[..4].copy_from_slice(&meta);
         assert_eq!(rt; check_path(&path), Err(PathFault::Path), "{meta:?}");
     }
-    let mut path = PATH;
+    let mut path = whole;
     path[4] = 0x03;
     assert_eq!(rt; check_path(&path), Err(PathFault::Peering));
 }
@@ -126,9 +130,9 @@ fn sets_fields_in_place(rt: HostRuntime) {
     let mut meta = [0x01, 0x00, 0x20, 0x80];
     set_cursor(&mut meta, 1, 2);
     assert_eq!(rt; meta, [0x42, 0x00, 0x20, 0x80]);
-    let mut path = PATH;
+    let mut path = one_segment();
     set_seg_id(&mut path, 0, 0xd2f4);
-    let mut chained = PATH;
+    let mut chained = one_segment();
     chained[6] = 0xd2;
     chained[7] = 0xf4;
     assert_eq!(rt; path, chained);
@@ -136,7 +140,7 @@ fn sets_fields_in_place(rt: HostRuntime) {
 
 #[test]
 fn turns_a_path_back(rt: HostRuntime) -> Result<(), Fail> {
-    let mut back = reversed(&read_path(&PATH)?);
+    let mut back = reversed(&read_path(&one_segment())?);
     assert_eq!(rt; (back.current_info, back.current_hop), (0, 1));
     // one hop on, as the way back of an answer that leaves by the link by which its packet came
     assert_eq!(rt; advance(&mut back), Ok(()));
@@ -144,7 +148,7 @@ fn turns_a_path_back(rt: HostRuntime) -> Result<(), Fail> {
     assert_eq!(rt; write_path(&back, &mut written), Ok(48));
     let way_back = *b"\x02\x00\x30\x00\x00\x00\x12\x34\x65\x00\x00\x00\
         \x00\x3f\x00\x12\x00\x00\xb0\xb1\xb2\xb3\xb4\xb5\
-        \x00\x3f\x00\x01\x00\x02\xc0\xc1\xc2\xc3\xc4\xc5\
+        \x00\x3f\x00\x01\x00\x02\x0e\x66\xd2\x97\x45\x36\
         \x00\x3f\x00\x00\x00\x11\xa0\xa1\xa2\xa3\xa4\xa5";
     assert_eq!(rt; written, way_back);
     Ok(())

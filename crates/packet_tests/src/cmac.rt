@@ -1,4 +1,4 @@
-use crate::Cmac;
+use cmac_core::Cmac;
 
 // The key of RFC 4493's examples, section 4.
 const KEY: u128 = 0x2b7e151628aed2a6abf7158809cf4f3c;

@@ -1,12 +1,9 @@
 //! Values from outside: a hop field whose MAC was made by OpenSSL, and moments by hand.
 
-use super::*;
 use cmac_core::Cmac;
+use hop_check::{chain, expired, mac_input, verify};
 use path_fields::{Hop, Info};
-
-const KEY: [u8; 16] = [
-    0x2b, 0x7e, 0x15, 0x16, 0x28, 0xae, 0xd2, 0xa6, 0xab, 0xf7, 0x15, 0x88, 0x09, 0xcf, 0x4f, 0x3c,
-];
+use sample_packets::KEY;
 
 fn info() -> Info {
     Info {

@@ -1,5 +1,5 @@
-use crate::{LinkKind, PairFault, is_switch, joins, pair_ok};
 use path_fields::read_path;
+use segment_switch::{LinkKind, PairFault, is_switch, joins, pair_ok};
 use std::test::Fail;
 
 const KINDS: [LinkKind; 3] = [LinkKind::Core, LinkKind::Parent, LinkKind::Child];

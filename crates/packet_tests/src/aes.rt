@@ -1,4 +1,4 @@
-use crate::Aes128;
+use aes128_core::Aes128;
 
 // The examples of FIPS 197: appendix B, and C.1 of the edition of 2001.
 #[test]

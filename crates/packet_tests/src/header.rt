@@ -1,18 +1,9 @@
-use crate::{
+use sample_packets::{FIRST, with_bytes};
+use scion_header::{
     Address, Domain, Header, HeaderEnds, HeaderFault, Host, NoRoom, Upper, UpperPlace,
     check_header, destination_address, destination_domain, lawful, next_header, payload_length,
     read_header, source_domain, upper_layer, upper_place, write_header,
 };
-
-/// A datagram from 1-ff00:0:111, 10.1.0.5 to 1-ff00:0:112, 10.2.0.7: one segment of three hops, 8
-/// bytes of UDP.
-const DATAGRAM: [u8; 92] = *b"\x00\x00\x00\x01\x11\x15\x00\x08\x01\x00\x00\x00\
-    \x00\x01\xff\x00\x00\x00\x01\x12\x00\x01\xff\x00\x00\x00\x01\x11\x0a\x02\x00\x07\x0a\x01\x00\x05\
-    \x01\x00\x30\x00\x01\x00\x12\x34\x65\x00\x00\x00\
-    \x00\x3f\x00\x00\x00\x11\xa0\xa1\xa2\xa3\xa4\xa5\
-    \x00\x3f\x00\x01\x00\x02\xc0\xc1\xc2\xc3\xc4\xc5\
-    \x00\x3f\x00\x12\x00\x00\xb0\xb1\xb2\xb3\xb4\xb5\
-    \x75\x59\x75\x59\x00\x08\x00\x00";
 
 /// The IPv4 host of 1-ff00:0:`number`.
 fn address(number: u16, host: [u8; 4]) -> Address {
@@ -45,8 +36,8 @@ fn reads_and_writes_a_datagram(rt: HostRuntime) {
         addresses: 36,
         header: 84,
     };
-    assert_eq!(rt; check_header(&DATAGRAM), Ok(ends));
-    assert_eq!(rt; read_header(&DATAGRAM), Ok(header));
+    assert_eq!(rt; check_header(&FIRST), Ok(ends));
+    assert_eq!(rt; read_header(&FIRST), Ok(header));
     assert_eq!(rt; header.front_len(), 36);
     assert_eq!(rt; header.source.host.length_code(), 0);
     assert_eq!(rt; header.source.host.as_slice(), [10, 1, 0, 5].as_slice());
@@ -54,7 +45,7 @@ fn reads_and_writes_a_datagram(rt: HostRuntime) {
     assert_eq!(rt; write_header(&header, &mut room[..35]), Err(NoRoom));
     assert_eq!(rt; write_header(&header, &mut room), Ok(36));
     let mut written = [0x55; 40];
-    written[..36].copy_from_slice(&DATAGRAM[..36]);
+    written[..36].copy_from_slice(&FIRST[..36]);
     assert_eq!(rt; room, written);
     lawful();
 }
@@ -65,26 +56,23 @@ fn reads_single_fields(rt: HostRuntime) {
         isd: 1,
         autonomous_system: 0xff00_0000_0000 + u64::from(number),
     };
-    assert_eq!(rt; next_header(&DATAGRAM), 17);
-    assert_eq!(rt; payload_length(&DATAGRAM), 8);
-    assert_eq!(rt; destination_domain(&DATAGRAM), domain(0x112));
-    assert_eq!(rt; source_domain(&DATAGRAM), domain(0x111));
-    assert_eq!(rt;
-        destination_address(&DATAGRAM),
-        address(0x112, [10, 2, 0, 7])
-    );
+    assert_eq!(rt; next_header(&FIRST), 17);
+    assert_eq!(rt; payload_length(&FIRST), 8);
+    assert_eq!(rt; destination_domain(&FIRST), domain(0x112));
+    assert_eq!(rt; source_domain(&FIRST), domain(0x111));
+    assert_eq!(rt; destination_address(&FIRST), address(0x112, [10, 2, 0, 7]));
 }
 
 #[test]
 fn refuses_what_is_no_header(rt: HostRuntime) {
     for len in [0, 11, 12, 83] {
         assert_eq!(rt;
-            read_header(&DATAGRAM[..len]),
+            read_header(&FIRST[..len]),
             Err(HeaderFault::Short),
             "{len} bytes"
         );
         assert_eq!(rt;
-            check_header(&DATAGRAM[..len]),
+            check_header(&FIRST[..len]),
             Err(HeaderFault::Short),
             "{len} bytes"
         );
@@ -96,8 +84,7 @@ fn refuses_what_is_no_header(rt: HostRuntime) {
         (5, 0x18, HeaderFault::Short),
     ];
     for (at, byte, fault) in changes {
-        let mut datagram = DATAGRAM;
-        datagram[at] = byte;
+        let datagram = with_bytes(FIRST, at, &[byte]);
         assert_eq!(rt; read_header(&datagram), Err(fault), "byte {at} is {byte}");
         assert_eq!(rt; check_header(&datagram), Err(fault), "byte {at} is {byte}");
     }
