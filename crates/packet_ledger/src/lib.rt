@@ -14,8 +14,6 @@ mod amounts;
 mod book;
 mod share;
 mod sums;
-#[cfg(test)]
-mod tests;
 mod tokens;
 
 pub use book::{Blank, Book};

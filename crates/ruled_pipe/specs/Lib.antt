@@ -3,4 +3,3 @@ pub mod Producer
 pub mod Consumer
 pub mod Pipe
 pub mod Gathered
-pub mod Tests

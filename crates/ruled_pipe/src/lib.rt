@@ -18,8 +18,6 @@ mod pace;
 mod pipe;
 mod producer;
 mod rule;
-#[cfg(test)]
-mod tests;
 
 pub use consumer::Consumer;
 pub use entry::{Entry, Load, Mark, Refusal};

@@ -1,6 +1,6 @@
 use Rattle.std.proofs.Common.{refl}
-use Rattle.ruled_pipe.proofs.Pairs.{example_of}
-use Rattle.ruled_pipe.proofs.tests.example.Goals as goal
+use Rattle.joints_tests.proofs.Pairs.{example_of}
+use Rattle.joints_tests.proofs.pipe.example.Goals as goal
 
 pub returns : goal.returns
 returns g c =

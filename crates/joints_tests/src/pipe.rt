@@ -3,9 +3,9 @@ ghost use Rattle.ruled_pipe.specs.Producer.{entry, new_sender, offered, refused}
 ghost use Rattle.ruled_pipe.specs.Consumer.{looked, new_taker, took};
 ghost use Rattle.ruled_pipe.specs.Pipe.{IsEndOf};
 ghost use Rattle.ruled_pipe.specs.Gathered.{IsSettled};
-ghost use Rattle.ruled_pipe.specs.Tests.{IsExample};
+ghost use Rattle.joints_tests.specs.Pipe.{IsExample};
 
-use super::{Consumer, Entry, Full, Gathered, Load, Mark, Pipe, Producer};
+use ruled_pipe::{Consumer, Entry, Full, Gathered, Load, Mark, Pipe, Producer};
 use std::alloc::{AllocError, Global};
 use std::sync::Wait;
 use std::test::*;
@@ -221,41 +221,80 @@ fn ended_and_taken(rt: HostRuntime) -> Result<(), Fail> {
     Ok(())
 }
 
-#[test]
-fn a_refused_item_comes_back(rt: HostRuntime) -> Result<(), Fail> {
-    let (_pipe, mut ends, mut consumer) = Pipe::<Vec<u8>>::new(rt.alloc(), 1, 1)?;
-    let mut producer = ends.pop().expect(&rt, "one producer");
-    assert!(rt; producer.offer(&rt, vec![in rt.alloc(); 1, 2, 3]?).is_ok());
-    match producer.offer(&rt, vec![in rt.alloc(); 4, 5]?) {
-        Err(Full(back)) => assert_eq!(rt; back.as_slice(), [4u8, 5].as_slice()),
-        Ok(()) => assert!(rt; false),
+// Whether an offer is refused, and gives back the bytes that were offered.
+fn refuses<R: Wait>(rt: &R, producer: &mut Producer<Vec<u8>>, item: Vec<u8>, bytes: &[u8]) -> bool {
+    match producer.offer(rt, item) {
+        Err(full) => gives_back(&full, bytes),
+        Ok(()) => false,
     }
-    match producer.mark(&rt, Mark::End) {
-        Err(Full(back)) => assert_eq!(rt; back, Mark::End),
-        Ok(()) => assert!(rt; false),
+}
+
+fn gives_back(full: &Full<Vec<u8>>, bytes: &[u8]) -> bool {
+    full.0.as_slice() == bytes
+}
+
+// Whether an end mark is refused, and comes back.
+fn refuses_end<R: Wait>(rt: &R, producer: &mut Producer<Vec<u8>>) -> bool {
+    match producer.mark(rt, Mark::End) {
+        Err(Full(back)) => back == Mark::End,
+        Ok(()) => false,
     }
-    match consumer.take(&rt) {
+}
+
+// Whether the first producer's bytes are taken.
+fn gives_bytes<R: Wait>(rt: &R, consumer: &mut Consumer<Vec<u8>>, bytes: &[u8]) -> bool {
+    match consumer.take(rt) {
         Some(
             Entry {
                 from: 0,
                 load: Load::Payload(item),
             },
-        ) => assert_eq!(rt; item.as_slice(), [1u8, 2, 3].as_slice()),
-        _ => assert!(rt; false),
+        ) => item.as_slice() == bytes,
+        _ => false,
     }
-    assert!(rt; producer.mark(&rt, Mark::End).is_ok());
-    match consumer.take(&rt) {
+}
+
+// Whether the first producer's end mark is taken.
+fn gives_first_end<R: Wait>(rt: &R, consumer: &mut Consumer<Vec<u8>>) -> bool {
+    match consumer.take(rt) {
         Some(
             Entry {
                 from: 0,
                 load: Load::Marked(mark),
             },
-        ) => assert_eq!(rt; mark, Mark::End),
-        _ => assert!(rt; false),
+        ) => mark == Mark::End,
+        _ => false,
     }
+}
+
+#[test]
+fn a_refused_item_comes_back(rt: HostRuntime) -> Result<(), Fail> {
+    let alloc = rt.alloc();
+    let (_pipe, mut ends, mut consumer) = Pipe::<Vec<u8>>::new(alloc, 1, 1)?;
+    let mut producer = ends.pop().expect(&rt, "one producer");
+    assert!(rt; producer.offer(&rt, vec![in alloc; 1, 2, 3]?).is_ok());
+    assert!(rt; refuses(&rt, &mut producer, vec![in alloc; 4, 5]?, &[4, 5]));
+    assert!(rt; refuses_end(&rt, &mut producer));
+    assert!(rt; gives_bytes(&rt, &mut consumer, &[1, 2, 3]));
+    assert!(rt; producer.mark(&rt, Mark::End).is_ok());
+    assert!(rt; gives_first_end(&rt, &mut consumer));
     // what is still held is dropped with the pipe
-    assert!(rt; producer.offer(&rt, vec![in rt.alloc(); 6]?).is_ok());
+    assert!(rt; producer.offer(&rt, vec![in alloc; 6]?).is_ok());
     Ok(())
+}
+
+// Whether each take makes room for one offer.
+fn takes_make_room<R: Wait>(
+    rt: &R,
+    producer: &mut Producer<u32>,
+    consumer: &mut Consumer<u32>,
+) -> bool {
+    for _ in 0..10_000 {
+        if consumer.take(rt).is_none() || producer.offer(rt, 7).is_err() {
+            return false;
+        }
+    }
+    true
 }
 
 // Whether as many offers as the capacity are accepted and no more, and then each take makes room for one.
@@ -266,23 +305,11 @@ fn fills_at<R: Wait>(rt: &R, alloc: Global, capacity: usize) -> Result<bool, Fai
     let Some(mut producer) = ends.pop() else {
         return Ok(false);
     };
-    for i in 0..capacity {
-        if producer.offer(rt, (i % 1000) as u32).is_err() {
-            return Ok(false);
-        }
-    }
-    if producer.offer(rt, 7).is_ok() {
-        return Ok(false);
-    }
-    for _ in 0..10_000 {
-        if consumer.take(rt).is_none() {
-            return Ok(false);
-        }
-        if producer.offer(rt, 7).is_err() {
-            return Ok(false);
-        }
-    }
-    Ok(true)
+    Ok(
+        all_fit(rt, &mut producer, capacity as u32)
+            && producer.offer(rt, 7).is_err()
+            && takes_make_room(rt, &mut producer, &mut consumer),
+    )
 }
 
 #[test]
@@ -305,25 +332,56 @@ fn two_fill<R: Wait>(rt: &R, alloc: Global, capacity: usize) -> Result<bool, Fai
     let Some(mut odd) = ends.pop() else {
         return Ok(false);
     };
-    for i in 0..capacity {
-        let producer = if i % 2 == 0 { &mut even } else { &mut odd };
-        if producer.offer(rt, 5).is_err() {
-            return Ok(false);
+    Ok(
+        turns_fit(rt, &mut even, &mut odd, capacity)
+            && turns_make_room(rt, &mut even, &mut odd, &mut consumer),
+    )
+}
+
+// An offer by the one or the other.
+fn offers_by_turn<R: Wait>(
+    rt: &R,
+    even: &mut Producer<u32>,
+    odd: &mut Producer<u32>,
+    i: usize,
+) -> bool {
+    if i % 2 == 0 {
+        even.offer(rt, 5).is_ok()
+    } else {
+        odd.offer(rt, 5).is_ok()
+    }
+}
+
+fn turns_fit<R: Wait>(
+    rt: &R,
+    even: &mut Producer<u32>,
+    odd: &mut Producer<u32>,
+    count: usize,
+) -> bool {
+    for i in 0..count {
+        if !offers_by_turn(rt, even, odd, i) {
+            return false;
         }
     }
+    true
+}
+
+fn turns_make_room<R: Wait>(
+    rt: &R,
+    even: &mut Producer<u32>,
+    odd: &mut Producer<u32>,
+    consumer: &mut Consumer<u32>,
+) -> bool {
     for i in 0..10_000 {
-        if even.offer(rt, 6).is_ok() || odd.offer(rt, 6).is_ok() {
-            return Ok(false);
-        }
-        if consumer.take(rt).is_none() {
-            return Ok(false);
-        }
-        let producer = if i % 2 == 0 { &mut even } else { &mut odd };
-        if producer.offer(rt, 7).is_err() {
-            return Ok(false);
+        if even.offer(rt, 6).is_ok()
+            || odd.offer(rt, 6).is_ok()
+            || consumer.take(rt).is_none()
+            || !offers_by_turn(rt, even, odd, i)
+        {
+            return false;
         }
     }
-    Ok(true)
+    true
 }
 
 #[test]

@@ -1,5 +1,5 @@
-use Rattle.ruled_pipe.proofs.Pairs.{last_two, two_new}
-use Rattle.ruled_pipe.proofs.tests.for_two.Goals as goal
+use Rattle.joints_tests.proofs.Pairs.{last_two, two_new}
+use Rattle.joints_tests.proofs.pipe.for_two.Goals as goal
 
 pub returns : goal.returns
 returns c =

@@ -1,6 +1,6 @@
 ghost use Rattle.std.specs.Prelude.{◌≡◌, ◌*◌, ◌≤◌};
 
-use super::{Blank, Book, Ledger, Share};
+use packet_ledger::{Blank, Book, Ledger, Share};
 use process_packet::{Cause, Totals};
 use std::alloc::{AllocError, Global};
 use std::marker::Brand;

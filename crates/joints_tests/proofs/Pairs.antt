@@ -7,7 +7,7 @@ use Rattle.ruled_pipe.specs.Consumer.{Taker, looked, new_taker, took}
 use Rattle.ruled_pipe.specs.Pipe.{AreNew}
 use Rattle.ruled_pipe.specs.Gathered.{EndsWithMark, EachEndsWithMark, ends_in}
 use Rattle.ruled_pipe.specs.Gathered.{Views}
-use Rattle.ruled_pipe.specs.Tests.{IsExample}
+use Rattle.joints_tests.specs.Pipe.{IsExample}
 use Rattle.ruled_pipe.proofs.Drained.{all_taken, no_entry}
 use Rattle.atomic_table.specs.Seated.{TableId}
 

@@ -1,6 +1,6 @@
 use Rattle.std.proofs.Common.{refl}
-use Rattle.ruled_pipe.proofs.Pairs.{ended_of, ends_taken}
-use Rattle.ruled_pipe.proofs.tests.settled_example.Goals as goal
+use Rattle.joints_tests.proofs.Pairs.{ended_of, ends_taken}
+use Rattle.joints_tests.proofs.pipe.settled_example.Goals as goal
 
 pub settled-requires : goal.settled-requires
 settled-requires g c =
