@@ -1,8 +1,9 @@
 //! The book.
 
-ghost use Rattle.std.specs.Prelude.{◌≡◌, ◌≤◌, ◌⊎◌, All, IfOk, length};
+ghost use Rattle.std.specs.Prelude.{◌≡◌, ◌^◌, ◌≤◌, ◌⊎◌, All, IfOk, length};
 ghost use Rattle.crossbeam_utils.specs.Seq.{cell_view};
-ghost use Rattle.packet_ledger.specs.Amounts.{nothing, plus};
+ghost use Rattle.process_packet.specs.declared.totals.Totals.{Totals};
+ghost use Rattle.packet_ledger.specs.Amounts.{AtMost, nothing, plus};
 ghost use Rattle.packet_ledger.specs.Tokens.{keeper};
 ghost use Rattle.packet_ledger.specs.Share.{counts_of, emptied, new_share, posted_by};
 
@@ -71,9 +72,9 @@ impl<L: Ledger> Book<L> {
         Ok((Book { cell, sums }, shares))
     }
 
-    /// Moves the share's counts into the book. Where a sum of the book would pass 2^126 nothing moves.
+    /// Moves the share's counts into the book. Only where a sum of the book would pass 2^126 nothing moves.
     pub fn post<R: Wait>(&self, rt: &R, share: &mut Share<L>)
-        ensures { (share.new ≡ emptied share.old) ⊎ (share.new ≡ share.old) }
+        ensures { (share.new ≡ emptied share.old) ⊎ ((share.new ≡ share.old) × (sums : Totals) × AtMost (2 ^ 126) sums × (AtMost (2 ^ 126) (plus sums share.old.counts) → ⊥)) }
     {
         self.sums.lock(rt).post(rt, &self.cell, share);
     }

@@ -58,6 +58,7 @@ impl<L: Ledger> Sums<L> {
         ensures sums { MatchBool result (self.new ≡ plus self.old share.old.counts) (self.new ≡ self.old) }
         ensures share { MatchBool result (share.new ≡ emptied share.old) (share.new ≡ share.old) }
         ensures room { MatchBool result (AtMost (2 ^ 126) (plus self.old share.old.counts)) (AtMost (2 ^ 126) (plus self.old share.old.counts) → ⊥) }
+        ensures fit { AtMost (2 ^ 126) self.old }
     {
         let sums = added(&self.totals, &share.counts);
         if !at_most(&sums, MOST) {
