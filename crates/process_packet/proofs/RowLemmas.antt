@@ -1,9 +1,14 @@
 -- Rows one behind the other.
-use Rattle.std.proofs.Common.{◌≡◌, ◌&&◌, Bool, true, List, [], ◌∷◌, ◌++◌, refl, ap, ◌∙◌}
+use Rattle.std.proofs.Common.{◌≡◌, List, [], ◌∷◌, ◌++◌, refl, sym, ap, ◌∙◌}
+use Rattle.std.specs.Prelude.{IsErrAnd, Result, Ok, Err}
+use Rattle.scion_packet.specs.Packet.{Packet}
+use Rattle.process_packet.specs.declared.departure.Departure.{Departure}
+use Rattle.process_packet.specs.declared.refusal.Refusal.{Refusal}
+use Rattle.process_packet.specs.Departure.{Tells}
+use Rattle.process_packet.specs.Sight.{refused}
 use Rattle.process_packet.specs.Decide.{ends_as, verdict_of}
-use Rattle.process_packet.specs.Network.{is_local}
-use Rattle.process_packet.specs.Rows.{Verdict, Turn, GoesOn, Ends, Row, delivered, delivery, ends_where, then_rows}
-use Rattle.process_packet.specs.Standing.{Standing, is_external, packet}
+use Rattle.process_packet.specs.Rows.{Verdict, Turn, GoesOn, Ends, Row, then_rows}
+use Rattle.process_packet.specs.Standing.{Standing}
 
 then_append : (t : Turn) (rows more : List Row) → then_rows t (rows ++ more) ≡ then_rows (then_rows t rows) more
 then_append (Ends v) rows more = refl
@@ -24,9 +29,17 @@ no_more (GoesOn s) = refl
 pub last_row : (s : Standing) (r : Row) → ends_as s (r ∷ []) ≡ verdict_of (r s)
 last_row s r = ap verdict_of (no_more (r s))
 
-pub delivered_here : (s : Standing) (rows : List Row) → (is_external s && is_local s.network s.header.destination) ≡ true
-    → ends_as s (delivery ∷ rows) ≡ delivered s.network (packet s)
-delivered_here s rows here = ap (λ (b : Bool). verdict_of (then_rows (ends_where b (delivered s.network (packet s)) s) rows)) here
+-- past one row, and at the row that ends the decision
+pub went_on : (s t : Standing) (r : Row) (rows : List Row) → r s ≡ GoesOn t → ends_as s (r ∷ rows) ≡ ends_as t rows
+went_on s t r rows goes = ap (λ (u : Turn). verdict_of (then_rows u rows)) goes
+
+pub ended : (s : Standing) (v : Verdict) (r : Row) (rows : List Row) → r s ≡ Ends v → ends_as s (r ∷ rows) ≡ v
+ended s v r rows ends = ap (λ (u : Turn). verdict_of (then_rows u rows)) ends
+
+-- a refusal that is handed on tells the verdict that it is
+pub refusal_told : (v : Verdict) (p : Packet) (result : Result Departure Refusal) (r : Refusal) → IsErrAnd result (λ e. e ≡ r) → v ≡ refused r → Tells v p result
+refusal_told v p (Ok d) r is ends = absurd is
+refusal_told v p (Err e) r is ends = ends ∙ ap refused (sym is)
 
 -- behind rows that a packet passed unchanged, one more row says what it says
 pub one_more : (s : Standing) (rows : List Row) (r : Row) → then_rows (GoesOn s) rows ≡ GoesOn s → then_rows (GoesOn s) (rows ++ (r ∷ [])) ≡ r s

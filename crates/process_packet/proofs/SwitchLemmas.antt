@@ -1,10 +1,12 @@
 -- The change from one segment to the next.
-use Rattle.std.proofs.Common.{◌≡◌, ◌≢◌, ◌&&◌, true, ℕ, ◌+◌, List, [], ◌∷◌, sym, ap₂, subst, ◌∙◌, arith}
+use Rattle.std.proofs.Common.{◌≡◌, ◌≢◌, ◌&&◌, Bool, true, false, ℕ, ◌+◌, List, [], ◌∷◌, Option, refl, sym, ap₂, subst, ◌∙◌, arith, if◌then◌else◌}
 use Rattle.std.specs.Prelude.{Result}
 use Rattle.std.proofs.lemmas.Bool.{and_from, cond-true}
+use Rattle.scion_packet.specs.Packet.{Packet}
 use Rattle.scion_packet.specs.Path.{Place, Segment, place_at}
+use Rattle.process_packet.specs.Departure.{Keeps}
 use Rattle.process_packet.specs.Rows.{Turn, GoesOn, expired, switch, then_rows, wrong_mac}
-use Rattle.process_packet.specs.Sight.{IsAlike, Says, Sees}
+use Rattle.process_packet.specs.Sight.{IsAlike, Says, Sees, with_id}
 use Rattle.process_packet.specs.Spot.{IsSpot}
 use Rattle.process_packet.specs.Standing.{Standing, changed_over, is_followed, is_last_of_segment, next_segment, past_switch}
 use Rattle.process_packet.specs.declared.refusal.Refusal.{Refusal}
@@ -55,3 +57,37 @@ pub says_taken : (s : Standing) (r : Result (Unit {0}) Refusal) → is_last_of_s
 says_taken s r last followed says =
     subst (λ (t : Turn). Says t (past_switch s) r) (sym (taken s last followed))
     (subst (λ (u : Standing). Says (then_rows (expired (changed_over s)) (wrong_mac ∷ [])) u r) (sym (changes s last followed)) says)
+
+-- ---- what stays
+
+switch_keeps : (b : Bool) (v w : Sight) (s : Standing) (p : Packet) → w.turned ≡ v.turned → w.entered ≡ v.entered → Keeps v s p → Keeps w (if b then changed_over s else s) p
+switch_keeps true v w s p turned entered keeps = record {
+  header = keeps.header;
+  payload = keeps.payload;
+  reserved = keeps.reserved;
+  segments = keeps.segments ∙ ap₂ (λ (o : Option ℕ) (k : ℕ). with_id o k p.path.segments) (sym turned) (sym entered);
+  entered = omega (arith, entered, keeps.entered);
+}
+switch_keeps false v w s p turned entered keeps = record {
+  header = keeps.header;
+  payload = keeps.payload;
+  reserved = keeps.reserved;
+  segments = keeps.segments ∙ ap₂ (λ (o : Option ℕ) (k : ℕ). with_id o k p.path.segments) (sym turned) (sym entered);
+  entered = omega (arith, entered, keeps.entered);
+}
+
+pub keeps_past_switch : (v w : Sight) (s : Standing) (p : Packet) → w.turned ≡ v.turned → w.entered ≡ v.entered → Keeps v s p → Keeps w (past_switch s) p
+keeps_past_switch v w s p turned entered keeps = switch_keeps (is_last_of_segment s && is_followed s) v w s p turned entered keeps
+
+-- the rows behind the switch look at the same network, header and payload
+pub record IsSameThere (s u : Standing) : Type 0 where
+  pub network : s.network ≡ u.network
+  pub header : s.header ≡ u.header
+  pub payload : s.payload ≡ u.payload
+
+same_there : (b : Bool) (s : Standing) → IsSameThere s (if b then changed_over s else s)
+same_there true s = record { network = refl; header = refl; payload = refl }
+same_there false s = record { network = refl; header = refl; payload = refl }
+
+pub same_past_switch : (s : Standing) → IsSameThere s (past_switch s)
+same_past_switch s = same_there (is_last_of_segment s && is_followed s) s

@@ -1,6 +1,5 @@
 -- The sight with its segment identifier chained shows the packet with its segment identifier chained.
 use Rattle.std.proofs.Common.{◌≡◌, ◌&&◌, not, Bool, true, ℕ, sym, subst, ap, ap₂, ◌∙◌, arith, if◌then◌else◌, ◌<◌, false, List, length, refl}
-use Rattle.std.proofs.lemmas.Bool.{and_from}
 use Rattle.hop_check.specs.Mac.{chain}
 use Rattle.path_fields.specs.Fields.{hop_field, info_field}
 use Rattle.path_fields.specs.InPlace.{with_segment_id}
@@ -61,9 +60,9 @@ turned_is : (s : Standing) → (is_external s && not (is_along s)) ≡ true → 
 turned_is s test = ap (λ (b : Bool). if b then chained s else s) test
 
 pub sees_turned : (v w : Sight) (s : Standing) (id : ℕ) → Sees v s → IsSameBut v w → id ≡ chain (info_field v.spot.info).segment_id (hop_field v.spot.hop).mac
-    → info_field w.spot.info ≡ with_id_of id (info_field v.spot.info) → is_external s ≡ true → not (is_along s) ≡ true → Sees w (turned_back s)
-sees_turned v w s id sees same id-is info-is outside against =
-    subst (λ (t : Standing). Sees w t) (sym (turned_is s (and_from _ _ outside against))) (sees_chained v w s id sees same id-is info-is)
+    → info_field w.spot.info ≡ with_id_of id (info_field v.spot.info) → (is_external s && not (is_along s)) ≡ true → Sees w (turned_back s)
+sees_turned v w s id sees same id-is info-is against =
+    subst (λ (t : Standing). Sees w t) (sym (turned_is s against)) (sees_chained v w s id sees same id-is info-is)
 
 -- ---- what stays
 

@@ -1,17 +1,21 @@
 //! The rows that look at how a packet came.
 
-ghost use Rattle.std.specs.Prelude.{◌≡◌, [], ◌∷◌, false, None};
+ghost use Rattle.std.specs.Prelude.{◌≡◌, false, None, length};
 ghost use Rattle.scion_packet.specs.Header.{header_fault, header_of};
+ghost use Rattle.scion_packet.specs.Packet.{packet_of, path_bytes};
 ghost use Rattle.scion_packet.specs.Path.{path_of};
-ghost use Rattle.process_packet.specs.Network.{network};
+ghost use Rattle.process_packet.specs.Departure.{Keeps};
+ghost use Rattle.process_packet.specs.Front.{IsFront};
+ghost use Rattle.process_packet.specs.Network.{Network, network};
 ghost use Rattle.process_packet.specs.Rows as row;
 ghost use Rattle.process_packet.specs.Rows.{came_lawfully, is_destination_lawful, is_source_lawful};
 ghost use Rattle.process_packet.specs.Sight.{Says, Sees};
 ghost use Rattle.process_packet.specs.Spot.{IsMetaOf, LiesOn};
-ghost use Rattle.process_packet.specs.Standing.{Standing, entry, is_first_of_path};
+ghost use Rattle.process_packet.specs.Standing.{Standing, arrives, entry, is_first_of_path};
 
 use crate::cause::Cause;
 use crate::config::Config;
+use crate::front::Front;
 use crate::refusal::{Refusal, parameter_problem};
 use crate::sight::Sight;
 use crate::spot::Spot;
@@ -20,6 +24,36 @@ use path_fields::Meta;
 use scion_header::payload_length;
 
 impl Sight {
+    /// The packet of a datagram as its rows see it at first.
+    pub(crate) fn arrives(front: &Front, bytes: &[u8], link: u16, now: u64) -> Sight
+        requires front { IsFront front.now bytes.now }
+        ensures sees { (n : Network) (source : Underlay) → Sees result (arrives n link source now bytes.now) }
+        ensures keeps { (n : Network) (source : Underlay) → Keeps result (arrives n link source now bytes.now) (packet_of bytes.now) }
+        ensures spot { LiesOn result.spot (path_of (path_bytes bytes.now)).segments }
+        ensures count { result.segments ≡ length (path_of (path_bytes bytes.now)).segments }
+        ensures turned { result.turned ≡ None }
+        ensures entered { result.entered ≡ result.spot.segment }
+    {
+        let path = &bytes[front.path_begin..front.path_end];
+        let segment = usize::from(front.meta.current_info);
+        Sight {
+            link,
+            moment: now,
+            path_begin: front.path_begin,
+            payload: bytes.len() - front.path_end,
+            segments: front.meta.segment_count(),
+            spot: Spot::read(
+                path,
+                &front.meta,
+                segment,
+                usize::from(front.meta.current_hop),
+            ),
+            switched: false,
+            entered: segment,
+            turned: None,
+        }
+    }
+
     /// Its time is over.
     pub(crate) fn expired(&self) -> Result<(), Refusal>
         ensures { (s : Standing) → Sees self.now s → Says (row.expired s) s result }
@@ -31,7 +65,7 @@ impl Sight {
     }
 
     /// It came by another link than its hop field says.
-    fn wrong_ingress(&self) -> Result<(), Refusal>
+    pub(crate) fn wrong_ingress(&self) -> Result<(), Refusal>
         ensures { (s : Standing) → Sees self.now s → Says (row.wrong_ingress s) s result }
     {
         if self.is_external() && self.ingress() != self.link {
@@ -42,7 +76,7 @@ impl Sight {
     }
 
     /// It has more or fewer bytes than its header says.
-    fn wrong_payload_length(&self, bytes: &[u8]) -> Result<(), Refusal>
+    pub(crate) fn wrong_payload_length(&self, bytes: &[u8]) -> Result<(), Refusal>
         requires sound { header_fault bytes.now ≡ None }
         ensures { (s : Standing) → Sees self.now s → header_of bytes.now ≡ s.header → Says (row.wrong_payload_length s) s result }
     {
@@ -81,7 +115,7 @@ impl Sight {
     }
 
     /// It came from a router from which such a packet may not come.
-    fn wrong_underlay_source(
+    pub(crate) fn wrong_underlay_source(
         &self,
         config: &Config,
         source: &Underlay,
@@ -111,7 +145,7 @@ impl Sight {
     }
 
     /// It came from outside with a source in this AS, or began its path inside with one outside.
-    fn wrong_source(&self, config: &Config, bytes: &[u8]) -> Result<(), Refusal>
+    pub(crate) fn wrong_source(&self, config: &Config, bytes: &[u8]) -> Result<(), Refusal>
         requires sound { header_fault bytes.now ≡ None }
         ensures { (s : Standing) → Sees self.now s → network config.now ≡ s.network → header_of bytes.now ≡ s.header → Says (row.wrong_source s) s result }
     {
@@ -136,7 +170,7 @@ impl Sight {
 
     /// Its destination is in this AS, and its path goes on; or the other way round.
     #[inline(always)]
-    fn wrong_destination(&self, config: &Config, bytes: &[u8]) -> Result<(), Refusal>
+    pub(crate) fn wrong_destination(&self, config: &Config, bytes: &[u8]) -> Result<(), Refusal>
         requires sound { header_fault bytes.now ≡ None }
         ensures { (s : Standing) → Sees self.now s → network config.now ≡ s.network → header_of bytes.now ≡ s.header → Says (row.wrong_destination s) s result }
     {
@@ -144,30 +178,5 @@ impl Sight {
             return Err(parameter_problem(34, 12));
         }
         Ok(())
-    }
-
-    /// The rows that look at how the packet came, in the table's order.
-    pub(crate) fn comes_in(
-        &self,
-        config: &Config,
-        source: &Underlay,
-        bytes: &[u8],
-        path: &[u8],
-        meta: &Meta,
-    ) -> Result<(), Refusal>
-        requires sound { header_fault bytes.now ≡ None }
-        requires meta { IsMetaOf meta.now path.now }
-        requires spot { LiesOn self.now.spot (path_of path.now).segments }
-        ensures { (s : Standing) → Sees self.now s → network config.now ≡ s.network → source.now ≡ s.source → header_of bytes.now ≡ s.header
-            → s.path.segments ≡ (path_of path.now).segments
-            → Says (row.then_rows (row.GoesOn s) (row.expired ∷ row.wrong_ingress ∷ row.wrong_payload_length
-            ∷ row.wrong_underlay_source ∷ row.wrong_source ∷ row.wrong_destination ∷ [])) s result }
-    {
-        self.expired()?;
-        self.wrong_ingress()?;
-        self.wrong_payload_length(bytes)?;
-        self.wrong_underlay_source(config, source, path, meta)?;
-        self.wrong_source(config, bytes)?;
-        self.wrong_destination(config, bytes)
     }
 }

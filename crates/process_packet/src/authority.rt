@@ -1,12 +1,12 @@
 //! The rows that look at what the hop field is authorised for.
 
-ghost use Rattle.std.specs.Prelude.{◌≡◌, [], ◌∷◌, None, List};
+ghost use Rattle.std.specs.Prelude.{◌≡◌, ◌&&◌, not, None, List};
 ghost use Rattle.scion_packet.specs.Header.{header_fault, header_of};
 ghost use Rattle.scion_packet.specs.Path.{Segment};
 ghost use Rattle.process_packet.specs.Network.{network};
 ghost use Rattle.process_packet.specs.Rows as row;
 ghost use Rattle.process_packet.specs.Sight.{Says, Sees, with_id};
-ghost use Rattle.process_packet.specs.Standing.{Standing, turned_back};
+ghost use Rattle.process_packet.specs.Standing.{Standing, is_along, is_external, turned_back};
 
 use crate::config::Config;
 use crate::refusal::{Refusal, parameter_problem, traceroute_reply};
@@ -15,6 +15,13 @@ use crate::sight::Sight;
 use hop_check::{chain, verify};
 
 impl Sight {
+    /// Whether it came from outside against the direction of construction.
+    fn came_against_construction(&self) -> bool
+        ensures { (s : Standing) → Sees self.now s → result ≡ (is_external s && not (is_along s)) }
+    {
+        self.is_external() && !self.spot.info.along
+    }
+
     /// From outside against the direction of construction, the segment's identifier is turned back to
     /// that of the current hop.
     pub(crate) fn turn_back_segment_id(&mut self)
@@ -26,7 +33,7 @@ impl Sight {
         ensures entered { self.new.entered ≡ self.old.entered }
         ensures segments { self.new.segments ≡ self.old.segments }
     {
-        if self.is_external() && !self.spot.info.along {
+        if self.came_against_construction() {
             let segment_id = chain(self.spot.info.segment_id, &self.spot.hop.mac);
             self.spot.info.segment_id = segment_id;
             self.turned = Some(segment_id);
@@ -45,7 +52,7 @@ impl Sight {
     }
 
     /// It asks the router at its ingress interface, which is this one.
-    fn ingress_request(&self, bytes: &[u8], payload: &[u8]) -> Result<(), Refusal>
+    pub(crate) fn ingress_request(&self, bytes: &[u8], payload: &[u8]) -> Result<(), Refusal>
         requires sound { header_fault bytes.now ≡ None }
         ensures { (s : Standing) → Sees self.now s → header_of bytes.now ≡ s.header → payload.now ≡ s.payload → Says (row.ingress_request s) s result }
     {
@@ -53,20 +60,5 @@ impl Sight {
             return Err(traceroute_reply(self.ingress()));
         }
         Ok(())
-    }
-
-    /// Both rows, in the table's order.
-    pub(crate) fn is_authorised(
-        &self,
-        config: &Config,
-        bytes: &[u8],
-        payload: &[u8],
-    ) -> Result<(), Refusal>
-        requires sound { header_fault bytes.now ≡ None }
-        ensures { (s : Standing) → Sees self.now s → network config.now ≡ s.network → header_of bytes.now ≡ s.header → payload.now ≡ s.payload
-            → Says (row.then_rows (row.GoesOn s) (row.wrong_mac ∷ row.ingress_request ∷ [])) s result }
-    {
-        self.wrong_mac(config)?;
-        self.ingress_request(bytes, payload)
     }
 }

@@ -1,73 +1,33 @@
 //! The rows by which a packet leaves.
 
-ghost use Rattle.std.specs.Prelude.{◌≡◌, ◌+◌, ◌<◌, ◌==◌, ◌&&◌, not, nat_lt, false, [], ◌∷◌, Some, None, is_some, IfOk, MatchResult, length, if◌then◌else◌};
+ghost use Rattle.std.specs.Prelude.{◌≡◌, ◌+◌, ◌<◌, ◌==◌, ◌&&◌, not, nat_lt, false, [], ◌∷◌, Some, None, is_some, IfOk, length, if◌then◌else◌};
 ghost use Rattle.scion_packet.specs.Header.{header_fault, header_of};
 ghost use Rattle.scion_packet.specs.Packet.{Packet};
 ghost use Rattle.scion_packet.specs.Path.{path_of};
-ghost use Rattle.process_packet.specs.Decide.{ends_as, verdict_of};
+ghost use Rattle.process_packet.specs.Decide.{verdict_of};
 ghost use Rattle.process_packet.specs.Departure.{Departs, IsNumberOf, IsOnPath, Keeps, Tells};
 ghost use Rattle.process_packet.specs.Exit.{exit_of};
-ghost use Rattle.process_packet.specs.Network.{is_local, network, own_link};
+ghost use Rattle.process_packet.specs.Network.{network, own_link};
 ghost use Rattle.process_packet.specs.Rows as row;
-ghost use Rattle.process_packet.specs.Rows.{delivered, is_pair_lawful};
-ghost use Rattle.process_packet.specs.Sight.{IsAlike, Says, Sees, refused};
+ghost use Rattle.process_packet.specs.Rows.{is_pair_lawful};
+ghost use Rattle.process_packet.specs.Sight.{IsAlike, Says, Sees};
 ghost use Rattle.process_packet.specs.Spot.{IsMetaOf, LiesOn};
-ghost use Rattle.process_packet.specs.Standing.{Standing, chained, chained_id, changed_over, egress, egress_alert, is_along, is_external, next_place, packet, past_switch};
+ghost use Rattle.process_packet.specs.Standing.{Standing, chained, chained_id, changed_over, egress, egress_alert, is_along, next_place, packet, past_switch};
 
 use crate::cause::Cause;
 use crate::config::Config;
-use crate::decision::Problem;
 use crate::departure::Departure;
 use crate::exit::Exit;
 use crate::refusal::{Refusal, parameter_problem, traceroute_reply};
 use crate::request::carries_request;
 use crate::sight::Sight;
 use crate::spot::Spot;
-use crate::underlay::{Ip, Underlay};
-use field_rows::u16_at;
+use crate::underlay::Underlay;
 use hop_check::chain;
 use path_fields::Meta;
-use scion_header::{Host, destination_address};
 use segment_switch::pair_ok;
 
-/// Where a packet is delivered: to its host at the end hosts' port, or to the service's address.
-fn deliver(config: &Config, bytes: &[u8]) -> Result<Underlay, Refusal>
-    requires sound { header_fault bytes.now ≡ None }
-    ensures { (s : Standing) (p : Packet) → network config.now ≡ s.network → header_of bytes.now ≡ s.header → p.header ≡ s.header
-        → MatchResult result (λ to. delivered s.network p ≡ row.Sent 0 (Some to) p) (λ r. delivered s.network p ≡ refused r) }
-{
-    let destination = destination_address(bytes);
-    match (destination.kind, destination.host) {
-        (0, Host::Four(address)) => Ok(Underlay {
-            ip: Ip::V4(address),
-            port: config.host_port,
-        }),
-        (0, Host::Sixteen(address)) => Ok(Underlay {
-            ip: Ip::V6(address),
-            port: config.host_port,
-        }),
-        (1, Host::Four(service)) => match config.service_at(u16_at(&service, 0)) {
-            Some(at) => Ok(at),
-            None => Err(Refusal::Answer(Problem {
-                kind: 1,
-                code: 0,
-                pointer: 0,
-            })),
-        },
-        _ => Err(parameter_problem(21, 9)),
-    }
-}
-
 impl Sight {
-    /// Whether it came from outside for this AS.
-    pub(crate) fn is_for_here(&self, config: &Config, bytes: &[u8]) -> bool
-        requires sound { header_fault bytes.now ≡ None }
-        ensures { (s : Standing) → Sees self.now s → network config.now ≡ s.network → header_of bytes.now ≡ s.header
-            → result ≡ (is_external s && is_local s.network s.header.destination) }
-    {
-        self.is_external() && config.is_destination_local(bytes)
-    }
-
     /// Moves on to the first hop of the next segment.
     fn change_over(&mut self, path: &[u8], meta: &Meta)
         requires meta { IsMetaOf meta.now path.now }
@@ -122,8 +82,8 @@ impl Sight {
         Ok(())
     }
 
-    /// The way out by the egress interface, where there is one.
-    fn known_exit(&self, config: &Config) -> Result<Exit, Refusal>
+    /// There is no way out by its egress interface; else that way out.
+    pub(crate) fn unknown_egress(&self, config: &Config) -> Result<Exit, Refusal>
         ensures says { (s : Standing) → Sees self.now s → network config.now ≡ s.network → Says (row.unknown_egress s) s result }
         ensures exit { IfOk result (λ e. (s : Standing) → Sees self.now s → network config.now ≡ s.network
             → Some e ≡ exit_of s.network (egress s)) }
@@ -150,7 +110,7 @@ impl Sight {
     }
 
     /// It may not leave by this link, from where it came.
-    fn wrong_pair(&self, config: &Config, exit: &Exit) -> Result<(), Refusal>
+    pub(crate) fn wrong_pair(&self, config: &Config, exit: &Exit) -> Result<(), Refusal>
         ensures { (s : Standing) → Sees self.now s → network config.now ≡ s.network
             → Some exit.now ≡ exit_of s.network (egress s) → Says (row.wrong_pair s) s result }
     {
@@ -173,7 +133,13 @@ impl Sight {
     }
 
     /// It asks the router at its egress interface, which is this one.
-    fn egress_request(&self, exit: &Exit, bytes: &[u8], payload: &[u8]) -> Result<(), Refusal>
+    #[inline(always)]
+    pub(crate) fn egress_request(
+        &self,
+        exit: &Exit,
+        bytes: &[u8],
+        payload: &[u8],
+    ) -> Result<(), Refusal>
         requires sound { header_fault bytes.now ≡ None }
         ensures { (s : Standing) → Sees self.now s → header_of bytes.now ≡ s.header → Some exit.now ≡ exit_of s.network (egress s) → payload.now ≡ s.payload
             → Says (row.egress_request s) s result }
@@ -184,27 +150,8 @@ impl Sight {
         Ok(())
     }
 
-    /// The rows that look at the way out, in the table's order.
-    pub(crate) fn goes_out(
-        &self,
-        config: &Config,
-        bytes: &[u8],
-        payload: &[u8],
-    ) -> Result<Exit, Refusal>
-        requires sound { header_fault bytes.now ≡ None }
-        ensures says { (s : Standing) → Sees self.now s → network config.now ≡ s.network → header_of bytes.now ≡ s.header → payload.now ≡ s.payload
-            → Says (row.then_rows (row.GoesOn s) (row.unknown_egress ∷ row.wrong_pair ∷ row.egress_request ∷ [])) s result }
-        ensures exit { IfOk result (λ e. (s : Standing) → Sees self.now s → network config.now ≡ s.network
-            → Some e ≡ exit_of s.network (egress s)) }
-    {
-        let exit = self.known_exit(config)?;
-        self.wrong_pair(config, &exit)?;
-        self.egress_request(&exit, bytes, payload)?;
-        Ok(exit)
-    }
-
     /// As it stands.
-    fn as_it_stands(&self, link: u16, to: Option<Underlay>) -> Departure
+    pub(crate) fn as_it_stands(&self, link: u16, to: Option<Underlay>) -> Departure
         requires on { IsOnPath self.now }
         ensures { (s : Standing) (p : Packet) → Sees self.now s → Keeps self.now s p → Departs result (row.Sent link to (packet s)) p }
     {
@@ -247,6 +194,7 @@ impl Sight {
     }
 
     /// Out by an own link, at the next hop.
+    #[inline(always)]
     fn sent_out(&self) -> Result<Departure, Refusal>
         requires on { IsOnPath self.now }
         ensures { (s : Standing) (p : Packet) → Sees self.now s → Keeps self.now s p
@@ -268,8 +216,9 @@ impl Sight {
         })
     }
 
-    /// By the way out.
-    fn leave(&self, exit: &Exit) -> Result<Departure, Refusal>
+    /// Out by the way out.
+    #[inline(always)]
+    pub(crate) fn leave(&self, exit: &Exit) -> Result<Departure, Refusal>
         requires on { IsOnPath self.now }
         ensures { (s : Standing) (p : Packet) → Sees self.now s → Keeps self.now s p → Some exit.now ≡ exit_of s.network (egress s)
             → Tells (verdict_of (row.leave s)) p result }
@@ -277,71 +226,6 @@ impl Sight {
         match exit {
             Exit::Own(_) => self.sent_out(),
             Exit::Beyond(_, at) => Ok(self.as_it_stands(0, Some(*at))),
-        }
-    }
-
-    /// Out by the egress of the current hop, where that may be.
-    fn goes_by_its_exit(
-        &self,
-        config: &Config,
-        bytes: &[u8],
-        payload: &[u8],
-    ) -> Result<Departure, Refusal>
-        requires sound { header_fault bytes.now ≡ None }
-        requires on { IsOnPath self.now }
-        ensures { (s : Standing) (p : Packet) → Sees self.now s → network config.now ≡ s.network → header_of bytes.now ≡ s.header → payload.now ≡ s.payload → Keeps self.now s p
-            → Tells (ends_as s (row.unknown_egress ∷ row.wrong_pair ∷ row.egress_request ∷ row.leave ∷ [])) p result }
-    {
-        match self.goes_out(config, bytes, payload) {
-            Ok(exit) => self.leave(&exit),
-            Err(refusal) => Err(refusal),
-        }
-    }
-
-    /// Past the change of segments, and out.
-    fn goes_further(
-        &mut self,
-        config: &Config,
-        bytes: &[u8],
-        path: &[u8],
-        meta: &Meta,
-        payload: &[u8],
-    ) -> Result<Departure, Refusal>
-        requires sound { header_fault bytes.now ≡ None }
-        requires meta { IsMetaOf meta.now path.now }
-        requires spot { LiesOn self.old.spot (path_of path.now).segments }
-        requires count { self.old.segments ≡ length (path_of path.now).segments }
-        ensures { (s : Standing) (p : Packet) → Sees self.old s → network config.now ≡ s.network → header_of bytes.now ≡ s.header → payload.now ≡ s.payload → Keeps self.old s p
-            → IsAlike s.path.place.segment (path_of path.now).segments s.path.segments
-            → Tells (ends_as s (row.switch ∷ row.unknown_egress ∷ row.wrong_pair ∷ row.egress_request ∷ row.leave ∷ [])) p result }
-    {
-        self.switch(config, path, meta)?;
-        self.goes_by_its_exit(config, bytes, payload)
-    }
-
-    /// Delivered in this AS, or out of it.
-    pub(crate) fn goes(
-        &mut self,
-        config: &Config,
-        bytes: &[u8],
-        path: &[u8],
-        meta: &Meta,
-        payload: &[u8],
-    ) -> Result<Departure, Refusal>
-        requires sound { header_fault bytes.now ≡ None }
-        requires meta { IsMetaOf meta.now path.now }
-        requires spot { LiesOn self.old.spot (path_of path.now).segments }
-        requires count { self.old.segments ≡ length (path_of path.now).segments }
-        ensures { (s : Standing) (p : Packet) → Sees self.old s → network config.now ≡ s.network → header_of bytes.now ≡ s.header → payload.now ≡ s.payload → Keeps self.old s p
-            → IsAlike s.path.place.segment (path_of path.now).segments s.path.segments
-            → Tells (ends_as s (row.delivery ∷ row.switch ∷ row.unknown_egress ∷ row.wrong_pair ∷ row.egress_request ∷ row.leave ∷ [])) p result }
-    {
-        if !self.is_for_here(config, bytes) {
-            return self.goes_further(config, bytes, path, meta, payload);
-        }
-        match deliver(config, bytes) {
-            Ok(to) => Ok(self.as_it_stands(0, Some(to))),
-            Err(refusal) => Err(refusal),
         }
     }
 }

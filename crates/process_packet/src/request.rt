@@ -39,6 +39,7 @@ fn request_behind(next_header: u8, bytes: &[u8]) -> Option<(u16, u16)>
 }
 
 /// Whether a datagram, whose header has no fault, carries such a request behind it.
+#[inline(always)]
 pub(crate) fn carries_request(bytes: &[u8], payload: &[u8]) -> bool
     requires sound { header_fault bytes.now ≡ None }
     ensures { result ≡ is_request (header_of bytes.now).next_header payload.now }

@@ -7,9 +7,9 @@ ghost use Rattle.process_packet.specs.Routed.{IsRouted, IsSend, bytes_for, decis
 use crate::arrival::{Arrival, NoMemory, Routed};
 use crate::cause::Cause;
 use crate::config::Config;
+use crate::decide::route_in_place;
 use crate::decision::Decision;
 use crate::front::LONGEST_DATAGRAM;
-use crate::routing::route_in_place;
 use std::alloc::Global;
 
 /// A copy of the bytes.

@@ -10,7 +10,8 @@ returns-then-is_last_of_segment-clause-number_fits c =
     let on = c.requires.on in
     let last : (v.spot.position + 1 == v.spot.hops) ≡ true = sym c.is_last_of_segment.ensures.value ∙ c.if-is_last_of_segment.true in
     let followed = another_follows v.spot.position v.spot.hops v.spot.segment v.segments c.requires.more last in
-    (crosses v.spot on.segments (place_at v.spot.segment v.spot.position) on.whole on.lies ((Decides-eqb _ _).0 last) (omega (arith, followed, on.count))).number_fits
+    let next = crosses v.spot on.segments (place_at v.spot.segment v.spot.position) on.whole on.lies ((Decides-eqb _ _).0 last) (omega (arith, followed, on.count)) in
+    omega (arith, next.number_fits)
 
 pub returns-else-is_last_of_segment-clause-number_fits : goal.returns-else-is_last_of_segment-clause-number_fits
 returns-else-is_last_of_segment-clause-number_fits c =
@@ -18,4 +19,5 @@ returns-else-is_last_of_segment-clause-number_fits c =
     let on = c.requires.on in
     let other : (v.spot.position + 1 == v.spot.hops) ≡ false = sym c.is_last_of_segment.ensures.value ∙ c.if-is_last_of_segment.false in
     let more : v.spot.position + 1 ≢ v.spot.hops = λ same. let no-way : true ≡ false = sym ((Decides-eqb _ _).1 same) ∙ other in absurd cc in
-    (goes_on_within v.spot on.segments (place_at v.spot.segment v.spot.position) on.whole on.lies more).number_fits
+    let next = goes_on_within v.spot on.segments (place_at v.spot.segment v.spot.position) on.whole on.lies more in
+    omega (arith, next.number_fits)

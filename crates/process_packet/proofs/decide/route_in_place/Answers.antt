@@ -4,7 +4,7 @@ use Rattle.process_packet.specs.Network.{network}
 use Rattle.process_packet.specs.Rows.{Verdict}
 use Rattle.process_packet.specs.Standing.{arrives}
 use Rattle.process_packet.proofs.FrontLemmas.{datagram_passed, datagram_refused, leaves, refusal_keeps, room_for}
-use Rattle.process_packet.proofs.routing.route_in_place.Goals as goal
+use Rattle.process_packet.proofs.decide.route_in_place.Goals as goal
 
 pub returns-in-Err-clause-decision : goal.returns-in-Err-clause-decision
 returns-in-Err-clause-decision c =

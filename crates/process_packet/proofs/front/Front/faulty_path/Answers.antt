@@ -2,7 +2,7 @@ use Rattle.std.proofs.Common.{ap, sym, ◌∙◌}
 use Rattle.process_packet.specs.Rows.{Dropped, Ends}
 use Rattle.process_packet.proofs.FrontLemmas.{meta_of, path_fails, path_passes}
 use Rattle.scion_packet.proofs.Parts.{path_are, path_between}
-use Rattle.process_packet.proofs.front.Front.sound_path.Goals as goal
+use Rattle.process_packet.proofs.front.Front.faulty_path.Goals as goal
 
 pub returns-in-Ok-clause-front : goal.returns-in-Ok-clause-front
 returns-in-Ok-clause-front c =

@@ -6,10 +6,10 @@ use Rattle.process_packet.specs.Network.{network}
 use Rattle.process_packet.specs.Rows.{Row, Verdict, delivery, egress_request, expired, ingress_request, leave, switch, turn_back_segment_id, unknown_egress, wrong_destination, wrong_ingress, wrong_mac, wrong_pair, wrong_payload_length, wrong_source, wrong_underlay_source}
 use Rattle.process_packet.specs.Sight.{IsAlike}
 use Rattle.process_packet.specs.Standing.{arrives, turned_back}
-use Rattle.process_packet.proofs.RowLemmas.{passed, stopped}
+use Rattle.process_packet.proofs.RowLemmas.{passed, refusal_told, stopped}
 use Rattle.process_packet.proofs.TurningLemmas.{alike_turned, keeps_turned, turned_stays}
 use Rattle.scion_packet.proofs.Parts.{path_between, rest_of}
-use Rattle.process_packet.proofs.routing.depart.Goals as goal
+use Rattle.process_packet.proofs.decide.depart.Goals as goal
 
 -- the rows before the identifier is turned back, those of its MAC, and those behind
 abbrev coming_in : List Row
@@ -21,30 +21,30 @@ authority = wrong_mac ∷ ingress_request ∷ []
 abbrev going : List Row
 going = delivery ∷ switch ∷ unknown_egress ∷ wrong_pair ∷ egress_request ∷ leave ∷ []
 
-pub returns-in-Err : goal.returns-in-Err
-returns-in-Err c =
+pub returns-in_err-comes_in : goal.returns-in_err-comes_in
+returns-in_err-comes_in c =
     let bytes = c.args.bytes.now in
     let f = c.args.front.now in
     let n = network c.args.config.now in
     let s = arrives n c.args.link c.args.source.now c.args.now bytes in
     let same = path_between bytes f.path_begin f.path_end c.requires.front.begin c.requires.front.end in
-    stopped s _ coming_in (turn_back_segment_id ∷ authority ++ going)
-    (c.in-Err.ensures s (c.sight_of-sight.ensures.sees n c.args.source.now) refl refl refl (sym (ap (λ t. (path_of t).segments) same)))
+    refusal_told _ (packet_of bytes) _ _ c.from_residual.ensures.1 (stopped s _ coming_in (turn_back_segment_id ∷ authority ++ going)
+    (c.in_err-comes_in.ensures s (c.arrives-sight.ensures.sees n c.args.source.now) refl refl refl (sym (ap (λ t. (path_of t).segments) same))))
 
-pub returns-in-Err-is_authorised : goal.returns-in-Err-is_authorised
-returns-in-Err-is_authorised c =
+pub returns-in_err-is_authorised : goal.returns-in_err-is_authorised
+returns-in_err-is_authorised c =
     let bytes = c.args.bytes.now in
     let f = c.args.front.now in
     let n = network c.args.config.now in
     let s = arrives n c.args.link c.args.source.now c.args.now bytes in
-    let sees = c.sight_of-sight.ensures.sees n c.args.source.now in
+    let sees = c.arrives-sight.ensures.sees n c.args.source.now in
     let same = path_between bytes f.path_begin f.path_end c.requires.front.begin c.requires.front.end in
     let stays = turned_stays s in
     let past = passed s s coming_in (turn_back_segment_id ∷ authority ++ going)
-    (c.in_default.ensures s sees refl refl refl (sym (ap (λ t. (path_of t).segments) same))) in
+    (c.in_ok-comes_in.ensures s sees refl refl refl (sym (ap (λ t. (path_of t).segments) same))) in
     let payload = rest_of bytes _ _ c.requires.front.end ∙ sym stays.payload in
-    past ∙ stopped (turned_back s) _ authority going
-    (c.in-Err-is_authorised.ensures (turned_back s) (c.turn_back_segment_id.ensures.sees s sees) (sym stays.network) (sym stays.header) payload)
+    refusal_told _ (packet_of bytes) _ _ c.from_residual-in_err-is_authorised.ensures.1 (past ∙ stopped (turned_back s) _ authority going
+    (c.in_err-is_authorised.ensures (turned_back s) (c.turn_back_segment_id.ensures.sees s sees) (sym stays.network) (sym stays.header) payload))
 
 pub returns : goal.returns
 returns c =
@@ -53,16 +53,16 @@ returns c =
     let n = network c.args.config.now in
     let s = arrives n c.args.link c.args.source.now c.args.now bytes in
     let p = packet_of bytes in
-    let first = c.sight_of-sight in
+    let first = c.arrives-sight in
     let turned = c.turn_back_segment_id in
     let sees = first.ensures.sees n c.args.source.now in
     let same = path_between bytes f.path_begin f.path_end c.requires.front.begin c.requires.front.end in
     let stays = turned_stays s in
     let past = passed s s coming_in (turn_back_segment_id ∷ authority ++ going)
-    (c.in_default.ensures s sees refl refl refl (sym (ap (λ t. (path_of t).segments) same))) in
+    (c.in_ok-comes_in.ensures s sees refl refl refl (sym (ap (λ t. (path_of t).segments) same))) in
     let payload = rest_of bytes _ _ c.requires.front.end ∙ sym stays.payload in
     let through = passed (turned_back s) (turned_back s) authority going
-    (c.in_default-is_authorised.ensures (turned_back s) (turned.ensures.sees s sees) (sym stays.network) (sym stays.header) payload) in
+    (c.in_ok-is_authorised.ensures (turned_back s) (turned.ensures.sees s sees) (sym stays.network) (sym stays.header) payload) in
     let entered = first.ensures.entered ∙ sees.spot.place.segment in
     let segments = turned.ensures.turned s sees first.ensures.turned entered in
     let v = turned.new.self in

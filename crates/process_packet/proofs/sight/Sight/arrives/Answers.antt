@@ -4,7 +4,7 @@ use Rattle.scion_packet.specs.Packet.{path_bytes}
 use Rattle.scion_packet.proofs.Offsets.{fields_stand}
 use Rattle.process_packet.proofs.SpotLemmas.{count_of, first_spot, has_current, whole_path}
 use Rattle.scion_packet.proofs.Parts.{path_between, path_lies}
-use Rattle.process_packet.proofs.routing.sight_of.Goals as goal
+use Rattle.process_packet.proofs.sight.Sight.arrives.Goals as goal
 
 pub read-requires-clause-there : goal.read-requires-clause-there
 read-requires-clause-there c =

@@ -1,0 +1,77 @@
+//! The row by which a packet is delivered in this AS.
+
+ghost use Rattle.std.specs.Prelude.{◌≡◌, ◌&&◌, Some, None, MatchOption, MatchResult};
+ghost use Rattle.scion_packet.specs.Header.{header_fault, header_of};
+ghost use Rattle.scion_packet.specs.Packet.{Packet};
+ghost use Rattle.process_packet.specs.Network.{is_local, network};
+ghost use Rattle.process_packet.specs.Rows as row;
+ghost use Rattle.process_packet.specs.Rows.{delivered};
+ghost use Rattle.process_packet.specs.Sight.{Sees, refused};
+ghost use Rattle.process_packet.specs.Standing.{Standing, is_external, packet};
+
+use crate::config::Config;
+use crate::decision::Problem;
+use crate::refusal::{Refusal, parameter_problem};
+use crate::sight::Sight;
+use crate::underlay::{Ip, Underlay};
+use field_rows::u16_at;
+use scion_header::{Host, destination_address};
+
+/// Where a packet is delivered: to its host at the end hosts' port, or to the service's address.
+fn deliver(config: &Config, bytes: &[u8]) -> Result<Underlay, Refusal>
+    requires sound { header_fault bytes.now ≡ None }
+    ensures { (s : Standing) (p : Packet) → network config.now ≡ s.network → header_of bytes.now ≡ s.header → p.header ≡ s.header
+        → MatchResult result (λ to. delivered s.network p ≡ row.Sent 0 (Some to) p) (λ r. delivered s.network p ≡ refused r) }
+{
+    let destination = destination_address(bytes);
+    match (destination.kind, destination.host) {
+        (0, Host::Four(address)) => Ok(Underlay {
+            ip: Ip::V4(address),
+            port: config.host_port,
+        }),
+        (0, Host::Sixteen(address)) => Ok(Underlay {
+            ip: Ip::V6(address),
+            port: config.host_port,
+        }),
+        (1, Host::Four(service)) => match config.service_at(u16_at(&service, 0)) {
+            Some(at) => Ok(at),
+            None => Err(Refusal::Answer(Problem {
+                kind: 1,
+                code: 0,
+                pointer: 0,
+            })),
+        },
+        _ => Err(parameter_problem(21, 9)),
+    }
+}
+
+impl Sight {
+    /// Whether it came from outside for this AS.
+    fn is_for_here(&self, config: &Config, bytes: &[u8]) -> bool
+        requires sound { header_fault bytes.now ≡ None }
+        ensures { (s : Standing) → Sees self.now s → network config.now ≡ s.network → header_of bytes.now ≡ s.header
+            → result ≡ (is_external s && is_local s.network s.header.destination) }
+    {
+        self.is_external() && config.is_destination_local(bytes)
+    }
+
+    /// It is for this AS: where it is delivered; none for a packet that goes on.
+    pub(crate) fn delivery(
+        &self,
+        config: &Config,
+        bytes: &[u8],
+    ) -> Result<Option<Underlay>, Refusal>
+        requires sound { header_fault bytes.now ≡ None }
+        ensures { (s : Standing) → Sees self.now s → network config.now ≡ s.network → header_of bytes.now ≡ s.header
+            → MatchResult result (λ o. MatchOption o (row.delivery s ≡ row.GoesOn s) (λ to. row.delivery s ≡ row.Ends (row.Sent 0 (Some to) (packet s))))
+            (λ r. row.delivery s ≡ row.Ends (refused r)) }
+    {
+        if !self.is_for_here(config, bytes) {
+            return Ok(None);
+        }
+        match deliver(config, bytes) {
+            Ok(to) => Ok(Some(to)),
+            Err(refusal) => Err(refusal),
+        }
+    }
+}
