@@ -1,13 +1,15 @@
 -- Row after row of what was sent: none of them refused.
-use Rattle.std.proofs.Common.{◌≡◌, ◌≤◌, ◌+◌, ℕ, Bool, true, false, not, ◌&&◌, ◌||◌, ◌==◌, nat_lt, inl, inr, List, [], ◌∷◌, length, drop, Option, Some, None, if◌then◌else◌, refl, sym, ap, subst, ◌∙◌, arith}
-use Rattle.std.specs.Prelude.{is_some, option_map}
+use Rattle.std.proofs.Common.{◌≡◌, ◌<◌, ◌+◌, ℕ, Bool, true, false, not, ◌&&◌, ◌||◌, ◌==◌, nat_lt, inl, inr, List, [], ◌∷◌, length, drop, Option, Some, None, if◌then◌else◌, refl, sym, ap, subst, ◌∙◌, arith}
+use Rattle.std.specs.Prelude.{◌⊎◌, is_some, option_map}
 use Rattle.std.proofs.lemmas.Bool.Decides.{Decides-eqb}
 use Rattle.field_rows.specs.Place.{number_at}
 use Rattle.scion_packet.specs.Header.{header_fault, host_code}
 use Rattle.scion_packet.proofs.PacketLaws.{pass_both}
 use Rattle.scion_packet.specs.Fault.{Fault}
 use Rattle.scion_packet.specs.Packet.{Packet, path_bytes, first_fault}
-use Rattle.scion_packet.specs.Path.{Place, Segment, path_fault}
+use Rattle.scion_packet.specs.Path.{Place, Segment, hops_in, path_fault, place_at}
+use Rattle.scion_packet.specs.Places as places
+use Rattle.scion_packet.specs.Places.{next}
 use Rattle.process_packet.specs.declared.cause.Cause.{Cause}
 use Rattle.process_packet.specs.declared.cause.Cause.TheVariants as cause
 use Rattle.process_packet.specs.declared.decision.Problem.{Problem}
@@ -21,7 +23,7 @@ use Rattle.process_packet.specs.Request.{is_request}
 use Rattle.process_packet.specs.Rows.{Sent, Answered, Dropped, Turn, GoesOn, Ends, Row, came_lawfully, delivered, ends_where, expired, faulty, is_destination_lawful, is_pair_lawful, is_source_lawful, sent_on, sent_out, then_rows, to_service, wrong_mac}
 use Rattle.process_packet.specs.Routed.{IsAnswer}
 use Rattle.process_packet.specs.Sight.{with_id}
-use Rattle.process_packet.specs.Standing.{Standing, arrives, chained, chained_id, changed_over, egress, egress_alert, hop_pointer, info_pointer, ingress, ingress_alert, is_along, is_authentic, is_expired, is_external, is_first_of_path, is_last_of_path, next_place, packet, turned_back, with_place}
+use Rattle.process_packet.specs.Standing.{Standing, arrives, chained, chained_id, changed_over, egress, egress_alert, hop_pointer, info_pointer, ingress, ingress_alert, is_along, is_authentic, is_expired, is_external, is_first_of_path, is_last_of_path, next_place, next_segment, packet, turned_back, with_place}
 use Rattle.process_packet.proofs.PassingLemmas.{Passed, Sends, and_not, answer_passed, answer_passed_within, answered_not_sent, both_true, drop_passed, dropped_not_sent, fault_passed, not_false, not_true, parameter, same_sent}
 use Rattle.process_packet.proofs.AlikeLemmas.{alike_set}
 use Rattle.process_packet.proofs.LeavingLemmas.{ends_alike}
@@ -155,7 +157,7 @@ pub record Leaving (t : Standing) (out : ℕ) (to : Option Underlay) (p : Packet
   reserved : p.path.reserved ≡ t.path.reserved
   second : Option ℕ
   at : ℕ
-  near : at ≤ t.path.place.segment + 1
+  near : (at ≡ t.path.place.segment) ⊎ (at ≡ t.path.place.segment + 1)
   segments : p.path.segments ≡ with_id second at t.path.segments
 
 changed_passed : (t : Standing) (out : ℕ) (to : Option Underlay) (p : Packet) → is_local t.network t.header.destination ≡ false → changes t ≡ true
@@ -172,7 +174,7 @@ changed_passed t out to p others there sent =
       reserved = out-by.kept.reserved;
       second = out-by.kept.second;
       at = t.path.place.segment + 1;
-      near = omega arith;
+      near = inr refl;
       segments = out-by.kept.segments;
     }
 
@@ -188,7 +190,7 @@ after_delivery false t out to p others there sent =
       reserved = out-by.kept.reserved;
       second = out-by.kept.second;
       at = t.path.place.segment;
-      near = omega arith;
+      near = inl refl;
       segments = out-by.kept.segments;
     }
 
@@ -239,7 +241,7 @@ delivery_row true t out to p lawful test sent =
       reserved = kept.reserved;
       second = kept.second;
       at = t.path.place.segment;
-      near = omega arith;
+      near = inl refl;
       segments = kept.segments;
     }
 delivery_row false t out to p lawful test sent =
@@ -279,7 +281,7 @@ is_moved s out to p q is sent =
       first = turned.0;
       second = left.second;
       at = left.at;
-      near = omega (arith, left.near, ap (λ (at : Place). at.segment) stays.place);
+      near = subst (λ (k : ℕ). (left.at ≡ k) ⊎ (left.at ≡ k + 1)) (ap (λ (at : Place). at.segment) stays.place) left.near;
       segments = left.segments ∙ ap (λ (ss : List Segment). with_id left.second left.at ss) turned.1;
     })
 
@@ -311,3 +313,23 @@ answers_sound n link source moment bytes asks =
     let header = no_fault (header_fault s.bytes) s (rest 2) short in
     let path = no_fault (path_fault (path_bytes s.bytes)) s (rest 3) header.1 in
     pass_both bytes header.0 path.0
+
+-- ---- the next hop
+
+next_by : (more ends followed : Bool) (within crosses : Place) → more ≡ not ends
+    → (if more then Some within else if followed then Some crosses else None) ≡ (if ends && not followed then None else Some (if ends then crosses else within))
+next_by true true followed within crosses is = absurd cc
+next_by true false followed within crosses is = refl
+next_by false true true within crosses is = refl
+next_by false true false within crosses is = refl
+next_by false false followed within crosses is = absurd cc
+
+-- within a segment another hop follows just where its last one isn't reached
+goes_on : (i n : ℕ) → i < n → nat_lt (i + 1) n ≡ not (i + 1 == n)
+goes_on i n inside = grind arith
+
+pub next_is : (ss : List Segment) (at : Place) → at.position < hops_in ss at.segment
+    → next ss at ≡ (if places.is_last_of_path ss at then None else Some (next_place ss at))
+next_is ss at inside =
+    next_by (nat_lt (at.position + 1) (hops_in ss at.segment)) (places.is_last_of_segment ss at) (places.is_followed ss at)
+    (place_at at.segment (at.position + 1)) (next_segment at) (goes_on at.position (hops_in ss at.segment) inside)

@@ -1,6 +1,9 @@
 -- What the decision table says as a whole: packets keep to authorised paths.
-use Rattle.std.specs.Prelude.{◌≡◌, ◌⊎◌, ◌≤◌, ◌+◌, ◌&&◌, ℕ, Bool, true, false, List, Option, None, is_some, option_map}
+use Rattle.std.specs.Prelude.{◌≡◌, ◌⊎◌, ◌<◌, ◌+◌, ◌&&◌, ℕ, Bool, true, false, List, Option, Some, None, is_some, option_map, if◌then◌else◌}
 use Rattle.scion_packet.specs.Packet.{Packet, first_fault, packet_of}
+use Rattle.scion_packet.specs.Path.{Place, Segment, hops_in}
+use Rattle.scion_packet.specs.Places as places
+use Rattle.scion_packet.specs.Places.{next}
 use Rattle.process_packet.specs.declared.underlay.Underlay.{Underlay}
 use Rattle.process_packet.specs.Decide.{decide, verdict}
 use Rattle.process_packet.specs.Neighbours.{sibling_at}
@@ -8,7 +11,7 @@ use Rattle.process_packet.specs.Network.{Network, is_local, own_link, sibling}
 use Rattle.process_packet.specs.Routed.{IsAnswer}
 use Rattle.process_packet.specs.Rows.{Sent, is_pair_lawful}
 use Rattle.process_packet.specs.Sight.{with_id}
-use Rattle.process_packet.specs.Standing.{Standing, arrives, changed_over, egress, ingress, is_authentic, is_expired, is_external, is_followed, is_last_of_path, is_last_of_segment, turned_back}
+use Rattle.process_packet.specs.Standing.{Standing, arrives, changed_over, egress, ingress, is_authentic, is_expired, is_external, is_followed, is_last_of_path, is_last_of_segment, next_place, turned_back}
 
 -- ---- what a packet had to show where it arrived
 
@@ -77,13 +80,19 @@ pub record IsMoved (p q : Packet) : Type 0 where
   pub first : Option ℕ
   pub second : Option ℕ
   pub at : ℕ
-  pub near : at ≤ p.path.place.segment + 1
+  pub near : (at ≡ p.path.place.segment) ⊎ (at ≡ p.path.place.segment + 1)
   pub segments : q.path.segments ≡ with_id second at (with_id first p.path.place.segment p.path.segments)
 
 abbrev pub NothingElseChanges : Type 0
 NothingElseChanges =
     (n : Network) (link : ℕ) (source : Underlay) (moment : ℕ) (bytes : List ℕ) (out : ℕ) (to : Option Underlay) (p : Packet)
     → verdict n link source moment bytes ≡ Sent out to p → IsMoved (packet_of bytes) p
+
+-- The place at which a packet leaves by a link of this router is the path's next one, which is there just where the path
+-- doesn't end.
+abbrev pub NextPlaceIsNext : Type 0
+NextPlaceIsNext =
+    (ss : List Segment) (at : Place) → at.position < hops_in ss at.segment → next ss at ≡ (if places.is_last_of_path ss at then None else Some (next_place ss at))
 
 -- Only a datagram without a fault is answered.
 abbrev pub AnswersAreSound : Type 0

@@ -1,6 +1,6 @@
 //! What the decision table says as a whole: nothing here runs.
 
-ghost use Rattle.process_packet.specs.Laws.{AnswersAreSound, NothingElseChanges, OnlyAuthorised, OnlyLawfulWays};
+ghost use Rattle.process_packet.specs.Laws.{AnswersAreSound, NextPlaceIsNext, NothingElseChanges, OnlyAuthorised, OnlyLawfulWays};
 
 /// A packet is sent only if the hop field at its cursor was within its time, named the link by which the
 /// packet came from outside, and carried the MAC that the AS's key gives for it. From outside it claims
@@ -20,6 +20,12 @@ pub fn only_lawful_ways()
 /// and in nothing else.
 pub fn nothing_else_changes()
     ensures { NothingElseChanges }
+{}
+
+/// A packet that leaves by a link of this router stands at the next hop of its path, as `path_fields::advance`
+/// moves a path; where the path has no next hop it doesn't leave.
+pub fn next_place_is_next()
+    ensures { NextPlaceIsNext }
 {}
 
 /// Only a datagram without a fault of its header and its path is answered.

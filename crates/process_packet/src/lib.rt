@@ -33,7 +33,9 @@ pub use config::Config;
 pub use decide::route_in_place;
 pub use decision::{Decision, Problem};
 pub use front::LONGEST_DATAGRAM;
-pub use laws::{answers_are_sound, nothing_else_changes, only_authorised, only_lawful_ways};
+pub use laws::{
+    answers_are_sound, next_place_is_next, nothing_else_changes, only_authorised, only_lawful_ways,
+};
 pub use neighbours::{Bands, Link, Service, Sibling};
 pub use request::trace_request;
 pub use routed::route;
