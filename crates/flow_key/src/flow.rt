@@ -1,32 +1,39 @@
 //! The flow that a datagram belongs to.
 
-ghost use Rattle.std.specs.Prelude.{◌≡◌, option_map};
-ghost use Rattle.flow_key.specs.Flow.{flow_of, is_high};
+ghost use Rattle.std.specs.Prelude.{◌≡◌, None, option_map};
+ghost use Rattle.flow_key.specs.Flow.{flow_at, flow_of, is_high};
 ghost use Rattle.flow_key.specs.Key.{flow};
+ghost use Rattle.scion_packet.specs.Header.{header_fault};
 
 use crate::key::FlowKey;
-use field_rows::u32_at;
-use scion_header::check_header;
+use scion_header::{check_header, flow_id, front_end, traffic_class};
 
 /// Whether a datagram with this traffic class is of the high band: it asks for expedited forwarding
 /// (RFC 3246), which is 46 in the six bits of the differentiated services field (RFC 2474).
-fn is_high(traffic_class: u8) -> bool
+pub fn is_high(traffic_class: u8) -> bool
     ensures { result ≡ is_high traffic_class }
 {
     traffic_class / 4 == 46
 }
 
-/// The flow of a datagram: its FlowID, the kinds of its hosts and its addresses, and where `banded`,
-/// the band of its traffic class. There is none where the header is refused.
+/// The flow of a datagram whose header has no fault: its FlowID, the kinds of its hosts and its
+/// addresses, and where `banded`, the band of its traffic class.
+pub fn flow_at(bytes: &[u8], banded: bool) -> FlowKey<'_>
+    requires sound { header_fault bytes.now ≡ None }
+    ensures { flow result ≡ flow_at banded bytes.now }
+{
+    FlowKey {
+        flow_id: flow_id(bytes),
+        host_kinds: bytes[9],
+        addresses: &bytes[12..front_end(bytes)],
+        high: banded && is_high(traffic_class(bytes)),
+    }
+}
+
+/// The flow of a datagram, as `flow_at` has it. There is none where the header is refused.
 pub fn flow_of(bytes: &[u8], banded: bool) -> Option<FlowKey<'_>>
     ensures { option_map flow result ≡ flow_of banded bytes.now }
 {
-    let ends = check_header(bytes).ok()?;
-    let first = u32_at(bytes, 0);
-    Some(FlowKey {
-        flow_id: first & 0xf_ffff,
-        host_kinds: bytes[9],
-        addresses: &bytes[12..ends.addresses],
-        high: banded && is_high((first >> 20 & 0xff) as u8),
-    })
+    check_header(bytes).ok()?;
+    Some(flow_at(bytes, banded))
 }

@@ -8,6 +8,6 @@ mod flow;
 mod hash;
 mod key;
 
-pub use flow::flow_of;
+pub use flow::{flow_at, flow_of, is_high};
 pub use hash::{fnv1a, processor_of};
 pub use key::FlowKey;

@@ -1,8 +1,9 @@
 use sample_packets::{FIRST, with_bytes};
 use scion_header::{
     Address, Domain, Header, HeaderEnds, HeaderFault, Host, NoRoom, Upper, UpperPlace,
-    check_header, destination_address, destination_domain, lawful, next_header, payload_length,
-    read_header, source_domain, upper_layer, upper_place, write_header,
+    check_header, destination_address, destination_domain, flow_id, front_end, lawful, next_header,
+    payload_length, read_header, source_domain, traffic_class, upper_layer, upper_place,
+    write_header,
 };
 
 /// The IPv4 host of 1-ff00:0:`number`.
@@ -58,6 +59,9 @@ fn reads_single_fields(rt: HostRuntime) {
     };
     assert_eq!(rt; next_header(&FIRST), 17);
     assert_eq!(rt; payload_length(&FIRST), 8);
+    assert_eq!(rt; (flow_id(&FIRST), front_end(&FIRST)), (1, 36));
+    assert_eq!(rt; traffic_class(b"\x0b\x8f"), 0xb8);
+    assert_eq!(rt; (traffic_class(b"\x0b"), traffic_class(b"")), (0xb0, 0));
     assert_eq!(rt; destination_domain(&FIRST), domain(0x112));
     assert_eq!(rt; source_domain(&FIRST), domain(0x111));
     assert_eq!(rt; destination_address(&FIRST), address(0x112, [10, 2, 0, 7]));

@@ -1,13 +1,44 @@
-//! Single fields of a header without a fault, read where they lie.
+//! Single fields of a header without a fault, read where they lie; the traffic class, of any datagram.
 
-ghost use Rattle.std.specs.Prelude.{◌≡◌, ◌+◌, ◌≤◌, length, None};
-ghost use Rattle.scion_packet.specs.Header.{header_fault, header_of};
+ghost use Rattle.std.specs.Prelude.{◌≡◌, ◌≤◌, length, None, slice_index};
+ghost use Rattle.scion_packet.specs.Header.{front_end, header_fault, header_of};
 ghost use Rattle.scion_header.specs.Address.{host_address};
 
 use crate::address::Address;
 use crate::domain::Domain;
-use crate::reading::address_at;
-use field_rows::{u16_at, u48_at};
+use crate::reading::{address_at, addresses_end};
+use field_rows::{u16_at, u32_at, u48_at};
+
+/// The byte at a place; 0 where there is none.
+fn byte_at(bytes: &[u8], at: usize) -> u8
+    ensures { result ≡ slice_index bytes.now at }
+{
+    if at < bytes.len() { bytes[at] } else { 0 }
+}
+
+/// The traffic class (TrafficClass). It may be read of any bytes: one that isn't there counts as 0.
+pub fn traffic_class(bytes: &[u8]) -> u8
+    ensures { result ≡ (header_of bytes.now).traffic_class }
+{
+    byte_at(bytes, 0) % 16 * 16 + byte_at(bytes, 1) / 16
+}
+
+/// The flow that the source has chosen (FlowID), 20 bits.
+pub fn flow_id(bytes: &[u8]) -> u32
+    requires sound { header_fault bytes.now ≡ None }
+    ensures { result ≡ (header_of bytes.now).flow_id }
+{
+    u32_at(bytes, 0) & 0xf_ffff
+}
+
+/// Where the addresses end, counted in bytes from the datagram's start: the path begins there.
+pub fn front_end(bytes: &[u8]) -> usize
+    requires sound { header_fault bytes.now ≡ None }
+    ensures end { result ≡ front_end bytes.now }
+    ensures whole { result ≤ length bytes.now }
+{
+    addresses_end(bytes[9])
+}
 
 /// The protocol of what follows the header (NextHdr).
 pub fn next_header(bytes: &[u8]) -> u8

@@ -25,7 +25,8 @@ pub use ends::HeaderEnds;
 pub use extensions::{upper_layer, upper_place};
 pub use fault::{HeaderFault, NoRoom};
 pub use fields::{
-    destination_address, destination_domain, next_header, payload_length, source_domain,
+    destination_address, destination_domain, flow_id, front_end, next_header, payload_length,
+    source_domain, traffic_class,
 };
 pub use header::Header;
 pub use host::Host;

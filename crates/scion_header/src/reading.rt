@@ -8,6 +8,7 @@ ghost use Rattle.scion_header.specs.Host.{length_code};
 use crate::address::Address;
 use crate::ends::HeaderEnds;
 use crate::fault::HeaderFault;
+use crate::fields::traffic_class;
 use crate::header::Header;
 use crate::host::host_at;
 use field_rows::{u16_at, u32_at, u48_at};
@@ -43,17 +44,23 @@ fn source_host(kinds: u8) -> usize
     28 + host_len(kinds / 16 % 4)
 }
 
+/// Where the addresses end, by byte 9 of the datagram.
+pub(crate) fn addresses_end(kinds: u8) -> usize
+    ensures { result ≡ 28 + host_len (kinds / 16 % 4) + host_len (kinds % 4) }
+{
+    source_host(kinds) + host_len(kinds % 4)
+}
+
 /// The header of a datagram that passed the tests.
 fn header_at(bytes: &[u8]) -> Header
     requires whole { front_end bytes.now ≤ length bytes.now }
     requires covers { front_end bytes.now ≤ header_end bytes.now }
     ensures { header_fields result ≡ header_of bytes.now }
 {
-    let first = u32_at(bytes, 0);
     let kinds = bytes[9];
     Header {
-        traffic_class: (first >> 20 & 0xff) as u8,
-        flow_id: first & 0xf_ffff,
+        traffic_class: traffic_class(bytes),
+        flow_id: u32_at(bytes, 0) & 0xf_ffff,
         next_header: bytes[4],
         header_length: bytes[5],
         payload_length: u16_at(bytes, 6),
@@ -83,8 +90,7 @@ pub fn check_header(bytes: &[u8]) -> Result<HeaderEnds, HeaderFault>
     if bytes[8] != 1 {
         return Err(HeaderFault::PathType);
     }
-    let kinds = bytes[9];
-    let addresses = source_host(kinds) + host_len(kinds % 4);
+    let addresses = addresses_end(bytes[9]);
     let header = 4 * usize::from(bytes[5]);
     if header < addresses {
         return Err(HeaderFault::Header);
