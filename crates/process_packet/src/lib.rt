@@ -37,6 +37,7 @@ pub use laws::{
     answers_are_sound, next_place_is_next, nothing_else_changes, only_authorised, only_lawful_ways,
 };
 pub use neighbours::{Bands, Link, Service, Sibling};
+pub use refusal::header_cause;
 pub use request::trace_request;
 pub use routed::route;
 pub use totals::Totals;

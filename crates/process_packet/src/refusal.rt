@@ -34,7 +34,7 @@ impl Refusal {
 }
 
 /// The cause for which a datagram with this fault of its header is dropped.
-pub(crate) fn header_cause(fault: HeaderFault) -> Cause
+pub fn header_cause(fault: HeaderFault) -> Cause
     ensures { result ≡ cause_of (header.fault_of fault) }
 {
     match fault {

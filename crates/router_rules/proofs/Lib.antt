@@ -5,3 +5,4 @@ pub mod ReplyLemmas
 pub mod CauseLemmas
 pub mod DecisionLemmas
 pub mod Lawful
+pub mod PortLemmas

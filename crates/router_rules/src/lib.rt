@@ -1,11 +1,28 @@
 //! What the pipeline asks of the router: its decision, its answers and its flows as the rules that the
-//! pipeline's laws are stated over, and its links numbered in ascending order.
+//! pipeline's laws are stated over, its links numbered in ascending order, and its workers and pipes with
+//! their places.
 #![tactic(auto)]
 
+mod actor;
+mod faults;
+mod flows;
 mod laws;
 mod links;
+mod outgoing;
+mod places;
+mod ports;
+mod shared;
 #[cfg(test)]
 mod tests;
+mod worker;
 
+pub use actor::{Actor, Channel};
+pub use faults::inspect;
+pub use flows::{is_urgent, processor, processor_or_fault};
 pub use laws::{links_stand_in_order, only_ruled_causes, rules_are_lawful};
 pub use links::{has_two_bands, interface_at, link_count, link_index};
+pub use outgoing::Outgoing;
+pub use places::{link_pipe, seat_count, slow_seat};
+pub use ports::Ports;
+pub use shared::Shared;
+pub use worker::{Queue, Worker};

@@ -8,9 +8,10 @@ ghost use Rattle.router_rules.specs.Links.{has_two_bands, interface_at, link_cou
 
 use process_packet::{Config, Link};
 
-/// How many links the router has, the internal network among them.
+/// How many links the router has, the internal network among them: 2 to 33.
 pub fn link_count(config: &Config) -> usize
-    ensures { result ≡ link_count config.now }
+    ensures count { result ≡ link_count config.now }
+    ensures few { result ≤ 33 }
 {
     config.links.len() + 1
 }
@@ -29,36 +30,39 @@ fn smaller(links: &[Link], id: u16) -> usize
 
 /// How many of the interfaces are smaller, that of the internal network among them.
 fn rank(config: &Config, id: u16) -> usize
-    ensures { result ≡ Rattle.router_rules.specs.Links.rank config.now id }
+    ensures rank { result ≡ Rattle.router_rules.specs.Links.rank config.now id }
+    ensures few { result ≤ 33 }
 {
     let links = smaller(config.links.as_slice(), id);
     if id == 0 { links } else { links + 1 }
 }
 
 /// The number of the link with this interface; `link_count` where there is none.
-pub fn link_index(config: &Config, id: u16) -> usize
-    ensures { result ≡ link_index config.now id }
+pub fn link_index(config: &Config, id: u16) -> u16
+    ensures index { result ≡ link_index config.now id }
+    ensures few { result ≤ 33 }
 {
-    if config.has_link(id) {
+    let index = if config.has_link(id) {
         rank(config, id)
     } else {
         link_count(config)
-    }
+    };
+    index as u16
 }
 
 /// The interface of the link of this number to another AS.
-fn external_interface_at(config: &Config, index: usize) -> Option<u16>
+fn external_interface_at(config: &Config, index: u16) -> Option<u16>
     ensures { result ≡ find (λ id. Rattle.router_rules.specs.Links.rank config.now id == index) (map link_id config.now.links.items) }
 {
     config
         .links
         .iter()
         .map(|link| link.id)
-        .find(|id| rank(config, *id) == index)
+        .find(|id| rank(config, *id) == usize::from(index))
 }
 
 /// The interface of the link with this number; 0 where there is none.
-pub fn interface_at(config: &Config, index: usize) -> u16
+pub fn interface_at(config: &Config, index: u16) -> u16
     ensures { result ≡ interface_at config.now index }
 {
     if index == 0 {
@@ -68,14 +72,15 @@ pub fn interface_at(config: &Config, index: usize) -> u16
 }
 
 /// Whether the link of this number to another AS has two bands.
-fn external_has_two_bands(config: &Config, index: usize) -> bool
+fn external_has_two_bands(config: &Config, index: u16) -> bool
     ensures { result ≡ list_any (λ k. Rattle.router_rules.specs.Links.rank config.now k.id == index && are_two k.bands) config.now.links.items }
 {
-    config.links.iter().any(|link| rank(config, link.id) == index && link.bands.are_two())
+    config.links.iter().any(|link| rank(config, link.id) == usize::from(index)
+        && link.bands.are_two())
 }
 
 /// Whether the link with this number has two bands.
-pub fn has_two_bands(config: &Config, index: usize) -> bool
+pub fn has_two_bands(config: &Config, index: u16) -> bool
     ensures { result ≡ has_two_bands config.now index }
 {
     index == 0 && config.internal_bands.are_two() || external_has_two_bands(config, index)

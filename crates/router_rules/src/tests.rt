@@ -1,8 +1,11 @@
 ghost use Rattle.std.specs.Prelude.{◌≡◌};
 
-use crate::{has_two_bands, interface_at, link_count, link_index};
+use crate::{
+    Actor, Channel, Ports, Queue, Shared, Worker, has_two_bands, inspect, interface_at, is_urgent,
+    link_count, link_index, link_pipe, processor_or_fault, seat_count, slow_seat,
+};
 use cmac_core::Cmac;
-use process_packet::{Bands, Config, Ip, Link, Underlay};
+use process_packet::{Bands, Cause, Config, Ip, Link, Underlay};
 use segment_switch::LinkKind;
 use std::alloc::{AllocError, Global};
 use std::test::*;
@@ -69,7 +72,7 @@ fn numbers_links_by_their_interfaces(rt: HostRuntime) -> Result<(), Fail> {
         assert_eq!(rt; link_index(&config, id), 4, "{id}");
     }
     assert_eq!(rt; interface_at(&config, 4), 0);
-    assert_eq!(rt; interface_at(&config, usize::MAX), 0);
+    assert_eq!(rt; interface_at(&config, u16::MAX), 0);
     Ok(())
 }
 
@@ -78,9 +81,79 @@ fn tells_links_of_two_bands(rt: HostRuntime) -> Result<(), Fail> {
     for internal in [Bands::One, Bands::Two] {
         let config = config(rt.alloc(), internal)?;
         let bands = [internal == Bands::Two, true, false, false, false];
-        for (index, two) in bands.into_iter().enumerate() {
+        for (index, two) in (0..).zip(bands) {
             assert_eq!(rt; has_two_bands(&config, index), two, "{index}");
         }
     }
+    Ok(())
+}
+
+#[test]
+fn looks_links_up(rt: HostRuntime) -> Result<(), Fail> {
+    let shared = Shared::new(config(rt.alloc(), Bands::One)?);
+    let ports = &shared.ports;
+    assert_eq!(rt; ports.count(), 4);
+    for (index, id, two) in [(0, 0, false), (1, 2, true), (2, 7, false), (3, 300, false)] {
+        assert_eq!(rt; ports.number(id), index);
+        assert_eq!(rt; ports.interface(index), id);
+        assert_eq!(rt; ports.two_bands(index), two);
+    }
+    for id in [1, 3, 299, 301, u16::MAX] {
+        assert_eq!(rt; ports.number(id), 4, "{id}");
+    }
+    assert_eq!(rt; (ports.interface(4), ports.interface(u16::MAX)), (0, 0));
+    assert_eq!(rt;
+        (ports.two_bands(4), ports.two_bands(u16::MAX)),
+        (false, false)
+    );
+    assert_eq!(rt; shared.config.links.len(), 3);
+    Ok(())
+}
+
+/// A header that its addresses fill, of the urgent traffic class.
+const URGENT: [u8; 36] = *b"\x0b\x80\x00\x01\x11\x09\x00\x08\x01\x00\x00\x00\
+    \x00\x01\xff\x00\x00\x00\x01\x12\x00\x01\xff\x00\x00\x00\x01\x11\x0a\x02\x00\x07\x0a\x01\x00\x05";
+
+#[test]
+fn tells_what_a_receiver_refuses(rt: HostRuntime) -> Result<(), Fail> {
+    let mut config = config(rt.alloc(), Bands::One)?;
+    config.processors = 2;
+    config.seed = 1;
+    assert_eq!(rt; inspect(&URGENT), None);
+    assert_eq!(rt; processor_or_fault(&config, &URGENT), Ok(1));
+    assert_eq!(rt; inspect(&URGENT[..35]), Some(Cause::Short));
+    assert_eq!(rt;
+        processor_or_fault(&config, &URGENT[..35]),
+        Err(Cause::Short)
+    );
+    assert_eq!(rt; inspect(&[0; 9217]), Some(Cause::TooLong));
+    assert_eq!(rt; (is_urgent(&URGENT), is_urgent(&[0; 36])), (true, false));
+    Ok(())
+}
+
+#[test]
+fn finds_workers_and_pipes(rt: HostRuntime) -> Result<(), Fail> {
+    let config = config(rt.alloc(), Bands::One)?;
+    assert_eq!(rt; (slow_seat(&config), seat_count(&config)), (5, 10));
+    assert_eq!(rt; link_pipe(&config, true, 3), 13);
+    let forwarder = Actor::named(&config, Worker::Forwarder(7));
+    assert_eq!(rt;
+        (forwarder, forwarder.seat(&config)),
+        (Actor::Forwarder(2), 8)
+    );
+    assert_eq!(rt;
+        (forwarder.is_there(&config), forwarder.is(Actor::Slow)),
+        (true, false)
+    );
+    let high = Channel::named(&config, Queue::High(2));
+    assert_eq!(rt; (high.is_there(&config), high.place(&config)), (true, 9));
+    assert_eq!(rt;
+        (high.consumer(), high.is_out()),
+        (Actor::Forwarder(1), true)
+    );
+    assert_eq!(rt;
+        (Actor::Slow.feeds(high), forwarder.feeds(high)),
+        (true, false)
+    );
     Ok(())
 }

@@ -1,0 +1,31 @@
+//! The places of the workers' hands and of the pipes.
+
+ghost use Rattle.std.specs.Prelude.{◌≡◌, ◌≤◌};
+ghost use Rattle.pipe_order.specs.World.{link_pipe, seat_count, slow_seat};
+ghost use Rattle.router_rules.specs.Rules.{rules};
+
+use crate::links::link_count;
+use process_packet::Config;
+
+/// The place of the hand of the slow path, and of its pipe.
+pub fn slow_seat(config: &Config) -> usize
+    ensures place { result ≡ slow_seat (rules config.now) }
+    ensures few { result ≤ 49 }
+{
+    link_count(config) + usize::from(config.processors)
+}
+
+/// How many hands there are.
+pub fn seat_count(config: &Config) -> usize
+    ensures count { result ≡ seat_count (rules config.now) }
+    ensures few { result ≤ 83 }
+{
+    slow_seat(config) + 1 + link_count(config)
+}
+
+/// The place of a link's pipe for one of the bands.
+pub fn link_pipe(config: &Config, high: bool, link: u16) -> usize
+    ensures { result ≡ link_pipe (rules config.now) high link }
+{
+    slow_seat(config) + 1 + 2 * usize::from(link) + usize::from(high)
+}

@@ -1,0 +1,87 @@
+//! The links as they are looked up for each packet.
+
+ghost use Rattle.std.specs.Prelude.{◌≡◌};
+ghost use Rattle.process_packet.specs.declared.config.Config.{Config as Configured};
+ghost use Rattle.router_rules.specs.Links.{has_two_bands, interface_at, link_count, link_index};
+ghost use Rattle.router_rules.specs.Ports.{IsPortsOf};
+
+use crate::links::{has_two_bands, interface_at, link_count};
+use process_packet::Config;
+use std::marker::Model;
+
+/// The links of a router by their numbers: their interfaces, which ascend, and whether each has two
+/// bands. It is made once of a configuration, which would rank all its links for each that is looked up.
+#[derive(Debug, Drop)]
+pub struct Ports {
+    interfaces: [u16; 33],
+    two_bands: [bool; 33],
+    count: usize,
+}
+
+impl Model for Ports {
+    ghost use Rattle.std.specs.Prelude.{◌≤◌, take};
+    ghost use Rattle.router_rules.specs.Ports.{Lines};
+
+    ghost Value = { Lines };
+
+    ghost view = { λ p. record { interfaces = take p.count p.interfaces; two_bands = take p.count p.two_bands } };
+
+    ghost invariant = { λ p. p.count ≤ 33 };
+}
+
+impl Ports {
+    /// The links of a configuration.
+    pub fn of(config: &Config) -> Ports
+        ensures { IsPortsOf config.now result }
+    {
+        let mut interfaces = [0; 33];
+        let mut two_bands = [false; 33];
+        let count = link_count(config);
+        for link in 0..count {
+            interfaces[link] = interface_at(config, link as u16);
+            two_bands[link] = has_two_bands(config, link as u16);
+        }
+        Ports {
+            interfaces,
+            two_bands,
+            count,
+        }
+    }
+
+    /// How many links there are, the internal network among them.
+    pub fn count(&self) -> usize
+        ensures { (c : Configured) → IsPortsOf c self.now → result ≡ link_count c }
+    {
+        self.count
+    }
+
+    /// The number of the link with this interface; `count` where there is none.
+    pub fn number(&self, id: u16) -> u16
+        ensures { (c : Configured) → IsPortsOf c self.now → result ≡ link_index c id }
+    {
+        match self.interfaces[..self.count].binary_search(&id) {
+            Ok(number) => number as u16,
+            Err(_) => self.count as u16,
+        }
+    }
+
+    /// The interface of the link with this number; 0 where there is none.
+    pub fn interface(&self, link: u16) -> u16
+        ensures { (c : Configured) → IsPortsOf c self.now → result ≡ interface_at c link }
+    {
+        let at = usize::from(link);
+        if at < self.count {
+            self.interfaces[at]
+        } else {
+            0
+        }
+    }
+
+    /// Whether the link with this number has two bands.
+    pub fn two_bands(&self, link: u16) -> bool
+        ensures { (c : Configured) → IsPortsOf c self.now → result ≡ has_two_bands c link }
+    {
+        let at = usize::from(link);
+        at < self.count && self.two_bands[at]
+    }
+}

@@ -1,0 +1,23 @@
+ghost use Rattle.router_rules.specs.Ports.{IsPortsOf};
+
+use crate::ports::Ports;
+use process_packet::Config;
+
+/// A configuration and its links, as all workers of a router share them.
+#[derive(Drop)]
+pub struct Shared {
+    pub config: Config,
+    pub ports: Ports,
+    pub ghost of: { IsPortsOf config ports },
+}
+
+impl Shared {
+    ghost use Rattle.std.specs.Prelude.{◌≡◌};
+
+    pub fn new(config: Config) -> Shared
+        ensures { result.config ≡ config }
+    {
+        let ports = Ports::of(&config);
+        Shared { config, ports }
+    }
+}
