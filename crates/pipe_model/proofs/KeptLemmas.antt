@@ -6,9 +6,9 @@ use Rattle.pipe_order.specs.Pipe.{Entry, items}
 use Rattle.pipe_order.specs.Worker.{Worker, same_worker}
 use Rattle.std.proofs.lemmas.List.Folds.{list_any-append}
 use Rattle.router_rules.specs.Rules.{kinds}
-use Rattle.pipe_model.specs.Actor.{worker_of}
+use Rattle.router_rules.specs.Actor.{worker_of}
 use Rattle.pipe_model.specs.Ended.{has_ended, has_entry}
-use Rattle.pipe_model.specs.declared.actor.Actor.{Actor}
+use Rattle.router_rules.specs.declared.actor.Actor.{Actor}
 
 or_false : (b : Bool) → (b || false) ≡ b
 or_false true = refl

@@ -1,5 +1,4 @@
 pub mod KeptLemmas
-pub mod NumberLemmas
 pub mod SentLemmas
 pub mod Upheld
 pub mod Starts

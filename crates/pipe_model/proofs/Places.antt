@@ -13,7 +13,7 @@ use Rattle.router_rules.specs.Rules.{kinds}
 use Rattle.pipe_model.specs.Finding.{has_in_hand, has_in_pipe, is_among, place_of_sent}
 use Rattle.pipe_model.specs.Sent.{joined}
 use Rattle.pipe_model.specs.Shown.{first}
-use Rattle.pipe_model.specs.declared.outgoing.Outgoing.{Outgoing as Left}
+use Rattle.router_rules.specs.declared.outgoing.Outgoing.{Outgoing as Left}
 use Rattle.pipe_model.specs.declared.sent.Way.{Way}
 
 pub first-append : {X : Type 0} (xs ys : List X) → first (xs ++ ys) ≡ option_or (first xs) (first ys)

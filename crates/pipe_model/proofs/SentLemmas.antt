@@ -4,7 +4,7 @@ use Rattle.pipe_order.specs.Item.{Outgoing}
 use Rattle.router_rules.specs.Rules.{kinds}
 use Rattle.pipe_model.specs.Sent.{joined, rejoined}
 use Rattle.pipe_model.specs.Shown.{left}
-use Rattle.pipe_model.specs.declared.outgoing.Outgoing.{Outgoing as Left}
+use Rattle.router_rules.specs.declared.outgoing.Outgoing.{Outgoing as Left}
 use Rattle.pipe_model.specs.declared.sent.Way.{Way}
 
 -- the entries are what the public type has of them

@@ -5,8 +5,8 @@ use Rattle.pipe_order.specs.Item.{is_end}
 use Rattle.pipe_order.specs.Pipe.{Entry}
 use Rattle.pipe_order.specs.Worker.{Worker, same_worker}
 use Rattle.router_rules.specs.Rules.{kinds}
-use Rattle.pipe_model.specs.Actor.{worker_of}
-use Rattle.pipe_model.specs.declared.actor.Actor.{Actor}
+use Rattle.router_rules.specs.Actor.{worker_of}
+use Rattle.router_rules.specs.declared.actor.Actor.{Actor}
 
 -- the worker's end mark was pushed, by the list of those whose was, and by the history
 abbrev pub has_ended : List Actor → Worker → Bool

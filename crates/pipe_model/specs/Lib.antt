@@ -1,5 +1,4 @@
 pub mod Step
-pub mod Actor
 pub mod Items
 pub mod Causes
 pub mod Outcomes

@@ -2,7 +2,7 @@
 use Rattle.std.specs.Prelude.{ℕ, List, [], ◌∷◌}
 use Rattle.pipe_order.specs.Item.{Outgoing}
 use Rattle.router_rules.specs.Rules.{kinds}
-use Rattle.pipe_model.specs.declared.outgoing.Outgoing.{Outgoing as Left}
+use Rattle.router_rules.specs.declared.outgoing.Outgoing.{Outgoing as Left}
 use Rattle.pipe_model.specs.declared.sent.Way.{Way}
 
 abbrev pub rejoined : Way → Left × List ℕ → Outgoing kinds

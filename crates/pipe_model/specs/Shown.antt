@@ -14,11 +14,11 @@ use Rattle.process_packet.specs.declared.totals.Totals.{Totals}
 use Rattle.router_rules.specs.Links.{interface_at, link_index}
 use Rattle.router_rules.specs.Rules.{kinds}
 use Rattle.pipe_model.specs.Pipeline.{Pipeline, rules_in}
-use Rattle.pipe_model.specs.declared.outgoing.Outgoing.{Outgoing as Left}
+use Rattle.router_rules.specs.declared.outgoing.Outgoing.{Outgoing as Left}
 use Rattle.pipe_model.specs.declared.place.Place.{Place as Stands}
 use Rattle.pipe_model.specs.declared.place.Place.TheVariants as stands
-use Rattle.pipe_model.specs.declared.step.Worker.{Worker as Named}
-use Rattle.pipe_model.specs.declared.step.Worker.TheVariants as named
+use Rattle.router_rules.specs.declared.worker.Worker.{Worker as Named}
+use Rattle.router_rules.specs.declared.worker.Worker.TheVariants as named
 
 -- ---- what was sent
 

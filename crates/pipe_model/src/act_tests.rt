@@ -2,8 +2,9 @@ use crate::fault::StepFault;
 use crate::pipe::Pipe;
 use crate::samples::{DATAGRAM, EXPIRED, IN_TIME, arrival, config, is_what_leaves};
 use crate::state::State;
-use crate::step::{Queue, Step, Worker};
+use crate::step::Step;
 use process_packet::{Bands, Config};
+use router_rules::{Queue, Worker};
 use std::alloc::Global;
 use std::test::*;
 

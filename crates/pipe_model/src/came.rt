@@ -4,7 +4,7 @@ ghost use Rattle.std.specs.Prelude.{◌≡◌, IfOk};
 ghost use Rattle.pipe_model.specs.Arrivals.{arrived_in};
 ghost use Rattle.pipe_model.specs.Items.{arrival_in};
 
-use crate::outgoing::Bytes;
+use crate::bytes::Bytes;
 use process_packet::{Arrival, Underlay};
 use std::alloc::AllocError;
 
@@ -12,7 +12,7 @@ use std::alloc::AllocError;
 #[derive(Debug, Drop)]
 pub struct Came {
     /// The number of the link by which it came.
-    pub link: usize,
+    pub link: u16,
     /// Its number among the datagrams of that link, from 1 on.
     pub number: u64,
     /// The interface of the link; 0 is the internal network.
@@ -26,7 +26,7 @@ pub struct Came {
 
 impl Came {
     /// What arrived on the link of a number.
-    pub fn on(link: usize, arrival: Arrival) -> Came
+    pub fn on(link: u16, arrival: Arrival) -> Came
         ensures { arrival_in result ≡ arrived_in link arrival }
     {
         Came {

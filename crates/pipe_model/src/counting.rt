@@ -8,18 +8,18 @@ ghost use Rattle.pipe_order.specs.World.{Empty};
 ghost use Rattle.pipe_model.specs.Items.{hand_in, item_in};
 ghost use Rattle.pipe_model.specs.Shown.{causes, is_number, totals_of};
 
+use crate::bytes::Bytes;
 use crate::entry::Entry;
 use crate::fate::Fates;
 use crate::hands::Hands;
 use crate::item::Hand;
 use crate::named::is_packet;
 use crate::naming::reason;
-use crate::outgoing::{Bytes, Outgoing};
 use crate::pipe::Pipe;
 use crate::sent::Sent;
 use crate::state::State;
 use process_packet::{Config, Totals};
-use router_rules::link_count;
+use router_rules::{Outgoing, link_count};
 
 /// 1 with a packet in this hand, else 0.
 fn packets_in_hand(hand: &Hand) -> usize

@@ -4,9 +4,8 @@ ghost use Rattle.std.specs.Prelude.{◌≡◌, ◌↔◌, Some, None, OnOk, OnEr
 ghost use Rattle.pipe_order.specs.Next.{next};
 ghost use Rattle.pipe_order.specs.Step.{Step};
 ghost use Rattle.router_rules.specs.Rules.{rules};
-ghost use Rattle.pipe_model.specs.Actor.{worker_of};
+ghost use Rattle.router_rules.specs.Actor.{worker_of};
 
-use crate::actor::Actor;
 use crate::cause::Cause;
 use crate::fault::StepFault;
 use crate::item::{Hand, Item};
@@ -14,6 +13,7 @@ use crate::outcome::Outcome;
 use crate::rules::{decide, reply};
 use crate::state::State;
 use process_packet::Config;
+use router_rules::Actor;
 use std::alloc::Global;
 
 impl State {

@@ -1,11 +1,11 @@
 //! An item in a pipe, with the worker that pushed it.
 
 ghost use Rattle.std.specs.Prelude.{◌≡◌};
-ghost use Rattle.pipe_model.specs.Actor.{worker_of};
+ghost use Rattle.router_rules.specs.Actor.{worker_of};
 ghost use Rattle.pipe_model.specs.Items.{item_in};
 
-use crate::actor::Actor;
 use crate::item::Item;
+use router_rules::Actor;
 use std::marker::Model;
 
 /// An item, with the worker that pushed it.
@@ -21,7 +21,7 @@ impl Model for Entry {
 
     ghost Value = { Entry kinds };
 
-    ghost use Rattle.pipe_model.specs.Actor.{worker_of};
+    ghost use Rattle.router_rules.specs.Actor.{worker_of};
     ghost use Rattle.pipe_model.specs.Items.{item_in};
 
     ghost view = { λ e. record { from = worker_of e.from; item = item_in e.item } };

@@ -13,7 +13,7 @@ use std::marker::Model;
 /// How a packet, or the answer to it, ended that was not sent.
 #[derive(Debug, Drop)]
 pub struct Fate {
-    link: usize,
+    link: u16,
     number: u64,
     cause: Cause,
 }
@@ -97,7 +97,7 @@ impl Fates {
 
 impl Fate {
     /// The number of the packet's arriving link.
-    pub fn link(&self) -> usize
+    pub fn link(&self) -> u16
         ensures { result ≡ self.now.link }
     {
         self.link

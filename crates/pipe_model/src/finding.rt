@@ -25,7 +25,7 @@ use process_packet::Config;
 use router_rules::link_count;
 
 /// Whether this hand has the packet.
-fn is_held(hand: &Hand, link: usize, number: u64) -> bool
+fn is_held(hand: &Hand, link: u16, number: u64) -> bool
     ensures { result ≡ has_in_hand (is_one link number) (hand_in (Some hand.now)) }
 {
     match hand {
@@ -34,7 +34,7 @@ fn is_held(hand: &Hand, link: usize, number: u64) -> bool
 }
 
 /// Whether the packet is in the hand of this seat.
-fn is_in_hand(hands: &Hands, seat: usize, link: usize, number: u64) -> bool
+fn is_in_hand(hands: &Hands, seat: usize, link: u16, number: u64) -> bool
     ensures { result ≡ has_in_hand (is_one link number) (slice_index_or hands.now seat Empty) }
 {
     match hands.get(seat) {
@@ -44,7 +44,7 @@ fn is_in_hand(hands: &Hands, seat: usize, link: usize, number: u64) -> bool
 }
 
 /// Its place, where it is in a hand.
-pub fn find_in_hands(config: &Config, hands: &Hands, link: usize, number: u64) -> Option<Place>
+pub fn find_in_hands(config: &Config, hands: &Hands, link: u16, number: u64) -> Option<Place>
     ensures { result ≡ option_map (stands_in config.now) (first (in_hands (rules config.now) (is_one link number) 0 hands.now)) }
 {
     for seat in 0..hands.len() {
@@ -56,7 +56,7 @@ pub fn find_in_hands(config: &Config, hands: &Hands, link: usize, number: u64) -
 }
 
 /// Whether it is among these entries.
-fn is_among(entries: &[Entry], link: usize, number: u64) -> bool
+fn is_among(entries: &[Entry], link: u16, number: u64) -> bool
     ensures { result ≡ is_among (is_one link number) entries.now }
 {
     entries
@@ -65,7 +65,7 @@ fn is_among(entries: &[Entry], link: usize, number: u64) -> bool
 }
 
 /// Its place, where one of these pipes holds it: all but the links' lists of arrivals.
-pub fn find_in_pipes(config: &Config, pipes: &[Pipe], link: usize, number: u64) -> Option<Place>
+pub fn find_in_pipes(config: &Config, pipes: &[Pipe], link: u16, number: u64) -> Option<Place>
     ensures { result ≡ option_map (stands_in config.now) (first (in_pipes (rules config.now) (is_one link number) (link_count config.now) pipes.now)) }
 {
     let links = link_count(config);
@@ -78,7 +78,7 @@ pub fn find_in_pipes(config: &Config, pipes: &[Pipe], link: usize, number: u64) 
 }
 
 /// Its place, where it or its answer was sent.
-pub fn find_in_sent(config: &Config, sent: &Sent, link: usize, number: u64) -> Option<Place>
+pub fn find_in_sent(config: &Config, sent: &Sent, link: u16, number: u64) -> Option<Place>
     ensures { result ≡ option_map (stands_in config.now) (first (flat_map (in_sent (is_one link number)) sent.now)) }
 {
     match sent.find(link, number) {
@@ -89,7 +89,7 @@ pub fn find_in_sent(config: &Config, sent: &Sent, link: usize, number: u64) -> O
 }
 
 /// Its place, where it was dropped.
-pub fn find_in_fates(config: &Config, fates: &Fates, link: usize, number: u64) -> Option<Place>
+pub fn find_in_fates(config: &Config, fates: &Fates, link: u16, number: u64) -> Option<Place>
     ensures { result ≡ option_map (stands_in config.now) (first (in_fates (is_one link number) fates.now)) }
 {
     for fate in fates.as_slice() {
@@ -101,7 +101,7 @@ pub fn find_in_fates(config: &Config, fates: &Fates, link: usize, number: u64) -
 }
 
 /// The place of the packet with this number on an arriving link; `None` where it isn't received.
-pub fn find(config: &Config, state: &State, link: usize, number: u64) -> Option<Place>
+pub fn find(config: &Config, state: &State, link: u16, number: u64) -> Option<Place>
     ensures { result ≡ option_map (stands_in config.now) (first (places (rules config.now) link number state.now)) }
 {
     if let Some(place) = find_in_hands(config, &state.hands, link, number) {

@@ -6,9 +6,9 @@ ghost use Rattle.pipe_order.specs.Next.{full_of, hand_after};
 ghost use Rattle.pipe_model.specs.Causes.{cause_in};
 ghost use Rattle.pipe_model.specs.Items.{hand_in, item_in};
 
+use crate::bytes::Bytes;
 use crate::came::Came;
 use crate::cause::Cause;
-use crate::outgoing::Bytes;
 use crate::packet::{Asked, Packet};
 use process_packet::Underlay;
 use std::alloc::AllocError;
@@ -27,7 +27,7 @@ pub struct Parcel {
 #[derive(Debug, Drop)]
 pub struct Out {
     /// The number of the arriving link.
-    pub arrived: usize,
+    pub arrived: u16,
     /// The packet's number there.
     pub number: u64,
     /// Whether this is the answer to it.

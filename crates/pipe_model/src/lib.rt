@@ -3,7 +3,7 @@
 
 #[cfg(test)]
 mod act_tests;
-mod actor;
+mod bytes;
 mod came;
 mod cause;
 mod counting;
@@ -18,9 +18,7 @@ mod looks;
 mod marking;
 mod named;
 mod naming;
-mod numbers;
 mod outcome;
-mod outgoing;
 mod packet;
 mod passing;
 mod pipe;
@@ -42,8 +40,9 @@ mod telling;
 mod tests;
 mod world;
 
+pub use bytes::Bytes;
 pub use fault::StepFault;
-pub use outgoing::{Bytes, Outgoing};
 pub use place::Place;
-pub use step::{Queue, Step, Worker};
+pub use router_rules::{Outgoing, Queue, Worker};
+pub use step::Step;
 pub use world::{NoMemoryAt, World};

@@ -2,9 +2,9 @@
 
 ghost use Rattle.std.specs.Prelude.{◌≡◌, false, IfOk, replicate, slice_index_or, slice_set};
 ghost use Rattle.pipe_order.specs.Next.{forgotten};
-ghost use Rattle.pipe_model.specs.Actor.{queue_of};
+ghost use Rattle.router_rules.specs.Actor.{queue_of};
 
-use crate::actor::{Actor, Channel};
+use router_rules::{Actor, Channel};
 use std::alloc::{AllocError, Global};
 use std::marker::Model;
 
@@ -34,22 +34,24 @@ impl Looks {
         Ok(Looks { links })
     }
 
-    pub fn get(&self, link: usize) -> bool
+    pub fn get(&self, link: u16) -> bool
         ensures { result ≡ slice_index_or self.now link false }
     {
-        if link < self.links.len() {
-            self.links[link]
+        let at = usize::from(link);
+        if at < self.links.len() {
+            self.links[at]
         } else {
             false
         }
     }
 
     /// Notes it of a link; where there is none, nothing changes.
-    pub fn set(&mut self, link: usize, seen: bool)
+    pub fn set(&mut self, link: u16, seen: bool)
         ensures { self.new ≡ slice_set self.old link seen }
     {
-        if link < self.links.len() {
-            self.links[link] = seen;
+        let at = usize::from(link);
+        if at < self.links.len() {
+            self.links[at] = seen;
         }
     }
 
@@ -58,7 +60,7 @@ impl Looks {
         ensures { self.new ≡ forgotten (queue_of channel) self.old }
     {
         if let Channel::High(link) | Channel::Of(Actor::Forwarder(link)) = channel {
-            self.set(usize::from(link), false);
+            self.set(link, false);
         }
     }
 }

@@ -5,14 +5,13 @@ ghost use Rattle.pipe_order.specs.Next.{next};
 ghost use Rattle.pipe_order.specs.Step.{Step};
 ghost use Rattle.router_rules.specs.Rules.{rules};
 ghost use Rattle.pipe_order.specs.Next.{is_over};
-ghost use Rattle.pipe_model.specs.Actor.{queue_of, worker_of};
+ghost use Rattle.router_rules.specs.Actor.{queue_of, worker_of};
 
-use crate::actor::{Actor, Channel};
 use crate::fault::StepFault;
 use crate::item::Item;
 use crate::state::State;
 use process_packet::Config;
-use router_rules::link_count;
+use router_rules::{Actor, Channel, link_count};
 
 impl State {
     /// The controller pushes a closing mark.
@@ -41,7 +40,7 @@ impl State {
         ensures { result ≡ is_over (rules config.now) self.now (worker_of worker) }
     {
         match worker {
-            Actor::Receiver(link) => match self.pipes.first(link) {
+            Actor::Receiver(link) => match self.pipes.first(usize::from(link)) {
                 None => true,
                 Some(_) => false,
             },

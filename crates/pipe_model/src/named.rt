@@ -15,7 +15,7 @@ pub fn is_packet(item: &Item) -> bool
 }
 
 /// Whether this is the packet with this number on the arriving link, its problem or its answer.
-pub fn is_named(item: &Item, link: usize, number: u64) -> bool
+pub fn is_named(item: &Item, link: u16, number: u64) -> bool
     ensures { result ≡ is_named (is_one link number) (item_in item.now) }
 {
     match item {

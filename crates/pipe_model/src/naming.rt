@@ -8,11 +8,9 @@ ghost use Rattle.pipe_model.specs.Causes.{cause_in};
 ghost use Rattle.pipe_model.specs.Shown.{named_in, stands_in, why_of};
 
 use crate::cause::Cause;
-use crate::numbers::slow_seat;
 use crate::place::Place;
-use crate::step::Worker;
 use process_packet::{Cause as Reason, Config};
-use router_rules::{interface_at, link_count};
+use router_rules::{Worker, interface_at, link_count, slow_seat};
 
 /// The worker of a seat.
 pub fn worker_at(config: &Config, seat: usize) -> Worker

@@ -4,15 +4,14 @@ ghost use Rattle.std.specs.Prelude.{◌≡◌, ◌↔◌, Some, None, OnOk, OnEr
 ghost use Rattle.pipe_order.specs.Next.{may_take, next};
 ghost use Rattle.pipe_order.specs.Step.{Step};
 ghost use Rattle.router_rules.specs.Rules.{rules};
-ghost use Rattle.pipe_model.specs.Actor.{queue_of, worker_of};
+ghost use Rattle.router_rules.specs.Actor.{queue_of, worker_of};
 
-use crate::actor::{Actor, Channel};
 use crate::fault::StepFault;
 use crate::item::Hand;
 use crate::rules::home;
 use crate::state::State;
 use process_packet::Config;
-use router_rules::has_two_bands;
+use router_rules::{Actor, Channel, has_two_bands};
 
 impl State {
     /// What a worker owes is pushed.
@@ -72,7 +71,6 @@ impl State {
     {
         match channel {
             Channel::Of(Actor::Forwarder(link)) => {
-                let link = usize::from(link);
                 !has_two_bands(config, link) || self.looks.get(link)
             }
             _ => true,

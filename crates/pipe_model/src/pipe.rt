@@ -3,17 +3,17 @@
 ghost use Rattle.std.specs.Prelude.{◌≡◌, ◌&&◌, ◌++◌, ◌∷◌, [], Some, None, MatchOption, IfOk, is_ok, IsSome, if◌then◌else◌};
 ghost use Rattle.pipe_order.specs.Item.{ends, is_end};
 ghost use Rattle.pipe_order.specs.Pipe.{empty_pipe, front, gone, has_end_of, has_room, is_marked, is_shut, one_taken, pushed, refusal_of, refused};
-ghost use Rattle.pipe_model.specs.Actor.{worker_of};
+ghost use Rattle.router_rules.specs.Actor.{worker_of};
 ghost use Rattle.pipe_model.specs.Arrivals.{source};
 ghost use Rattle.pipe_model.specs.Items.{item_in};
 ghost use Rattle.pipe_model.specs.Ended.{has_ended};
 
-use crate::actor::Actor;
 use crate::came::Came;
 use crate::entry::Entry;
 use crate::item::Item;
 use crate::refusal::Refusal;
 use process_packet::{Arrival, NoMemory};
+use router_rules::Actor;
 use std::alloc::{AllocError, Global};
 use std::marker::Model;
 
@@ -83,7 +83,7 @@ impl Pipe {
     }
 
     /// What arrives on a link, with nothing of it received.
-    pub fn of_arrivals(alloc: Global, link: usize, arrivals: Vec<Arrival>) -> Result<Pipe, NoMemory>
+    pub fn of_arrivals(alloc: Global, link: u16, arrivals: Vec<Arrival>) -> Result<Pipe, NoMemory>
         ensures { IfOk result (λ pipe. pipe ≡ source link arrivals.items) }
     {
         let mut pipe = Pipe::new(alloc, 0);

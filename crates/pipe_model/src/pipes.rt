@@ -3,13 +3,13 @@
 ghost use Rattle.std.specs.Prelude.{◌≡◌, ◌++◌, Some, None, MatchOption, IsSome, IfOk, is_ok, if◌then◌else◌, replicate, slice_set};
 ghost use Rattle.pipe_order.specs.Item.{ends};
 ghost use Rattle.pipe_order.specs.Pipe.{empty_pipe, front, gone, has_end_of, has_room, is_marked, is_shut, one_taken, pushed, refusal_of, refused};
-ghost use Rattle.pipe_model.specs.Actor.{worker_of};
+ghost use Rattle.router_rules.specs.Actor.{worker_of};
 ghost use Rattle.pipe_model.specs.Items.{item_in};
 ghost use Rattle.pipe_model.specs.Kept.{pipe_at};
 
-use crate::actor::Actor;
 use crate::item::Item;
 use crate::pipe::Pipe;
+use router_rules::Actor;
 use std::alloc::{AllocError, Global};
 use std::marker::Model;
 

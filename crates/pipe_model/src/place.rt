@@ -1,5 +1,5 @@
-use crate::step::Worker;
 use process_packet::Cause;
+use router_rules::Worker;
 
 /// Where a packet, its problem or its answer is. A pipe is named by its consumer.
 #[derive(Clone, Copy, Debug, PartialEq, Eq)]

@@ -9,10 +9,9 @@ use crate::cause::Cause;
 use crate::fault::StepFault;
 use crate::item::{Hand, Item};
 use crate::packet::Packet;
-use crate::rules::inspect;
 use crate::state::State;
 use process_packet::Config;
-use router_rules::link_count;
+use router_rules::{inspect, link_count};
 
 impl State {
     /// A receiver takes the next arrival of its link: it drops a faulty one, and owes any other to a processor.

@@ -6,7 +6,7 @@ use std::marker::Model;
 /// taken.
 #[derive(Debug, Drop)]
 pub struct Refusal {
-    link: usize,
+    link: u16,
     number: u64,
     length: usize,
     taken: usize,
@@ -23,7 +23,7 @@ impl Model for Refusal {
 impl Refusal {
     ghost use Rattle.std.specs.Prelude.{◌≡◌};
 
-    pub fn new(link: usize, number: u64, length: usize, taken: usize) -> Refusal
+    pub fn new(link: u16, number: u64, length: usize, taken: usize) -> Refusal
         ensures { result ≡ record { link = link; number = number; length = length; taken = taken } }
     {
         Refusal {

@@ -1,76 +1,26 @@
 //! What the pipeline asks of the router.
 
-ghost use Rattle.std.specs.Prelude.{◌≡◌, None, IfNone, IfOk, slice_index};
+ghost use Rattle.std.specs.Prelude.{◌≡◌, IfOk};
 ghost use Rattle.pipe_order.specs.Next as next;
 ghost use Rattle.pipe_order.specs.World.{home};
 ghost use Rattle.process_packet.specs.Decide.{decide, moved};
 ghost use Rattle.process_packet.specs.Network.{network};
-ghost use Rattle.router_rules.specs.Rules.{inspected, is_urgent, rules};
-ghost use Rattle.scion_packet.specs.Header.{header_fault};
+ghost use Rattle.router_rules.specs.Rules.{rules};
 ghost use Rattle.pipe_model.specs.Items.{arrival_in, item_in};
 ghost use Rattle.pipe_model.specs.Outcomes.{outcome_in};
 
+use crate::bytes::Bytes;
 use crate::came::Came;
 use crate::cause::Cause;
 use crate::item::{Item, Out, Parcel};
-use crate::numbers::{link_number, link_pipe, slow_seat};
 use crate::outcome::Outcome;
-use crate::outgoing::Bytes;
 use crate::packet::{Asked, Packet};
-use flow_key::{flow_of, processor_of};
-use process_packet::{
-    Cause as Reason, Config, Decision, LONGEST_DATAGRAM, answers_are_sound, route_in_place,
+use process_packet::{Config, Decision, answers_are_sound, route_in_place};
+use router_rules::{
+    has_two_bands, is_urgent, link_count, link_index, link_pipe, processor, slow_seat,
 };
-use router_rules::{has_two_bands, link_count};
-use scion_header::{HeaderFault, check_header};
 use scmp_answer::{AnswerLen, LONGEST_ANSWER, answer_into};
 use std::alloc::{AllocError, Global};
-
-/// The fault for which a receiver drops a datagram, if it does: its length, or its header's.
-pub fn inspect(bytes: &[u8]) -> Option<Reason>
-    ensures fault { result ≡ inspected bytes.now }
-    ensures sound { IfNone result (header_fault bytes.now ≡ None) }
-{
-    if bytes.len() > LONGEST_DATAGRAM {
-        return Some(Reason::TooLong);
-    }
-    match check_header(bytes) {
-        Ok(_) => None,
-        Err(HeaderFault::Short) => Some(Reason::Short),
-        Err(HeaderFault::Version) => Some(Reason::Version),
-        Err(HeaderFault::PathType) => Some(Reason::PathType),
-        Err(HeaderFault::Header) => Some(Reason::Header),
-    }
-}
-
-/// The processor of a packet's flow.
-fn processor(config: &Config, packet: &Packet) -> usize
-    ensures { result ≡ (rules config.now).processor ((rules config.now).key (arrival_in packet.now.came)) }
-{
-    match flow_of(packet.came.bytes.as_slice(), false) {
-        Some(key) => processor_of(&key, config.seed, usize::from(config.processors)),
-        None => unreachable!(),
-    }
-}
-
-fn byte_at(bytes: &[u8], at: usize) -> u8
-    ensures { result ≡ slice_index bytes.now at }
-{
-    if at < bytes.len() { bytes[at] } else { 0 }
-}
-
-/// Whether the traffic class asks for expedited forwarding.
-fn is_urgent(bytes: &[u8]) -> bool
-    ensures { result ≡ is_urgent bytes.now }
-{
-    let first = u32::from_be_bytes([
-        byte_at(bytes, 0),
-        byte_at(bytes, 1),
-        byte_at(bytes, 2),
-        byte_at(bytes, 3),
-    ]);
-    (first >> 20 & 0xff) / 4 == 46
-}
 
 /// The place of the pipe that an item goes to: its flow's processor, the slow path, its leaving link in
 /// its band.
@@ -78,10 +28,11 @@ pub fn home(config: &Config, item: &Item) -> usize
     ensures { result ≡ home (rules config.now) (item_in item.now) }
 {
     match item {
-        Item::Packet(packet) => link_count(config) + processor(config, packet),
+        Item::Packet(packet) => {
+            link_count(config) + processor(config, packet.came.bytes.as_slice())
+        }
         Item::Out(out) => {
-            let high = has_two_bands(config, usize::from(out.link))
-                && is_urgent(out.parcel.bytes.as_slice());
+            let high = has_two_bands(config, out.link) && is_urgent(out.parcel.bytes.as_slice());
             link_pipe(config, high, out.link)
         }
         Item::Arrived(_) | Item::Asked(_) | Item::Close | Item::End => slow_seat(config),
@@ -115,7 +66,7 @@ pub fn decide(config: &Config, packet: &Packet) -> Result<Outcome, AllocError>
             arrived: came.link,
             number: came.number,
             answer: false,
-            link: link_number(config, link),
+            link: link_index(config, link),
             parcel: Parcel {
                 came_by: came.interface,
                 to,
@@ -153,7 +104,7 @@ pub fn reply(alloc: Global, config: &Config, asked: &Asked) -> Result<Outcome, A
                 arrived: came.link,
                 number: came.number,
                 answer: true,
-                link: link_number(config, link),
+                link: link_index(config, link),
                 parcel: Parcel {
                     came_by: came.interface,
                     to,

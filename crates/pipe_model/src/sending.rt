@@ -4,15 +4,14 @@ ghost use Rattle.std.specs.Prelude.{◌≡◌, ◌↔◌, Some, None, OnOk, OnEr
 ghost use Rattle.pipe_order.specs.Next.{next};
 ghost use Rattle.pipe_order.specs.Step.{Step};
 ghost use Rattle.router_rules.specs.Rules.{rules};
-ghost use Rattle.pipe_model.specs.Actor.{queue_of};
+ghost use Rattle.router_rules.specs.Actor.{queue_of};
 
-use crate::actor::{Actor, Channel};
 use crate::cause::Cause;
 use crate::fault::StepFault;
 use crate::item::{Hand, Item};
 use crate::state::State;
 use process_packet::Config;
-use router_rules::link_count;
+use router_rules::{Actor, Channel, link_count};
 
 impl State {
     /// The forwarder of a link with two bands sees its high pipe empty.
@@ -33,7 +32,7 @@ impl State {
         if let Some(_) = self.pipes.first(high.place(config)) {
             return Err(StepFault::NotNow);
         }
-        self.looks.set(usize::from(link), true);
+        self.looks.set(link, true);
         Ok(())
     }
 

@@ -9,15 +9,16 @@ ghost use Rattle.pipe_model.specs.Items.{outgoing_in};
 ghost use Rattle.pipe_model.specs.Sent.{joined};
 ghost use Rattle.pipe_model.specs.Shown.{first, left};
 
+use crate::bytes::Bytes;
 use crate::item::Out;
-use crate::outgoing::{Bytes, Outgoing};
+use router_rules::Outgoing;
 use std::alloc::{AllocError, Global};
 use std::marker::Model;
 
 /// The numbers of the links by which a packet came and left.
 #[derive(Clone, Copy, Debug)]
 struct Way {
-    arrived: usize,
+    arrived: u16,
     link: u16,
 }
 
@@ -136,7 +137,7 @@ impl Sent {
 fn find_among(
     ways: &[Way],
     entries: &[(Outgoing, Bytes)],
-    arrived: usize,
+    arrived: u16,
     number: u64,
 ) -> Option<bool>
     requires { length ways.now ≡ length entries.now }
@@ -152,7 +153,7 @@ fn find_among(
 }
 
 impl Outbox {
-    fn find(&self, arrived: usize, number: u64) -> Option<bool>
+    fn find(&self, arrived: u16, number: u64) -> Option<bool>
         ensures { option_map place_of_sent result ≡ first (in_sent (is_one arrived number) self.now) }
     {
         find_among(
@@ -174,7 +175,7 @@ impl Sent {
 
     /// Whether the packet with this number on its arriving link was sent, and then whether as the answer
     /// to it.
-    pub fn find(&self, arrived: usize, number: u64) -> Option<bool>
+    pub fn find(&self, arrived: u16, number: u64) -> Option<bool>
         ensures { option_map place_of_sent result ≡ first (flat_map (in_sent (is_one arrived number)) self.now) }
     {
         find_in_outboxes(self.links.as_slice(), arrived, number)
@@ -182,7 +183,7 @@ impl Sent {
 }
 
 /// The same over these links.
-fn find_in_outboxes(links: &[Outbox], arrived: usize, number: u64) -> Option<bool>
+fn find_in_outboxes(links: &[Outbox], arrived: u16, number: u64) -> Option<bool>
     ensures { option_map place_of_sent result ≡ first (flat_map (in_sent (is_one arrived number)) links.now) }
 {
     for outbox in links {

@@ -7,12 +7,11 @@ ghost use Rattle.router_rules.specs.Rules.{rules};
 use crate::fate::Fates;
 use crate::hands::Hands;
 use crate::looks::Looks;
-use crate::numbers::seat_count;
 use crate::pipe::Pipe;
 use crate::pipes::Pipes;
 use crate::sent::Sent;
 use process_packet::Config;
-use router_rules::link_count;
+use router_rules::{link_count, seat_count};
 use std::alloc::{AllocError, Global};
 use std::marker::Model;
 

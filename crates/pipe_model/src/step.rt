@@ -1,27 +1,6 @@
-//! Who works, which pipes there are, and what a worker does in one step.
+//! What a worker does in one step.
 
-/// A worker of the pipeline. Links are named by their interface; 0 is the internal network.
-#[derive(Clone, Copy, Debug, PartialEq, Eq)]
-pub enum Worker {
-    /// It receives what arrives on a link.
-    Receiver(u16),
-    /// It decides; the first one is 0.
-    Processor(u8),
-    /// The slow path: it answers.
-    Slow,
-    /// It sends on a link.
-    Forwarder(u16),
-    /// It closes links, and ends the run.
-    Controller,
-}
-
-/// A pipe, named by its consumer. The forwarder of a link with two bands has a second one.
-#[derive(Clone, Copy, Debug, PartialEq, Eq)]
-pub enum Queue {
-    Of(Worker),
-    /// The high band of a link.
-    High(u16),
-}
+use router_rules::{Queue, Worker};
 
 /// One act of one worker. One that the worker can't do now, or that names what isn't there, isn't
 /// possible.

@@ -5,12 +5,11 @@ ghost use Rattle.pipe_order.specs.Next.{next};
 ghost use Rattle.router_rules.specs.Rules.{rules};
 ghost use Rattle.pipe_model.specs.Step.{step_in};
 
-use crate::actor::{Actor, Channel};
 use crate::fault::StepFault;
-use crate::numbers::link_number;
 use crate::state::State;
 use crate::step::Step;
 use process_packet::Config;
+use router_rules::{Actor, Channel, link_index};
 use std::alloc::Global;
 
 impl State {
@@ -26,12 +25,12 @@ impl State {
         ensures err { OnErr result (self.new ≡ self.old) }
     {
         match step {
-            Step::Receive(id) => self.receive(config, link_number(config, id)),
-            Step::NoBuffer(id) => self.no_buffer(config, link_number(config, id)),
+            Step::Receive(id) => self.receive(config, link_index(config, id)),
+            Step::NoBuffer(id) => self.no_buffer(config, link_index(config, id)),
             Step::Offer(worker) => self.offer(config, Actor::named(config, worker)),
             Step::Refuse(worker) => self.refuse(config, Actor::named(config, worker)),
             Step::Take(queue) => self.take(config, Channel::named(config, queue)),
-            Step::Look(id) => self.look(config, link_number(config, id)),
+            Step::Look(id) => self.look(config, link_index(config, id)),
             Step::Route(i) => self.route(config, i),
             Step::Answer => self.answer(alloc, config),
             Step::Lack(worker) => self.lack(config, Actor::named(config, worker)),
@@ -41,7 +40,7 @@ impl State {
                 Actor::named(config, worker),
                 Channel::named(config, queue),
             ),
-            Step::Send(id, ok) => self.send(config, link_number(config, id), ok),
+            Step::Send(id, ok) => self.send(config, link_index(config, id), ok),
             Step::Sweep(queue) => self.sweep(config, Channel::named(config, queue)),
         }
     }

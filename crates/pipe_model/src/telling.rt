@@ -3,20 +3,22 @@
 ghost use Rattle.std.specs.Prelude.{◌≡◌, ◌+◌, sum};
 ghost use Rattle.pipe_model.specs.Shown.{place_of, sent_by, totals_of, waiting_of};
 
+use crate::bytes::Bytes;
 use crate::counting::{counts, in_hands, in_pipes};
 use crate::finding::find;
-use crate::outgoing::{Bytes, Outgoing};
 use crate::place::Place;
 use crate::world::World;
 use process_packet::Totals;
-use router_rules::{link_count, link_index};
+use router_rules::{Outgoing, link_count, link_index};
 
 impl World {
     /// What was sent by the link with this interface, in order; nothing where there is none.
     pub fn sent(&self, link: u16) -> &[(Outgoing, Bytes)]
         ensures { result.now ≡ sent_by self.now link }
     {
-        self.state.sent.on(link_index(&self.config, link))
+        self.state
+            .sent
+            .on(usize::from(link_index(&self.config, link)))
     }
 
     /// Where the packet with this number stands that came by the link with this interface; `None` where

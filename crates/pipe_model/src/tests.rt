@@ -1,11 +1,10 @@
 use crate::fault::StepFault;
-use crate::outgoing::Outgoing;
 use crate::place::Place;
 use crate::samples::{DATAGRAM, EXPIRED, IN_TIME, arrival, config, is_what_leaves};
-use crate::step::{Queue, Step, Worker};
+use crate::step::Step;
 use crate::world::{NoMemoryAt, World};
 use process_packet::{Bands, Cause, NoMemory, Totals};
-use router_rules::{link_count, link_index};
+use router_rules::{Outgoing, Queue, Worker, link_count, link_index};
 use std::alloc::Global;
 use std::test::*;
 

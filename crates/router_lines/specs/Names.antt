@@ -2,10 +2,10 @@
 use Rattle.std.specs.Prelude.{ℕ, nat_lt, if◌then◌else◌, List, Option, Some, None, codes, option_map}
 use Rattle.std.specs.Option.{option_or}
 use Rattle.std.specs.Str.{bytes_eq}
-use Rattle.pipe_model.specs.declared.step.Queue.{Queue}
-use Rattle.pipe_model.specs.declared.step.Queue.TheVariants.{Of, High}
-use Rattle.pipe_model.specs.declared.step.Worker.{Worker}
-use Rattle.pipe_model.specs.declared.step.Worker.TheVariants.{Receiver, Processor, Slow, Forwarder, Controller}
+use Rattle.router_rules.specs.declared.worker.Queue.{Queue}
+use Rattle.router_rules.specs.declared.worker.Queue.TheVariants.{Of, High}
+use Rattle.router_rules.specs.declared.worker.Worker.{Worker}
+use Rattle.router_rules.specs.declared.worker.Worker.TheVariants.{Receiver, Processor, Slow, Forwarder, Controller}
 use Rattle.process_packet.specs.Network.{has_link, network}
 use Rattle.process_packet.specs.declared.config.Config.{Config}
 use Rattle.router_config.specs.Pieces.{behind, number_up_to, ◌>>=◌}

@@ -5,7 +5,7 @@ use Rattle.process_packet.specs.declared.totals.Totals.{Totals}
 use Rattle.router_rules.specs.Links.{interface_at, link_count}
 use Rattle.pipe_model.specs.Pipeline.{Pipeline}
 use Rattle.pipe_model.specs.Shown.{sent_by, totals_of, waiting_of}
-use Rattle.pipe_model.specs.declared.outgoing.Outgoing.{Outgoing}
+use Rattle.router_rules.specs.declared.outgoing.Outgoing.{Outgoing}
 
 -- the step of this line wasn't possible
 abbrev pub not_now_text : ℕ → List ℕ

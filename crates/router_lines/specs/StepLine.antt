@@ -1,11 +1,11 @@
 -- The line of a replay that is a step.
 use Rattle.std.specs.Prelude.{ℕ, Bool, true, false, if◌then◌else◌, List, Option, Some, None, codes, option_map}
 use Rattle.std.specs.Str.{bytes_eq}
-use Rattle.pipe_model.specs.Step.{queue_in, worker_in}
-use Rattle.pipe_model.specs.declared.step.Queue.{Queue}
+use Rattle.router_rules.specs.Worker.{queue_in, worker_in}
+use Rattle.router_rules.specs.declared.worker.Queue.{Queue}
 use Rattle.pipe_model.specs.declared.step.Step.{Step}
 use Rattle.pipe_model.specs.declared.step.Step.TheVariants as step
-use Rattle.pipe_model.specs.declared.step.Worker.{Worker}
+use Rattle.router_rules.specs.declared.worker.Worker.{Worker}
 use Rattle.pipe_order.specs.Next.{feeds}
 use Rattle.process_packet.specs.declared.config.Config.{Config}
 use Rattle.router_config.specs.Pieces.{cut, ◌>>=◌}

@@ -32,7 +32,7 @@ pub fn add_arrival(
         → AreGathered config.now (ds ++ incoming_datagram incoming ∷ []) lists.new.items) }
 {
     let Incoming { arriving, bytes } = incoming;
-    let list = &mut lists[link_index(config, arriving.link)];
+    let list = &mut lists[usize::from(link_index(config, arriving.link))];
     let number = list.len() as u64 + 1;
     list.push(Arrival {
         link: arriving.link,

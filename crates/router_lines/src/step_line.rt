@@ -1,8 +1,7 @@
 //! The line of a replay that is a step.
 ghost use Rattle.std.specs.Prelude.{◌≡◌, Some, None, true, false};
-ghost use Rattle.pipe_model.specs.Step.{queue_in, worker_in};
-ghost use Rattle.pipe_order.specs.Next.{feeds, is_out, is_processor, is_slow};
-ghost use Rattle.process_packet.specs.declared.config.Config.{Config as Configured};
+ghost use Rattle.router_rules.specs.Worker.{queue_in, worker_in};
+ghost use Rattle.pipe_order.specs.Next.{feeds};
 ghost use Rattle.router_lines.specs.StepLine.{end_of, luck_of, named_step_of, send_of, step_of, step_of_line, step_with, verb_of};
 
 use crate::names::{
@@ -12,6 +11,7 @@ use crate::text::text_of;
 use pipe_model::{Queue, Step, Worker};
 use process_packet::Config;
 use router_config::pieces::cut;
+use router_rules::{Actor, Channel};
 
 /// The word by which a step begins; `answer` has nothing behind it and is none of these.
 #[derive(Clone, Copy, Debug, PartialEq, Eq)]
@@ -51,37 +51,11 @@ fn read_verb(word: &str) -> Option<Verb>
     }
 }
 
-/// Whether a pipe is that of a processor.
-fn is_processor(queue: Queue) -> bool
-    ensures { (c : Configured) → result ≡ is_processor (queue_in c queue) }
-{
-    matches!(queue, Queue::Of(Worker::Processor(_)))
-}
-
-/// Whether a pipe is that of the slow path.
-fn is_slow(queue: Queue) -> bool
-    ensures { (c : Configured) → result ≡ is_slow (queue_in c queue) }
-{
-    matches!(queue, Queue::Of(Worker::Slow))
-}
-
-/// Whether a pipe is that of a link.
-fn is_out(queue: Queue) -> bool
-    ensures { (c : Configured) → result ≡ is_out (queue_in c queue) }
-{
-    matches!(queue, Queue::High(_) | Queue::Of(Worker::Forwarder(_)))
-}
-
 /// Whether a worker pushes to a pipe.
-fn feeds(worker: Worker, queue: Queue) -> bool
-    ensures { (c : Configured) → result ≡ feeds (worker_in c worker) (queue_in c queue) }
+fn feeds(config: &Config, worker: Worker, queue: Queue) -> bool
+    ensures { result ≡ feeds (worker_in config.now worker) (queue_in config.now queue) }
 {
-    match worker {
-        Worker::Receiver(_) => is_processor(queue),
-        Worker::Processor(_) => is_slow(queue) || is_out(queue),
-        Worker::Slow | Worker::Controller => is_out(queue),
-        Worker::Forwarder(_) => false,
-    }
+    Actor::named(config, worker).feeds(Channel::named(config, queue))
 }
 
 /// The step by which a worker pushes its end mark to a pipe that it feeds.
@@ -92,7 +66,7 @@ fn read_end(config: &Config, text: &str) -> Option<Step>
     let (worker, queue) = cut(text, ' ')?;
     let worker = read_worker(config, worker)?;
     let queue = read_queue(config, queue)?;
-    if feeds(worker, queue) {
+    if feeds(config, worker, queue) {
         Some(Step::EndMark(worker, queue))
     } else {
         None

@@ -51,18 +51,18 @@ pub fn link_index(config: &Config, id: u16) -> u16
 }
 
 /// The interface of the link of this number to another AS.
-fn external_interface_at(config: &Config, index: u16) -> Option<u16>
+fn external_interface_at(config: &Config, index: usize) -> Option<u16>
     ensures { result ≡ find (λ id. Rattle.router_rules.specs.Links.rank config.now id == index) (map link_id config.now.links.items) }
 {
     config
         .links
         .iter()
         .map(|link| link.id)
-        .find(|id| rank(config, *id) == usize::from(index))
+        .find(|id| rank(config, *id) == index)
 }
 
 /// The interface of the link with this number; 0 where there is none.
-pub fn interface_at(config: &Config, index: u16) -> u16
+pub fn interface_at(config: &Config, index: usize) -> u16
     ensures { result ≡ interface_at config.now index }
 {
     if index == 0 {

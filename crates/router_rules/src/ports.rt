@@ -38,7 +38,7 @@ impl Ports {
         let mut two_bands = [false; 33];
         let count = link_count(config);
         for link in 0..count {
-            interfaces[link] = interface_at(config, link as u16);
+            interfaces[link] = interface_at(config, link);
             two_bands[link] = has_two_bands(config, link as u16);
         }
         Ports {

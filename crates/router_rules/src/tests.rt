@@ -65,14 +65,14 @@ fn numbers_links_by_their_interfaces(rt: HostRuntime) -> Result<(), Fail> {
     assert_eq!(rt; link_count(&config), 4);
     for (index, id) in [(0, 0), (1, 2), (2, 7), (3, 300)] {
         assert_eq!(rt; link_index(&config, id), index);
-        assert_eq!(rt; interface_at(&config, index), id);
+        assert_eq!(rt; interface_at(&config, usize::from(index)), id);
     }
     // none has these
     for id in [1, 3, 299, 301, u16::MAX] {
         assert_eq!(rt; link_index(&config, id), 4, "{id}");
     }
     assert_eq!(rt; interface_at(&config, 4), 0);
-    assert_eq!(rt; interface_at(&config, u16::MAX), 0);
+    assert_eq!(rt; interface_at(&config, usize::MAX), 0);
     Ok(())
 }
 

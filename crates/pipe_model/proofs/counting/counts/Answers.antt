@@ -12,7 +12,7 @@ pub returns : goal.returns
 returns c =
     let config = c.args.config.now in
     let told : Totals = record { received = c.taken_of.result; sent = c.packets_sent.result; answered = c.answers_sent.result; dropped = c.dropped.result } in
-    let received = c.taken_of.ensures ∙ ap (total (λ (p : Pipe kinds). p.taken)) (c.up_to.ensures ∙ ap (λ (k : ℕ). take k c.state.inside.pipes) c.link_count.ensures) in
+    let received = c.taken_of.ensures ∙ ap (total (λ (p : Pipe kinds). p.taken)) (c.up_to.ensures ∙ ap (λ (k : ℕ). take k c.state.inside.pipes) c.link_count.ensures.count) in
     let of_world : World kinds → Pipeline = λ w. record { config = config; world = w } in
     let P : World kinds → Type 0 = λ w. told ≡ totals_of (of_world w) in
     subst P c.state.view_is (λ i. record { received = received i; sent = c.packets_sent.ensures i; answered = c.answers_sent.ensures i; dropped = c.dropped.ensures i })

@@ -32,5 +32,5 @@ returns-then-is_among c =
     let here : has_in_pipe named (get_or ps i p) ≡ true =
     ap (has_in_pipe named) (sym c.index-pipes-i.is) ∙ (sym (ap (is_among named) c.held.ensures) ∙ (sym c.is_among.ensures ∙ c.if-is_among.true)) in
     let found = sym c.loop-i.invariant ∙ pipes_first R named ps (link_count config) i p true c.loop-i-test.true here in
-    let told = c.place_at.ensures ∙ ap (λ (k : ℕ). stands_in config (place_at R (k + i))) c.link_count-links.ensures in
+    let told = c.place_at.ensures ∙ ap (λ (k : ℕ). stands_in config (place_at R (k + i))) c.link_count-links.ensures.count in
     ap (λ (z : Stands). Some z) told ∙ sym (ap (λ (o : Option (Place kinds)). option_map (stands_in config) o) found)

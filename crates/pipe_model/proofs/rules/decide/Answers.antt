@@ -45,7 +45,7 @@ returns-in-Send c =
     let x = c.args.packet.now.came in
     let r = c.args.config.now in
     let bytes = c.in_ok-decision.bytes in
-    ap (λ (l : ℕ). next.Makes (Item.Out (record { arrived = x.link; number = x.number; answer = false; link = l; parcel = record { came_by = x.interface; to = c.in-Send.to; bytes = bytes } }))) c.link_number.ensures
+    ap (λ (l : ℕ). next.Makes (Item.Out (record { arrived = x.link; number = x.number; answer = false; link = l; parcel = record { came_by = x.interface; to = c.in-Send.to; bytes = bytes } }))) c.link_index.ensures.index
     ∙ made r x c.in_ok-decision.decision (decision.Send c.in-Send.link c.in-Send.to) bytes c.in_ok-decision.ensures.decision c.in_ok-decision.ensures.bytes c.in-Send.is
 
 pub returns-in-Answer : goal.returns-in-Answer

@@ -19,7 +19,7 @@ two_arrive c before there behind x y three at_one none two none_behind of_x of_y
 pub new-requires-3 : goal.new-requires-3
 new-requires-3 c =
     let config = c.in-Ok.config in
-    let three = sym c.link_count.ensures ∙ c.if-link_count-ne3.false in
-    let at_one = sym c.link_index.ensures ∙ c.if-link_index-ne1.false in
+    let three = sym c.link_count.ensures.count ∙ c.if-link_count-ne3.false in
+    let at_one = sym c.link_index.ensures.index ∙ c.if-link_index-ne1.false in
     let there = two_arrive config c.new.result c.in-Ok-from_array.of_link c.new-2.result c.in-Ok-Ok.one c.in-Ok-Ok.two three at_one c.new.ensures.items c.in-Ok-from_array.ensures.items c.new-2.ensures.items c.in-Ok-Ok.ensures c.in-Ok-Ok.ensures' in
     subst (AreArrivals config) (sym c.in-Ok-from_array-2.ensures.items) there

@@ -1,5 +1,6 @@
 use Rattle.std.proofs.Common.{◌≡◌, ◌+◌, ◌++◌, ◌∷◌, [], length, refl, rules, arith}
 use Rattle.process_packet.specs.declared.arrival.Arrival.{Arrival as Came}
+use Rattle.router_rules.specs.Links.{link_index}
 use Rattle.router_lines.specs.ArriveLine.{incoming_datagram}
 use Rattle.router_lines.proofs.GatheredLemmas.{added}
 use Rattle.router_lines.proofs.gathered.add_arrival.Goals as goal
@@ -11,5 +12,6 @@ returns c =
     let x : Came = record { link = i.arriving.link; number = c.len.result + 1; source = i.arriving.source; now = i.arriving.moment; bytes = i.bytes } in
     let behind : c.push.new.self.items ≡ xs.items ++ x ∷ [] = search rules in
     let number : c.len.result + 1 ≡ 1 + length xs.items = omega arith in
-    λ ds so_far. added c.args.config.now ds (incoming_datagram i) x c.link_index.result c.args.lists.now.items c.push.new.self xs c.link_index.ensures (search rules) c.index_mut-list.ensures.value
+    let at : c.from.result ≡ link_index c.args.config.now i.arriving.link = search rules in
+    λ ds so_far. added c.args.config.now ds (incoming_datagram i) x c.from.result c.args.lists.now.items c.push.new.self xs at (search rules) c.index_mut-list.ensures.value
     (record { same = refl; number = number; behind = behind }) so_far

@@ -15,6 +15,6 @@ loop-index-preserved c =
 pub returns : goal.returns
 returns c =
     let p = c.args.world.now in
-    let count : c.link_count-index-end.result ≡ link_count p.config = c.link_count-index-end.ensures ∙ ap link_count c.config-config.ensures in
+    let count : c.link_count-index-end.result ≡ link_count p.config = c.link_count-index-end.ensures.count ∙ ap link_count c.config-config.ensures in
     let last : c.loop-index.index ≡ c.link_count-index-end.result = omega arith in
     c.loop-index.invariant ∙ ap (λ (k : ℕ). c.args.text.now.items ++ flat_map (link_line p) (range_with_len 0 k)) (last ∙ count)

@@ -1,9 +1,9 @@
 use Rattle.std.proofs.Common.{◌∙◌, ap, List}
 use Rattle.pipe_order.specs.Pipe.{Pipe, has_end_of}
 use Rattle.router_rules.specs.Rules.{kinds}
-use Rattle.pipe_model.specs.Actor.{worker_of}
+use Rattle.router_rules.specs.Actor.{worker_of}
 use Rattle.pipe_model.specs.Ended.{has_ended}
-use Rattle.pipe_model.specs.declared.actor.Actor.{Actor}
+use Rattle.router_rules.specs.declared.actor.Actor.{Actor}
 use Rattle.pipe_model.proofs.pipe.Pipe.has_end_of.Goals as goal
 
 pub returns : goal.returns

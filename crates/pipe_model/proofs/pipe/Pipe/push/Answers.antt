@@ -2,7 +2,7 @@ use Rattle.std.proofs.Common.{◌≡◌, Bool, true, not, if◌then◌else◌, �
 use Rattle.pipe_order.specs.Item.{ends, has_close}
 use Rattle.pipe_order.specs.Pipe.{Entry}
 use Rattle.router_rules.specs.Rules.{kinds}
-use Rattle.pipe_model.specs.Actor.{worker_of}
+use Rattle.router_rules.specs.Actor.{worker_of}
 use Rattle.pipe_model.specs.Items.{item_in}
 use Rattle.pipe_model.proofs.KeptLemmas.{ended_pushed, marked_pushed, take_pushed}
 use Rattle.pipe_model.proofs.pipe.Pipe.push.Goals as goal

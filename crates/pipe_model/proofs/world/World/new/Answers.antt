@@ -1,10 +1,15 @@
-use Rattle.std.proofs.Common.{List, sym, ap, ◌∙◌, subst}
+use Rattle.std.proofs.Common.{List, sym, ap, ◌∙◌, subst, arith}
+use Rattle.std.proofs.lemmas.List.{length-map}
 use Rattle.pipe_order.specs.Pipe.{Pipe}
 use Rattle.pipe_order.specs.Start.{first_world}
+use Rattle.process_packet.specs.Neighbours.{link_id}
 use Rattle.router_rules.specs.Rules.{kinds, rules}
 use Rattle.pipe_model.specs.Headline.{IsReached}
 use Rattle.pipe_model.proofs.Starts.{begun_is_reached}
 use Rattle.pipe_model.proofs.world.World.new.Goals as goal
+
+pub sources-requires : goal.sources-requires
+sources-requires c = let links = c.args.config.links.items in omega (arith, c.requires.0, length-map links link_id, c.args.config.few_links)
 
 pub invariant_of-result : goal.invariant_of-result
 invariant_of-result c =

@@ -11,4 +11,4 @@ returns c =
     let config = c.self.inside.config in
     let P : Pipeline → Type 0 = λ p. c.find.result ≡ place_of p c.args.link c.args.number in
     subst P c.self.view_is
-    (c.find.ensures ∙ ap (λ (k : ℕ). option_map (stands_in config) (first (places (rules config) k c.args.number c.self.inside.state))) c.link_index.ensures)
+    (c.find.ensures ∙ ap (λ (k : ℕ). option_map (stands_in config) (first (places (rules config) k c.args.number c.self.inside.state))) c.link_index.ensures.index)

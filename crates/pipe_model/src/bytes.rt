@@ -1,21 +1,7 @@
-//! What leaves.
+//! The bytes of a datagram.
 
-use process_packet::Underlay;
 use std::alloc::AllocError;
 use std::marker::Model;
-
-/// A packet that left, or the answer to one, named by the packet's arriving link and its number there.
-#[derive(Clone, Copy, Debug, PartialEq, Eq)]
-pub struct Outgoing {
-    /// The interface by which the packet came; 0 is the internal network.
-    pub arrived: u16,
-    /// Its number among the datagrams of that link, from 1 on.
-    pub number: u64,
-    /// Whether this is the answer to it.
-    pub answer: bool,
-    /// To whom it leaves; absent on an external link.
-    pub to: Option<Underlay>,
-}
 
 /// The bytes of a datagram. Contracts see them as their list.
 #[derive(Debug, Drop)]
