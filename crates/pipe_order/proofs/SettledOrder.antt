@@ -133,10 +133,10 @@ module _ {K : Kinds} where
     fed i lt = by_producer (Fed i) (v.taken i) (λ p. fed_by i p lt)
 
     -- of what processor i took
-    abbrev IsKnown : ℕ → Arrival K → Type 0
+    abbrev pub IsKnown : ℕ → Arrival K → Type 0
     IsKnown i x = (x.link < R.links) × In x (told v x.link) × (R.processor (R.key x) ≡ i)
 
-    known : (i : ℕ) → i < R.processors → Each (λ (d : Deed K.Reason (Arrival K)). IsKnown i d.item) (v.worked i)
+    pub known : (i : ℕ) → i < R.processors → Each (λ (d : Deed K.Reason (Arrival K)). IsKnown i d.item) (v.worked i)
     known i lt =
         let law = s.workers i lt in
         let each : Each (λ (e : Pushed (Arrival K)). Each (IsKnown i) (payload_of e.load)) (v.taken i) =

@@ -1,0 +1,199 @@
+-- A forwarder's take, and who closes a link.
+use Rattle.std.proofs.Common.{◌≡◌, ◌⊎◌, inl, inr, ℕ, ◌+◌, Bool, true, false, not, eqb, ◌||◌, cond, List, [], ◌∷◌, ◌++◌, Option, Some, refl, sym, ◌∙◌, ap, subst, arith, append-nil}
+use Rattle.std.proofs.lemmas.Grind.{flat_map-append}
+use Rattle.std.proofs.lemmas.List.{map-append}
+use Rattle.std.proofs.lemmas.Bool.{cases_eq, ne_eqb, eq-eqb}
+use Rattle.pipe_order.specs.Kinds.{Kinds}
+use Rattle.pipe_order.specs.Item.{Outgoing}
+use Rattle.pipe_order.specs.Sent.{IsMerge}
+use Rattle.pipe_order.specs.Deeds.{Load, Payload, CloseMark, EndMark, Pushed, payload_of, payloads, of_producer, closes, has_mark, before_mark}
+use Rattle.pipe_order.proofs.Turns.{before_more, shut_more}
+use Rattle.pipe_order.specs.Counts.{total}
+use Rattle.pipe_order.proofs.Sums.{count-total, total-append}
+use Rattle.stage_laws.specs.Forwards.{Handed, AddsTo, WentOn, handed_items, refusals_of, KeepsForwarder, ClosedBy}
+
+right : (x y : Bool) → (x || y) ≡ false → y ≡ false
+right true y z = absurd cc
+right false y z = z
+
+left : (x y : Bool) → (x || y) ≡ false → x ≡ false
+left true y z = absurd cc
+left false y z = refl
+
+module _ {K : Kinds} where
+  merge_right : (b : List (Outgoing K)) → IsMerge [] b b
+  merge_right [] = (refl, refl)
+  merge_right (y ∷ b) = inr (b, refl, merge_right b)
+
+  merge_both : (a b : List (Outgoing K)) → IsMerge a b (a ++ b)
+  merge_both [] b = merge_right b
+  merge_both (x ∷ a) b = inl (a, refl, merge_both a b)
+
+  merge-append : (xs ys zs a b : List (Outgoing K)) → IsMerge xs ys zs → IsMerge (xs ++ a) (ys ++ b) (zs ++ (a ++ b))
+  merge-append xs ys [] a b h =
+      let P : List (Outgoing K) → Type 0 = λ p. IsMerge (p ++ a) (ys ++ b) (a ++ b) in
+      let Q : List (Outgoing K) → Type 0 = λ p. IsMerge a (p ++ b) (a ++ b) in
+      subst P (sym h.0) (subst Q (sym h.1) (merge_both a b))
+  merge-append xs ys (z ∷ zs) a b (inl h) = inl (h.0 ++ a, ap (λ (p : List (Outgoing K)). p ++ a) h.1, merge-append h.0 ys zs a b h.2)
+  merge-append xs ys (z ∷ zs) a b (inr h) = inr (h.0 ++ b, ap (λ (p : List (Outgoing K)). p ++ b) h.1, merge-append xs h.0 zs a b h.2)
+
+  -- what stands before the mark, one entry more
+  before_one : (es : List (Pushed (Outgoing K))) (e : Pushed (Outgoing K)) (o : Outgoing K) → has_mark es ≡ false → closes e.load ≡ false → payload_of e.load ≡ o ∷ [] → payloads (before_mark (es ++ e ∷ [])) ≡ payloads (before_mark es) ++ o ∷ []
+  before_one es e o unshut not_mark is =
+      let is_more : before_mark (es ++ e ∷ []) ≡ before_mark es ++ e ∷ [] = before_more es e ∙ rw (unshut, not_mark) refl in
+      ap payloads is_more ∙ flat_map-append (λ (x : Pushed (Outgoing K)). payload_of x.load) (before_mark es) (e ∷ [])
+      ∙ ap (λ (xs : List (Outgoing K)). payloads (before_mark es) ++ xs) (append-nil (payload_of e.load) ∙ is)
+
+  pub went_low : (low high : List (Pushed (Outgoing K))) (went : List (Outgoing K)) (e : Pushed (Outgoing K)) (o : Outgoing K) → has_mark low ≡ false → closes e.load ≡ false → payload_of e.load ≡ o ∷ []
+      → WentOn low high went → WentOn (low ++ e ∷ []) high (went ++ o ∷ [])
+  went_low low high went e o unshut not_mark is w =
+      let P : List (Outgoing K) → Type 0 = λ xs. IsMerge xs (payloads (before_mark high)) (went ++ o ∷ []) in
+      let Q : List (Outgoing K) → Type 0 = λ ys. IsMerge (payloads (before_mark low) ++ o ∷ []) ys (went ++ o ∷ []) in
+      let R : List (Outgoing K) → Type 0 = λ zs. IsMerge (payloads (before_mark low) ++ o ∷ []) (payloads (before_mark high) ++ []) (went ++ zs) in
+      subst P (sym (before_one low e o unshut not_mark is)) (subst Q (append-nil (payloads (before_mark high))) (subst R (append-nil (o ∷ [])) (merge-append (payloads (before_mark low)) (payloads (before_mark high)) went (o ∷ []) [] w)))
+
+  pub went_high : (low high : List (Pushed (Outgoing K))) (went : List (Outgoing K)) (e : Pushed (Outgoing K)) (o : Outgoing K) → has_mark high ≡ false → closes e.load ≡ false → payload_of e.load ≡ o ∷ []
+      → WentOn low high went → WentOn low (high ++ e ∷ []) (went ++ o ∷ [])
+  went_high low high went e o unshut not_mark is w =
+      let P : List (Outgoing K) → Type 0 = λ ys. IsMerge (payloads (before_mark low)) ys (went ++ o ∷ []) in
+      let Q : List (Outgoing K) → Type 0 = λ xs. IsMerge xs (payloads (before_mark high) ++ o ∷ []) (went ++ o ∷ []) in
+      subst P (sym (before_one high e o unshut not_mark is)) (subst Q (append-nil (payloads (before_mark low))) (merge-append (payloads (before_mark low)) (payloads (before_mark high)) went [] (o ∷ []) w))
+
+  of_rest : (e : Pushed (Outgoing K)) (es : List (Pushed (Outgoing K))) (b : Bool) → has_mark (cond b (e ∷ es) es) ≡ false → has_mark es ≡ false
+  of_rest e es true h = right (closes e.load) (has_mark es) h
+  of_rest e es false h = h
+
+  -- Where no other producer pushes a closing mark, a mark is there where this one pushed one.
+  pub closed_by : (c : ℕ) (es : List (Pushed (Outgoing K))) → ((p : ℕ) → (p ≡ c → ⊥) → has_mark (of_producer p es) ≡ false) → ClosedBy c es
+  closed_by c [] none = refl
+  closed_by c (e ∷ es) none = go (cases_eq e.from c) (closed_by c es (λ p n. of_rest e (of_producer p es) (eqb e.from p) (none p n)))
+    where
+      go : (e.from ≡ c) ⊎ (e.from ≡ c → ⊥) → has_mark es ≡ has_mark (of_producer c es) → has_mark (e ∷ es) ≡ has_mark (of_producer c (e ∷ es))
+      go (inl q) r = rw (eq-eqb e.from c q) (ap (λ (b : Bool). closes e.load || b) r)
+      go (inr n) r =
+          let mine = none e.from n in
+          let first : closes e.load ≡ false = left (closes e.load) (has_mark (of_producer e.from es)) (subst (λ (b : Bool). has_mark (cond b (e ∷ of_producer e.from es) (of_producer e.from es)) ≡ false) (eq-eqb e.from e.from refl) mine) in
+          rw (ne_eqb e.from c n, first) r
+
+module _ {K : Kinds} where
+  -- an entry that isn't for sending: a mark, or one after the closing mark
+  abbrev IsSilent : List (Pushed (Outgoing K)) → Pushed (Outgoing K) → Type 0
+  IsSilent es e = payloads (before_mark (es ++ e ∷ [])) ≡ payloads (before_mark es)
+
+  silent_after : (es : List (Pushed (Outgoing K))) (e : Pushed (Outgoing K)) → has_mark es ≡ true → IsSilent es e
+  silent_after es e shut =
+      let same : before_mark (es ++ e ∷ []) ≡ before_mark es = before_more es e ∙ rw (shut) refl in
+      ap payloads same
+
+  silent_mark : (es : List (Pushed (Outgoing K))) (e : Pushed (Outgoing K)) → payload_of e.load ≡ [] → IsSilent es e
+  silent_mark es e none = ap payloads (before_more es e) ∙ go (has_mark es) (closes e.load)
+    where
+      go : (b c : Bool) → payloads (cond b (before_mark es) (before_mark es ++ cond c [] (e ∷ []))) ≡ payloads (before_mark es)
+      go true c = refl
+      go false true = ap payloads (append-nil (before_mark es))
+      go false false =
+          flat_map-append (λ (x : Pushed (Outgoing K)). payload_of x.load) (before_mark es) (e ∷ []) ∙ ap (λ (xs : List (Outgoing K)). payloads (before_mark es) ++ xs) (append-nil (payload_of e.load) ∙ none)
+          ∙ append-nil (payloads (before_mark es))
+
+  low_silent : (low high : List (Pushed (Outgoing K))) (went : List (Outgoing K)) (e : Pushed (Outgoing K)) → IsSilent low e → WentOn low high went → WentOn (low ++ e ∷ []) high went
+  low_silent low high went e none w = subst (λ (xs : List (Outgoing K)). IsMerge xs (payloads (before_mark high)) went) (sym none) w
+
+  high_silent : (low high : List (Pushed (Outgoing K))) (went : List (Outgoing K)) (e : Pushed (Outgoing K)) → IsSilent high e → WentOn low high went → WentOn low (high ++ e ∷ []) went
+  high_silent low high went e none w = subst (λ (xs : List (Outgoing K)). IsMerge (payloads (before_mark low)) xs went) (sym none) w
+
+  -- a payload closes nothing
+  no_close : (e : Pushed (Outgoing K)) (o : Outgoing K) → payload_of e.load ≡ o ∷ [] → closes e.load ≡ false
+  no_close e o is = go e.load is
+    where
+      go : (l : Load (Outgoing K)) → payload_of l ≡ o ∷ [] → closes l ≡ false
+      go (Payload x) p = refl
+      go CloseMark p = absurd cc
+      go EndMark p = absurd cc
+
+  open_more : (es : List (Pushed (Outgoing K))) (e : Pushed (Outgoing K)) → has_mark es ≡ false → closes e.load ≡ false → false ≡ has_mark (es ++ e ∷ [])
+  open_more es e unshut not_mark = sym (shut_more es e ∙ rw (unshut, not_mark) refl)
+
+  shut_after : (es : List (Pushed (Outgoing K))) (e : Pushed (Outgoing K)) → has_mark es ≡ true → true ≡ has_mark (es ++ e ∷ [])
+  shut_after es e shut = sym (shut_more es e ∙ rw (shut) refl)
+
+  -- one handed to the sink more
+  items_one : (went : List (Handed K)) (h : Handed K) → handed_items (went ++ h ∷ []) ≡ handed_items went ++ h.item ∷ []
+  items_one went h = map-append (λ (h : Handed K). h.item) went (h ∷ [])
+
+  told_one : (told told' : Option (List (Handed K))) (went : List (Handed K)) (h : Handed K) → AddsTo told h told' → ((ts : List (Handed K)) → told ≡ Some ts → ts ≡ went) → (ts : List (Handed K)) → told' ≡ Some ts → ts ≡ went ++ h ∷ []
+  told_one told told' went h adds tells ts is = let a = adds ts is in a.2 ∙ ap (λ (xs : List (Handed K)). xs ++ h ∷ []) (tells a.0 a.1)
+
+  refusals_one : (went : List (Handed K)) (h : Handed K) → refusals_of (went ++ h ∷ []) ≡ refusals_of went + cond h.took 0 1
+  refusals_one went h =
+      let f : Handed K → ℕ = λ x. cond (not x.took) 1 0 in
+      count-total (λ (x : Handed K). not x.took) (went ++ h ∷ []) ∙ total-append f went (h ∷ []) ∙ go (total f went) (refusals_of went) h.took (sym (count-total (λ (x : Handed K). not x.took) went))
+    where
+      go : (m n : ℕ) (b : Bool) → m ≡ n → m + (cond (not b) 1 0 + 0) ≡ n + cond b 0 1
+      go m n true e = omega arith
+      go m n false e = omega arith
+
+  -- nothing was taken yet
+  pub forwards_none : (told : Option (List (Handed K))) (began : ℕ) → ((ts : List (Handed K)) → told ≡ Some ts → ts ≡ []) → KeepsForwarder [] [] [] false false told began began
+  forwards_none told began untold = record { order = (refl, refl); low_mark = refl; high_mark = refl; tells = untold; failures = omega arith }
+
+  module _ (went : List (Handed K)) (low high : List (Pushed (Outgoing K))) (e : Pushed (Outgoing K)) (low_shut high_shut : Bool) (told told' : Option (List (Handed K))) (began failed failed' : ℕ) where
+    -- one is taken of the low pipe, and handed to the sink
+    pub forwards_low : (h : Handed K) → payload_of e.load ≡ h.item ∷ [] → low_shut ≡ false → AddsTo told h told' → failed' ≡ failed + cond h.took 0 1 → KeepsForwarder went low high low_shut high_shut told began failed
+        → KeepsForwarder (went ++ h ∷ []) (low ++ e ∷ []) high false high_shut told' began failed'
+    forwards_low h is unshut adds fails k =
+        let none = sym k.low_mark ∙ unshut in
+        record {
+          order = subst (λ (xs : List (Outgoing K)). WentOn (low ++ e ∷ []) high xs) (sym (items_one went h)) (went_low low high (handed_items went) e h.item none (no_close e h.item is) is k.order);
+          low_mark = open_more low e none (no_close e h.item is);
+          high_mark = k.high_mark;
+          tells = told_one told told' went h adds k.tells;
+          failures = let a = k.failures in let b = refusals_one went h in omega arith;
+        }
+
+    -- one is taken of the high pipe, and handed to the sink
+    pub forwards_high : (h : Handed K) → payload_of e.load ≡ h.item ∷ [] → high_shut ≡ false → AddsTo told h told' → failed' ≡ failed + cond h.took 0 1 → KeepsForwarder went low high low_shut high_shut told began failed
+        → KeepsForwarder (went ++ h ∷ []) low (high ++ e ∷ []) low_shut false told' began failed'
+    forwards_high h is unshut adds fails k =
+        let none = sym k.high_mark ∙ unshut in
+        record {
+          order = subst (λ (xs : List (Outgoing K)). WentOn low (high ++ e ∷ []) xs) (sym (items_one went h)) (went_high low high (handed_items went) e h.item none (no_close e h.item is) is k.order);
+          low_mark = k.low_mark;
+          high_mark = open_more high e none (no_close e h.item is);
+          tells = told_one told told' went h adds k.tells;
+          failures = let a = k.failures in let b = refusals_one went h in omega arith;
+        }
+
+  module _ (went : List (Handed K)) (low high : List (Pushed (Outgoing K))) (e : Pushed (Outgoing K)) (low_shut high_shut : Bool) (told : Option (List (Handed K))) (began failed : ℕ) where
+    -- one is swept of the low pipe
+    pub sweeps_low : low_shut ≡ true → KeepsForwarder went low high low_shut high_shut told began failed → KeepsForwarder went (low ++ e ∷ []) high true high_shut told began failed
+    sweeps_low shut k =
+        let is = sym k.low_mark ∙ shut in
+        record { order = low_silent low high (handed_items went) e (silent_after low e is) k.order; low_mark = shut_after low e is; high_mark = k.high_mark; tells = k.tells; failures = k.failures }
+
+    -- one is swept of the high pipe
+    pub sweeps_high : high_shut ≡ true → KeepsForwarder went low high low_shut high_shut told began failed → KeepsForwarder went low (high ++ e ∷ []) low_shut true told began failed
+    sweeps_high shut k =
+        let is = sym k.high_mark ∙ shut in
+        record { order = high_silent low high (handed_items went) e (silent_after high e is) k.order; low_mark = k.low_mark; high_mark = shut_after high e is; tells = k.tells; failures = k.failures }
+
+    -- a mark is taken of the low pipe
+    pub marks_low : payload_of e.load ≡ [] → KeepsForwarder went low high low_shut high_shut told began failed → KeepsForwarder went (low ++ e ∷ []) high (low_shut || closes e.load) high_shut told began failed
+    marks_low none k =
+        record {
+          order = low_silent low high (handed_items went) e (silent_mark low e none) k.order;
+          low_mark = ap (λ (b : Bool). b || closes e.load) k.low_mark ∙ sym (shut_more low e);
+          high_mark = k.high_mark;
+          tells = k.tells;
+          failures = k.failures;
+        }
+
+    -- a mark is taken of the high pipe
+    pub marks_high : payload_of e.load ≡ [] → KeepsForwarder went low high low_shut high_shut told began failed → KeepsForwarder went low (high ++ e ∷ []) low_shut (high_shut || closes e.load) told began failed
+    marks_high none k =
+        record {
+          order = high_silent low high (handed_items went) e (silent_mark high e none) k.order;
+          low_mark = k.low_mark;
+          high_mark = ap (λ (b : Bool). b || closes e.load) k.high_mark ∙ sym (shut_more high e);
+          tells = k.tells;
+          failures = k.failures;
+        }

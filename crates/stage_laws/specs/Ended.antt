@@ -1,0 +1,82 @@
+-- What holds of a running pipeline that has ended: the premises that the workers give, and what follows.
+use Rattle.std.specs.Prelude.{◌≡◌, ◌<◌, ◌≤◌, ◌+◌, ℕ, Bool, true, false, ◌&&◌, List, [], ◌++◌, length, if◌then◌else◌}
+use Rattle.pipe_order.specs.Kinds.{Kinds}
+use Rattle.pipe_order.specs.Item.{Arrival, Outgoing}
+use Rattle.pipe_order.specs.Rules.{Rules, Sends, Asks, Replies, IsLawful}
+use Rattle.pipe_order.specs.Counts.{total, count}
+use Rattle.pipe_order.specs.World.{link_pipe}
+use Rattle.pipe_order.specs.Deeds.{payloads, of_producer, Each, Ending, Accepted, Refused, Lacked, Counted, Deed}
+use Rattle.pipe_order.specs.Settled.{Question, Views, IsTold, IsLinkPipe, Settled, SettlesInOrder}
+use Rattle.pipe_order.specs.Counted.{sum_to, SlowViews, place_of, link_pipes}
+use Rattle.stage_laws.specs.Works.{IsOffered, LacksNothing}
+use Rattle.stage_laws.specs.Answers.{SlowLaw}
+use Rattle.stage_laws.specs.Receives.{IsClear, lacks}
+use Rattle.stage_laws.specs.Forwards.{Handed, handed_items, WentOn}
+use Rattle.stage_laws.specs.Weighed.{IsPlaced}
+
+-- ---- the premises, over the gathered views
+
+pub record Ended {K : Kinds} (R : Rules K) (v : Views K) (s : SlowViews K) (went : ℕ → List (Handed K)) (closed : ℕ → Bool) : Type 0 where
+  pub settled : Settled R v
+  pub clear : (p : ℕ) → p < R.links → Each (IsClear R) (v.received p)
+  pub offered : (i : ℕ) → i < R.processors → Each (IsOffered R) (v.worked i)
+  pub slow : SlowLaw R s.worked s.taken s.leaving s.leaving_full
+  pub middle : (i : ℕ) → i < R.processors → of_producer i s.taken ≡ v.asked i
+  pub middle_only : (i : ℕ) → R.processors ≤ i → of_producer i s.taken ≡ []
+  pub outer_slow : (j : ℕ) → j < link_pipes R → of_producer R.processors (v.forwarded (place_of R j)) ≡ s.leaving (place_of R j)
+  pub outer_marks : (j : ℕ) → j < link_pipes R → payloads (of_producer (R.processors + 1) (v.forwarded (place_of R j))) ≡ []
+  pub outer_none : (j p : ℕ) → j < link_pipes R → R.processors + 2 ≤ p → of_producer p (v.forwarded (place_of R j)) ≡ []
+  pub sinks : (l : ℕ) → l < R.links → WentOn (v.forwarded (link_pipe R false l)) (v.forwarded (link_pipe R true l)) (handed_items (went l))
+  -- who closed: the controller alone, both bands
+  pub low_shut : (l : ℕ) → l < R.links → v.shut (link_pipe R false l) ≡ closed l
+  pub high_shut : (l : ℕ) → l < R.links → v.shut (link_pipe R true l) ≡ (closed l && R.two_bands l)
+  -- from the pool of buffers on processors and the slow path lack nothing
+  pub unlacked : (i : ℕ) → i < R.processors → Each (λ (d : Deed K.Reason (Arrival K)). LacksNothing d.end) (v.worked i)
+  pub unlacked_slow : Each (λ (d : Deed K.Reason (Question K)). LacksNothing d.end) s.worked
+
+-- ---- what follows
+
+module _ {C : Type 0} where
+  abbrev pub was_counted : (C → Bool) → Ending C → ℕ
+  was_counted test Accepted = 0
+  was_counted test Refused = 0
+  was_counted test Lacked = 0
+  was_counted test (Counted c) = if test c then 1 else 0
+
+module _ {C X : Type 0} where
+  abbrev pub counted_in : (C → Bool) → List (Deed C X) → ℕ
+  counted_in test log = total (λ d. was_counted test d.end) log
+
+module _ {K : Kinds} where
+  -- an answer is the reply to the problem that was decided for a packet of its name
+  abbrev pub IsAnswerTo : Rules K → Views K → Outgoing K → Type 0
+  IsAnswerTo R v o =
+      o.answer ≡ true → (x : Arrival K) × (p : K.Problem) × IsTold v x × (R.decide x ≡ Asks p) × (R.reply x p ≡ Replies o.link o.parcel) × (x.link ≡ o.arrived) × (x.number ≡ o.number)
+
+  -- a packet that leaves is its arrival's
+  abbrev pub IsPacketOf : Rules K → Views K → Outgoing K → Type 0
+  IsPacketOf R v o = o.answer ≡ false → (x : Arrival K) × IsTold v x × (R.decide x ≡ Sends o.link o.parcel) × (x.link ≡ o.arrived) × (x.number ≡ o.number)
+
+  -- dropped by the rules, for some reasons
+  abbrev pub ruled_count : Rules K → Views K → SlowViews K → (K.Reason → Bool) → ℕ
+  ruled_count R v s test = sum_to R.links (λ p. counted_in test (v.received p)) + sum_to R.processors (λ i. counted_in test (v.worked i)) + counted_in test s.worked
+
+  abbrev pub no_buffer_count : Rules K → Views K → ℕ
+  no_buffer_count R v = sum_to R.links (λ p. lacks (v.received p))
+
+  abbrev pub went_count : Rules K → (ℕ → List (Handed K)) → (Handed K → Bool) → ℕ
+  went_count R went test = sum_to R.links (λ l. count test (went l))
+
+  abbrev pub swept_count : Rules K → Views K → ℕ
+  swept_count R v = sum_to (link_pipes R) (λ j. length (v.swept (place_of R j)))
+
+pub record HasEnded {K : Kinds} (R : Rules K) (v : Views K) (s : SlowViews K) (went : ℕ → List (Handed K)) (closed : ℕ → Bool) : Type 0 where
+  pub order : SettlesInOrder R v
+  pub place : (w : (link number : ℕ) → ℕ) → IsPlaced w R v s
+  pub packets : (q : ℕ) → IsLinkPipe R q → Each (IsPacketOf R v) (v.handed q ++ v.swept q)
+  pub answers : (q : ℕ) → IsLinkPipe R q → Each (IsAnswerTo R v) (v.handed q ++ v.swept q)
+  pub not_closed : (l : ℕ) → l < R.links → closed l ≡ false → (v.swept (link_pipe R false l) ≡ []) × (v.swept (link_pipe R true l) ≡ [])
+
+-- Of workers that keep their laws over pipes that hold nothing any more.
+abbrev pub Ends : Kinds → Type 0
+Ends K = (R : Rules K) (v : Views K) (s : SlowViews K) (went : ℕ → List (Handed K)) (closed : ℕ → Bool) → IsLawful R (IsTold v) → Ended R v s went closed → HasEnded R v s went closed

@@ -1,0 +1,41 @@
+-- What a forwarder took of the two pipes of its link, the law that it keeps, and who closed it.
+use Rattle.std.specs.Prelude.{◌≡◌, ◌+◌, ℕ, Bool, not, List, [], ◌∷◌, ◌++◌, map, Option, Some}
+use Rattle.pipe_order.specs.Kinds.{Kinds}
+use Rattle.pipe_order.specs.Item.{Outgoing}
+use Rattle.pipe_order.specs.Sent.{IsMerge}
+use Rattle.pipe_order.specs.Counts.{count}
+use Rattle.pipe_order.specs.Deeds.{Pushed, payloads, of_producer, has_mark, before_mark}
+
+-- what a forwarder handed to its sink, and whether that took it
+pub record Handed (K : Kinds) : Type 0 where
+  pub item : Outgoing K
+  pub took : Bool
+
+module _ {X : Type 0} where
+  -- one entry more, where it tells
+  abbrev pub AddsTo : Option (List X) → X → Option (List X) → Type 0
+  AddsTo old x new = (after : List X) → new ≡ Some after → (before : List X) × (old ≡ Some before) × (after ≡ before ++ x ∷ [])
+
+module _ {K : Kinds} where
+  -- what went to the sink is what was taken for sending of both pipes, of each in its order
+  abbrev pub WentOn : (low high : List (Pushed (Outgoing K))) → List (Outgoing K) → Type 0
+  WentOn low high went = IsMerge (payloads (before_mark low)) (payloads (before_mark high)) went
+
+  -- only one producer ever pushes a closing mark
+  abbrev pub ClosedBy : ℕ → List (Pushed (Outgoing K)) → Type 0
+  ClosedBy controller es = has_mark es ≡ has_mark (of_producer controller es)
+
+  abbrev pub handed_items : List (Handed K) → List (Outgoing K)
+  handed_items went = map (λ (h : Handed K). h.item) went
+
+  abbrev pub refusals_of : List (Handed K) → ℕ
+  refusals_of went = count (λ (h : Handed K). not h.took) went
+
+-- What a forwarder handed to its sink is what it took of both pipes before their closing marks, and what its sink tells,
+-- where it tells.
+pub record KeepsForwarder {K : Kinds} (went : List (Handed K)) (low high : List (Pushed (Outgoing K))) (low_shut high_shut : Bool) (told : Option (List (Handed K))) (began failed : ℕ) : Type 0 where
+  pub order : WentOn low high (handed_items went)
+  pub low_mark : low_shut ≡ has_mark low
+  pub high_mark : high_shut ≡ has_mark high
+  pub tells : (ts : List (Handed K)) → told ≡ Some ts → ts ≡ went
+  pub failures : failed ≡ began + refusals_of went

@@ -1,0 +1,9 @@
+pub mod Ends
+pub mod Marks
+pub mod Works
+pub mod Answers
+pub mod Weighed
+pub mod Receives
+pub mod Gathers
+pub mod Forwards
+pub mod Ended
