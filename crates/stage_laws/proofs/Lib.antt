@@ -4,5 +4,6 @@ pub mod Weighed
 pub mod Receives
 pub mod Gathers
 pub mod Forwards
+pub mod Counting
 pub mod Placed
 pub mod Settling

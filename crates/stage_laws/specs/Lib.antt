@@ -6,4 +6,5 @@ pub mod Weighed
 pub mod Receives
 pub mod Gathers
 pub mod Forwards
+pub mod Counting
 pub mod Ended
