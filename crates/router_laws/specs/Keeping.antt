@@ -1,0 +1,44 @@
+-- The laws that the workers of a router keep, each with its log first.
+use Rattle.std.specs.Prelude.{◌≡◌, ℕ, Bool, List, length, Option}
+use Rattle.pipe_order.specs.Item.{Arrival, Outgoing}
+use Rattle.pipe_order.specs.Deeds.{Deed, done_items}
+use Rattle.pipe_order.specs.Settled.{Question}
+use Rattle.process_packet.specs.declared.cause.Cause.{Cause}
+use Rattle.process_packet.specs.declared.config.Config.{Config}
+use Rattle.packet_ledger.specs.Share.{Held}
+use Rattle.ruled_pipe.specs.Producer.{Sender}
+use Rattle.ruled_pipe.specs.Consumer.{Taker}
+use Rattle.router_rules.specs.Rules.{kinds, rules}
+use Rattle.stage_laws.specs.Ends.{pushes}
+use Rattle.stage_laws.specs.Works.{Keeps}
+use Rattle.stage_laws.specs.Answers.{KeepsAnswers}
+use Rattle.stage_laws.specs.Receives.{KeepsReceiver, lacks}
+use Rattle.stage_laws.specs.Forwards.{Handed, KeepsForwarder}
+use Rattle.stage_laws.specs.Counting.{counted_receiving, counted_working, counted_answering, counted_forwarding}
+use Rattle.router_laws.specs.Heard.{Heard, TellsOf}
+use Rattle.router_laws.specs.Shares.{Counts}
+
+-- The receiver of a link, which numbered so many datagrams, and looked so often for a buffer in vain.
+pub record IsReceiving (c : Config) (link interface number : ℕ) (told : Option (List Heard)) (looks : List ℕ) (senders : List (Sender (Arrival kinds))) (share : Held) : Type 0 where
+  pub log : List (Deed Cause (Arrival kinds))
+  pub law : KeepsReceiver (rules c) link log senders
+  pub count : length (done_items log) ≡ number
+  pub tells : TellsOf link interface told (done_items log)
+  pub lacked : lacks log ≡ length looks
+  pub counts : Counts share (counted_receiving {K = kinds} log)
+
+pub record IsWorking (c : Config) (taker : Taker (Arrival kinds)) (hand : Option (Arrival kinds)) (senders : List (Sender (Outgoing kinds))) (slow : Sender (Question kinds)) (share : Held) : Type 0 where
+  pub log : List (Deed Cause (Arrival kinds))
+  pub law : Keeps (rules c) log taker hand senders slow
+  pub counts : Counts share (counted_working (rules c) log)
+
+pub record IsAnswering (c : Config) (taker : Taker (Question kinds)) (senders : List (Sender (Outgoing kinds))) (share : Held) : Type 0 where
+  pub log : List (Deed Cause (Question kinds))
+  pub law : KeepsAnswers (rules c) log taker senders
+  pub counts : Counts share (counted_answering {K = kinds} log)
+
+-- A forwarder, which began with so many failures of its sink.
+pub record IsForwarding (low high : Taker (Outgoing kinds)) (low_shut high_shut : Bool) (told : Option (List (Handed kinds))) (began failed : ℕ) (share : Held) : Type 0 where
+  pub went : List (Handed kinds)
+  pub law : KeepsForwarder went (pushes low.taken) (pushes high.taken) low_shut high_shut told began failed
+  pub counts : Counts share (counted_forwarding went (pushes low.taken) (pushes high.taken))
