@@ -1,0 +1,145 @@
+-- A lawful start: a packet that sets out on a path over beaconed segments, and what becomes of it.
+use Rattle.std.specs.Prelude.{◌≡◌, ◌≤◌, ◌<◌, ◌⊎◌, ◌-◌, ℕ, suc, false, List, length, Option, Some, None, if◌then◌else◌}
+use Rattle.scion_packet.specs.Header.{HostAddress, host_code}
+use Rattle.scion_packet.specs.Packet.{IsPacket, Packet, spelling}
+use Rattle.scion_packet.specs.Path.{Place, count_hops, place_at}
+use Rattle.process_packet.specs.declared.decision.Problem.{Problem}
+use Rattle.process_packet.specs.declared.underlay.Underlay.{Underlay}
+use Rattle.process_packet.specs.Request.{is_request}
+use Rattle.process_packet.specs.Rows.{Sent}
+use Rattle.scmp_answer.specs.Outcome.{IfSent, IsGood}
+use Rattle.scmp_answer.specs.Reply.{is_left_unanswered, reply}
+use Rattle.scmp_answer.specs.Reply as answers
+use Rattle.scmp_answer.specs.WayBack.{is_external}
+use Rattle.walk_laws.specs.Beacon.{beta_met}
+use Rattle.walk_laws.specs.PathSegments.{AreUnexpired, PathSegment, IsMet, IsPathOver, met, part, route_over, segments_of, stretch_of}
+use Rattle.walk_laws.specs.Hosts.{IsReachedAt}
+use Rattle.walk_laws.specs.Net.{Agrees, IsOf, Net, Router, router_at}
+use Rattle.walk_laws.specs.Reply.{domain_of}
+use Rattle.walk_laws.specs.Route.{IsRoute}
+use Rattle.walk_laws.specs.Start.{outset}
+use Rattle.walk_laws.specs.Stands.{PacketAt, IsHostOf}
+use Rattle.walk_laws.specs.Stop.{IsAsked, IsCarried, verdict_at}
+use Rattle.walk_laws.specs.Walk.{Walks}
+
+-- ---- the hosts
+
+-- an IPv4 or an IPv6 host
+pub data IsIpHost : HostAddress → Type 0 where
+  ip_4 : {a : HostAddress} → a.kind ≡ 0 → host_code a ≡ 0 → IsIpHost a
+  ip_6 : {a : HostAddress} → a.kind ≡ 0 → host_code a ≡ 3 → IsIpHost a
+
+-- The router knows where the host is reached: an IPv4 or IPv6 host at its own address, a service at the one that the AS configures.
+pub record IsKnown (x : Router) (a : HostAddress) : Type 0 where
+  pub at : Underlay
+  pub reached : IsReachedAt x.network a at
+
+-- ---- the start
+
+abbrev pub last_met : List PathSegment → Place
+last_met ss = place_at (length ss - 1) (length (part ss (length ss - 1)).made - 1)
+
+-- One to three stretches of beaconed segments, no hop expired. The packet has the segments of this path, each with the
+-- identifier of the hop that is travelled first, and the cursor at the first hop. It is from a host of the first AS and for a
+-- host or service of the last one, has the length that it tells, and is no longer than any link carries. It comes from inside,
+-- on link 0, to the router with the first interface by which it leaves.
+pub record SetsOutOn (net : Net) (ss : List PathSegment) (moment : ℕ) (a : PacketAt) : Type 0 where
+  pub path : IsPathOver net ss
+  pub unexpired : (k : ℕ) → k < length ss → AreUnexpired (part ss k) moment
+  pub segments : a.packet.path.segments ≡ segments_of ss
+  pub identifiers : (k : ℕ) → k < length ss → (part ss k).info.segment_id ≡ beta_met (stretch_of (part ss k)) 0
+  pub cursor : a.packet.path.place ≡ outset
+  pub lawful : IsPacket a.packet
+  pub whole : a.packet.header.payload_length ≡ length a.packet.payload
+  pub short : length (spelling a.packet) ≤ 9216
+  pub source : IsHostOf a.packet.header.source (met ss outset).home
+  pub destination : IsHostOf a.packet.header.destination (met ss (last_met ss)).home
+  pub from_host : IsIpHost a.packet.header.source
+  pub to_host : (r : ℕ) (x : Router) → router_at net r ≡ Some x → IsOf x (met ss (last_met ss)).home → IsKnown x a.packet.header.destination
+  pub link : a.link ≡ 0
+  pub router : a.router ≡ (if (part ss 0).info.along then (met ss outset).sent_by else (met ss outset).taken_by)
+
+-- No hop field's flag asks for an answer, or no request follows the header.
+abbrev pub AsksNothing : List PathSegment → Packet → Type 0
+AsksNothing ss p =
+    ((at : Place) → IsMet ss at → ((met ss at).field.ingress_alert ≡ false) × ((met ss at).field.egress_alert ≡ false))
+    ⊎ (is_request p.header.next_header p.payload ≡ false)
+
+pub record LawfulStart (net : Net) (ss : List PathSegment) (moment : ℕ) (a : PacketAt) : Type 0 where
+  pub sets_out : SetsOutOn net ss moment a
+  pub quiet : AsksNothing ss a.packet
+
+-- ---- what becomes of it
+
+-- The walk ends in delivery: a router of the host's AS sends the packet, on link 0, to the host's address, with the header and
+-- the payload that it had.
+pub record ReachesHost (net : Net) (moment n : ℕ) (a : PacketAt) (host : HostAddress) : Type 0 where
+  pub end : PacketAt
+  pub walk : Walks net moment n a end
+  pub here : Router
+  pub here_is : router_at net end.router ≡ Some here
+  pub home : IsHostOf host (domain_of here)
+  pub to : Underlay
+  pub address : IsReachedAt here.network host to
+  pub sent : Packet
+  pub delivery : verdict_at here end moment ≡ Sent 0 (Some to) sent
+  pub header : sent.header ≡ a.packet.header
+  pub payload : sent.payload ≡ a.packet.payload
+
+-- The answer is sent the way by which the packet came, comes to a router there, and from there to this host.
+pub record IsCarriedBack (net : Net) (moment : ℕ) (b : PacketAt) (x : Router) (here : HostAddress) (problem : Problem) (host : HostAddress) : Type 0 where
+  pub answer : Packet
+  pub sent : reply here b.link b.source (spelling b.packet) problem ≡ answers.Sent b.link (if is_external b.link then None else Some b.source) answer
+  pub first : PacketAt
+  pub carried : IsCarried net b.router x b.link (if is_external b.link then None else Some b.source) first
+  pub packet : first.packet ≡ answer
+  pub reaches : ReachesHost net moment 127 first host
+
+-- From the first stop the answer goes straight to where the packet came from, from a later one to its source host.
+pub data IsAnswered (net : Net) (moment : ℕ) (start : PacketAt) (x : Router) (here : HostAddress) (problem : Problem) : PacketAt → Type 0 where
+  straight : (answer : Packet) → answer.header.destination ≡ start.packet.header.source
+      → reply here start.link start.source (spelling start.packet) problem ≡ answers.Sent 0 (Some start.source) answer
+      → IsAnswered net moment start x here problem start
+  back : {b : PacketAt} → IsCarriedBack net moment b x here problem start.packet.header.source → IsAnswered net moment start x here problem b
+
+-- At this stop, for each problem, if it may be answered at all: `good` is what `answer` promises of each answer that it writes.
+abbrev pub IsAnswerable : Net → ℕ → PacketAt → PacketAt → Type 0
+IsAnswerable net moment start b =
+    (x : Router) (here : HostAddress) (problem : Problem) → router_at net b.router ≡ Some x → IsHostOf here (domain_of x)
+    → is_left_unanswered b.packet problem ≡ false → IfSent (reply here b.link b.source (spelling b.packet) problem) IsGood
+    → IsAnswered net moment start x here problem b
+
+-- a walk each of whose stops is such
+pub data WalksBy (net : Net) (moment : ℕ) (such : PacketAt → Type 0) : ℕ → PacketAt → PacketAt → Type 0 where
+  is_there : {n : ℕ} {a : PacketAt} → such a → WalksBy net moment such n a a
+  goes : {n : ℕ} {a b z : PacketAt} (x : Router) (out : ℕ) (to : Option Underlay) → such a → router_at net a.router ≡ Some x
+      → verdict_at x a moment ≡ Sent out to b.packet → IsCarried net a.router x out to b → WalksBy net moment such n b z → WalksBy net moment such (suc n) a z
+
+-- In at most 128 stops the packet is delivered to its destination, and an answer to it from any of them comes back.
+pub record IsWalked (net : Net) (moment : ℕ) (a : PacketAt) : Type 0 where
+  pub reaches : ReachesHost net moment 127 a a.packet.header.destination
+  pub stops : WalksBy net moment (IsAnswerable net moment a) 127 a reaches.end
+
+-- Or it is a request, and the last stop's router answers it.
+pub record IsAskedOnTheWay (net : Net) (ss : List PathSegment) (moment : ℕ) (a : PacketAt) : Type 0 where
+  pub end : PacketAt
+  pub stops : WalksBy net moment (IsAnswerable net moment a) 127 a end
+  pub here : Router
+  pub here_is : router_at net end.router ≡ Some here
+  pub asked : IsAsked (route_over ss) a.packet.header.next_header a.packet.payload (verdict_at here end moment)
+
+-- ---- the laws
+
+-- a path over segments whose AS entries are wired one to the next, no AS met twice, is a route
+abbrev pub HopsMakeRoutes : Type 0
+HopsMakeRoutes =
+    (net : Net) (ss : List PathSegment) (moment : ℕ) → Agrees net → IsPathOver net ss → ((k : ℕ) → k < length ss → AreUnexpired (part ss k) moment)
+    → count_hops (segments_of ss) ≤ 64 → IsRoute net (route_over ss) moment
+
+abbrev pub LawfulStartsAreWalked : Type 0
+LawfulStartsAreWalked = (net : Net) (ss : List PathSegment) (moment : ℕ) (a : PacketAt) → Agrees net → LawfulStart net ss moment a → IsWalked net moment a
+
+abbrev pub RequestsAreWalked : Type 0
+RequestsAreWalked =
+    (net : Net) (ss : List PathSegment) (moment : ℕ) (a : PacketAt) → Agrees net → SetsOutOn net ss moment a
+    → IsWalked net moment a ⊎ IsAskedOnTheWay net ss moment a
