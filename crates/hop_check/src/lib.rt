@@ -6,8 +6,10 @@
 //! handed in. Nothing here takes memory.
 #![tactic(auto)]
 
+mod beaconing;
 mod expiry;
 mod mac;
 
+pub use beaconing::beacon;
 pub use expiry::expired;
 pub use mac::{chain, mac_input, verify};

@@ -62,3 +62,28 @@ fn expires_behind_the_last_moment(rt: HostRuntime) {
     assert!(rt; expired(&info(), &hop(255, [0; 6]), u64::MAX));
     assert!(rt; !expired(&info(), &hop(0, [0; 6]), 0));
 }
+
+fn hop_between(ingress: u16, egress: u16) -> Hop {
+    let mut made = hop(0x3f, [0; 6]);
+    made.construction_ingress = ingress;
+    made.construction_egress = egress;
+    made
+}
+
+// The MACs of three ASes in a row, each with a key of its own, by OpenSSL.
+#[test]
+fn beacons_three_hops(rt: HostRuntime) {
+    let first: u128 = 0x000102030405060708090a0b0c0d0e0f;
+    let last: u128 = 0x101112131415161718191a1b1c1d1e1f;
+    let keys = [
+        Cmac::new(&first.to_be_bytes()),
+        Cmac::new(&KEY),
+        Cmac::new(&last.to_be_bytes()),
+    ];
+    let mut hops = [hop_between(0, 17), hop_between(1, 2), hop_between(18, 0)];
+    beacon(&keys, 0x1234, 1694498816, &mut hops);
+    assert!(rt; hops[0].mac == [0x63, 0x49, 0xaa, 0x95, 0xd7, 0x7c]);
+    assert!(rt; hops[1].mac == [0x61, 0x93, 0xb6, 0x54, 0x9f, 0x1e]);
+    assert!(rt; hops[2].mac == [0x26, 0xd8, 0x50, 0xac, 0x58, 0xd3]);
+    assert!(rt; hops[1].construction_egress == 2);
+}

@@ -2,7 +2,7 @@
 use Rattle.std.proofs.Common.{◌≡◌, ◌<◌, ◌+◌, ℕ, zero, suc, false, List, [], slice_index_or, Some, refl, sym, ap, arith, inl}
 use Rattle.field_rows.specs.Place.{IsBytes}
 use Rattle.hop_check.specs.Mac.{mac6}
-use Rattle.walk_laws.specs.Beacon.{beta_at, hop_at}
+use Rattle.hop_check.specs.Beaconing.{beta_at, hop_at}
 use Rattle.scion_packet.specs.Path.{InfoField}
 use Rattle.segment_switch.specs.declared.kind.LinkKind.TheVariants.{Child}
 use Rattle.walk_laws.specs.Example.{address, beta_0, link_to, example_key, example_net, first_router, last_router, middle_router, info_along}

@@ -7,7 +7,7 @@ use Rattle.scion_packet.specs.Header.{IsAddress, common_table, front_len}
 use Rattle.scion_packet.specs.Packet.{IsPacket, spelling}
 use Rattle.scion_packet.specs.Path.{IsHop, info_table, meta_table, path_text, place_at}
 use Rattle.process_packet.specs.declared.underlay.Ip.TheVariants.{V4}
-use Rattle.walk_laws.specs.Beacon.{beta_met}
+use Rattle.walk_laws.specs.Stretch.{beta_met}
 use Rattle.walk_laws.specs.Example.{example_net, hop_0, hop_1, hop_2, info_along}
 use Rattle.walk_laws.specs.ExampleHops.{example_packet, example_path, example_start}
 use Rattle.walk_laws.specs.PathSegments.{AreUnexpired, IsBeaconed, IsPathOver, met, part, stretch_of}

@@ -4,7 +4,7 @@ use Rattle.field_rows.specs.Place.{IsBytes}
 use Rattle.scion_packet.specs.Path.{place_at}
 use Rattle.segment_switch.specs.Pairs.{changes_over}
 use Rattle.segment_switch.specs.declared.kind.LinkKind.TheVariants.{Child}
-use Rattle.walk_laws.specs.Beacon.{AreBeaconed}
+use Rattle.hop_check.specs.Beaconing.{AreBeaconed}
 use Rattle.walk_laws.specs.Example.{address, example_key, link_to}
 use Rattle.walk_laws.specs.ExampleTurn.{down, family, one_child, other_child, parent, turn, up}
 use Rattle.walk_laws.specs.PathSegments.{AreWired, HasItsKey, IsBeaconed, IsPathOver, fields_of, keys_of, kind_before, kind_after, entry_at, met, part}

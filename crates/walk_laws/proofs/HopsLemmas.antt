@@ -8,9 +8,9 @@ use Rattle.scion_packet.proofs.Offsets.{hops_in_is}
 use Rattle.segment_switch.specs.declared.kind.LinkKind.TheVariants.{Core, Parent, Child}
 use Rattle.process_packet.specs.declared.neighbours.Link.{Link}
 use Rattle.process_packet.specs.Network.{own_link}
-use Rattle.walk_laws.specs.Beacon.{Stretch, beta_met, hop_at, key_met, made_at, segment_of}
+use Rattle.hop_check.specs.Beaconing.{hop_at}
+use Rattle.walk_laws.specs.Stretch.{IsStretch, Stretch, beta_met, key_met, made_at, segment_of}
 use Rattle.walk_laws.specs.PathSegments.{AreWired, AsEntry, PathSegment, IsBeaconed, IsMet, fields_of, keys_of, entry_at, met, no_path_segment, no_entry, part, route_over, segments_of, stretch_of}
-use Rattle.walk_laws.specs.Stretches.{IsStretch}
 use Rattle.walk_laws.specs.Net.{Agrees, End, IsOf, IsWire, Joined, Net, Router, end_at, opposite, router_at}
 use Rattle.walk_laws.specs.Route.{IsOn, hop_of, info_of}
 use Rattle.walk_laws.proofs.LeavesLemmas.{same_router}

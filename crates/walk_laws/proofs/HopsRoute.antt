@@ -8,9 +8,9 @@ use Rattle.scion_packet.specs.Path.{HopField, InfoField, Place, count_hops, plac
 use Rattle.scion_packet.proofs.Fields.{number-lt}
 use Rattle.segment_switch.specs.Pairs.{goes_straight}
 use Rattle.segment_switch.specs.declared.kind.LinkKind.TheVariants.{Core, Parent, Child}
-use Rattle.walk_laws.specs.Beacon.{beta_at, hop_at}
+use Rattle.hop_check.specs.Beaconing.{beta_at, hop_at}
 use Rattle.walk_laws.specs.PathSegments.{AreUnexpired, AsEntry, PathSegment, IsBeaconed, IsJoint, IsMet, IsPathOver, fields_of, keys_of, met, part, route_over, segments_of}
-use Rattle.walk_laws.specs.Stretches.{HopsHold}
+use Rattle.walk_laws.specs.Stretch.{HopsHold}
 use Rattle.process_packet.specs.Network.{own_link}
 use Rattle.walk_laws.specs.Net.{Agrees, Domain, IsOf, Joined, Net, Router, end_at, router_at}
 use Rattle.walk_laws.specs.Route.{AreJoined, Crosses, IsBefore, IsHopOf, IsOn, IsRoute, Joins, Route, after, hop_of, info_of, last_in, way_in, way_out}

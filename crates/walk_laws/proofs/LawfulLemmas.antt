@@ -2,7 +2,7 @@
 use Rattle.std.proofs.Common.{◌≡◌, ◌≤◌, ◌<◌, ◌-◌, ℕ, true, false, List, length, sym, ap, ap₂, subst, ◌∙◌, arith, inl, inr}
 use Rattle.scion_packet.specs.Path.{HopField, Place, Segment, count_hops, hops_in, place_at}
 use Rattle.scion_packet.specs.Places.{info_there}
-use Rattle.walk_laws.specs.Beacon.{beta_met}
+use Rattle.walk_laws.specs.Stretch.{beta_met}
 use Rattle.walk_laws.specs.PathSegments.{PathSegment, part, route_over, segments_of, stretch_of}
 use Rattle.walk_laws.specs.LawfulStart.{AsksNothing, SetsOutOn, last_met}
 use Rattle.walk_laws.specs.Net.{Agrees, Net, router_at}

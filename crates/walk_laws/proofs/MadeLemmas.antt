@@ -5,8 +5,8 @@ use Rattle.hop_check.specs.Mac.{chain, mac6}
 use Rattle.scion_packet.specs.Path.{HopField, InfoField, Place, Segment, hops_in}
 use Rattle.scion_packet.specs.Places.{no_segment}
 use Rattle.scion_packet.proofs.Offsets.{hops_in_is}
-use Rattle.walk_laws.specs.Beacon.{Stretch, StretchHolds, hop_at, hop_met}
-use Rattle.walk_laws.specs.Stretches.{HopsHold, IsMadeOf, IsStretch}
+use Rattle.hop_check.specs.Beaconing.{hop_at}
+use Rattle.walk_laws.specs.Stretch.{HopsHold, IsMadeOf, IsStretch, Stretch, StretchHolds, hop_met}
 use Rattle.walk_laws.specs.Route.{Route, after, hop_of, id_before, id_after, info_of}
 use Rattle.walk_laws.proofs.BeaconLemmas.{holds}
 

@@ -11,7 +11,7 @@ use Rattle.scmp_answer.specs.Outcome.{IfSent, IsGood}
 use Rattle.scmp_answer.specs.Reply.{is_left_unanswered, reply}
 use Rattle.scmp_answer.specs.Reply as answers
 use Rattle.scmp_answer.specs.WayBack.{is_external}
-use Rattle.walk_laws.specs.Beacon.{beta_met}
+use Rattle.walk_laws.specs.Stretch.{beta_met}
 use Rattle.walk_laws.specs.PathSegments.{AreUnexpired, PathSegment, IsMet, IsPathOver, met, part, route_over, segments_of, stretch_of}
 use Rattle.walk_laws.specs.Hosts.{IsReachedAt}
 use Rattle.walk_laws.specs.Net.{Agrees, IsOf, Net, Router, router_at}

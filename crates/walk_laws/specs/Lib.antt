@@ -6,8 +6,7 @@ pub mod Stop
 pub mod Reply
 pub mod Walk
 pub mod Start
-pub mod Beacon
-pub mod Stretches
+pub mod Stretch
 pub mod Hosts
 pub mod Example
 pub mod PathSegments

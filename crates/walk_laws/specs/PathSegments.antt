@@ -9,7 +9,8 @@ use Rattle.segment_switch.specs.declared.kind.LinkKind.{LinkKind}
 use Rattle.segment_switch.specs.declared.kind.LinkKind.TheVariants.{Core, Parent, Child}
 use Rattle.process_packet.specs.declared.neighbours.Link.{Link}
 use Rattle.process_packet.specs.Network.{own_link}
-use Rattle.walk_laws.specs.Beacon.{AreBeaconed, Stretch, beta_met, key_met, segment_of}
+use Rattle.hop_check.specs.Beaconing.{AreBeaconed}
+use Rattle.walk_laws.specs.Stretch.{Stretch, beta_met, key_met, segment_of}
 use Rattle.walk_laws.specs.Net.{Domain, IsOf, Joined, Net, Router, end_at, router_at}
 use Rattle.walk_laws.specs.Route.{IsBefore, Route}
 

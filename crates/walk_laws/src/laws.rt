@@ -1,11 +1,10 @@
 //! The laws; nothing here runs.
 
-ghost use Rattle.walk_laws.specs.Beacon.{StretchesHold};
+ghost use Rattle.walk_laws.specs.Stretch.{BeaconedHopsHold, StretchesHold};
 ghost use Rattle.walk_laws.specs.Configured.{LinksAreNumbered, RoutersAnswerFromHome};
 ghost use Rattle.walk_laws.specs.Examples.{ExamplesAreLawful};
 ghost use Rattle.walk_laws.specs.Hosts.{HostsAreReached};
 ghost use Rattle.walk_laws.specs.LawfulStart.{HopsMakeRoutes, LawfulStartsAreWalked, RequestsAreWalked};
-ghost use Rattle.walk_laws.specs.Stretches.{BeaconedHopsHold};
 ghost use Rattle.walk_laws.specs.Reply.{AnswersComeBack, AnswersStandToo, RoutesTurn};
 ghost use Rattle.walk_laws.specs.Shown.{ShownIsSent};
 ghost use Rattle.walk_laws.specs.Start.{PathsAreWalked};

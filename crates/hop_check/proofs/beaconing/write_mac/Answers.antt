@@ -1,0 +1,10 @@
+use Rattle.std.proofs.Common.{true}
+use Rattle.hop_check.proofs.BeaconingLemmas.{mac_of_input}
+use Rattle.path_fields.specs.Fields.{hop_field}
+use Rattle.hop_check.proofs.beaconing.write_mac.Goals as goal
+
+pub returns-clause-mac : goal.returns-clause-mac
+returns-clause-mac c info same =
+    mac_of_input c.args.key.now c.mac_input.result c.tag6_block-mac.result c.args.segment_id
+    (record { reserved_flags = 0; along = true; reserved = 0; segment_id = c.args.segment_id; timestamp = c.args.timestamp })
+    info (hop_field c.args.hop.now) c.tag6_block-mac.ensures c.mac_input.ensures same
