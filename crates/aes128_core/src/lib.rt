@@ -10,6 +10,7 @@
 #![tactic(auto)]
 
 ghost use Rattle.std.specs.Prelude.{◌≡◌, ℕ, List, map};
+ghost use Rattle.std.specs.Str.{bytes_eq};
 ghost use Rattle.aes128_core.specs.Columns.{word_bytes, key_of};
 ghost use Rattle.aes128_core.specs.KeyExpansion.{key_expansion};
 ghost use Rattle.aes128_core.specs.Aes128.{cipher};
@@ -48,6 +49,16 @@ impl Aes128 {
         ensures { result ≡ key.now }
     {
         Aes128 { words: expand(key) }
+    }
+
+    /// Whether both are the same key.
+    pub fn has_same_key(&self, other: &Aes128) -> bool
+        ensures { result ≡ bytes_eq self.now other.now }
+    {
+        self.words[0] == other.words[0]
+            && self.words[1] == other.words[1]
+            && self.words[2] == other.words[2]
+            && self.words[3] == other.words[3]
     }
 
     /// Encrypts one block of 16 bytes: the standard's `Cipher` of 10 rounds (FIPS 197, section 5.1).

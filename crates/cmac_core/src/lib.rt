@@ -11,6 +11,7 @@
 #![tactic(auto)]
 
 ghost use Rattle.std.specs.Prelude.{◌≡◌, ℕ, List, take};
+ghost use Rattle.std.specs.Str.{bytes_eq};
 ghost use Rattle.cmac_core.specs.Cmac.{subkey_1, subkey_2, tag};
 
 mod block;
@@ -54,6 +55,13 @@ impl Cmac {
             whole_mask,
             filled_mask: doubled(whole_mask),
         }
+    }
+
+    /// Whether both are the same key.
+    pub fn has_same_key(&self, other: &Cmac) -> bool
+        ensures { result ≡ bytes_eq self.now other.now }
+    {
+        self.cipher.has_same_key(&other.cipher)
     }
 
     /// The tag, 16 bytes, of a message of any length, 0 included (RFC 4493, section 2.4).

@@ -21,3 +21,15 @@ fn encrypts_the_examples_of_the_standard(rt: HostRuntime) {
         assert_eq!(rt; got, want, "under the key {key:032x}");
     }
 }
+
+// Keys that differ in one bit of each word.
+#[test]
+fn tells_keys_apart(rt: HostRuntime) {
+    let key: u128 = 0x2b7e151628aed2a6abf7158809cf4f3c;
+    let cipher = Aes128::new(&key.to_be_bytes());
+    assert!(rt; cipher.has_same_key(&Aes128::new(&key.to_be_bytes())));
+    for bit in [0, 32, 64, 96] {
+        let other = key ^ (1 << bit);
+        assert!(rt; !cipher.has_same_key(&Aes128::new(&other.to_be_bytes())));
+    }
+}

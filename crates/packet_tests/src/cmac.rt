@@ -49,3 +49,12 @@ fn tags_one_block_in_six_bytes(rt: HostRuntime) {
         );
     }
 }
+
+// Keys that differ in one bit of their first or of their last byte.
+#[test]
+fn tells_keys_apart(rt: HostRuntime) {
+    let cmac = Cmac::new(&KEY.to_be_bytes());
+    assert!(rt; cmac.has_same_key(&Cmac::new(&KEY.to_be_bytes())));
+    assert!(rt; !cmac.has_same_key(&Cmac::new(&(KEY ^ 1).to_be_bytes())));
+    assert!(rt; !cmac.has_same_key(&Cmac::new(&(KEY ^ (1 << 127)).to_be_bytes())));
+}
