@@ -8,3 +8,4 @@ pub mod RowLemmas
 pub mod FrontLemmas
 pub mod PassingLemmas
 pub mod LawLemmas
+pub mod AgreementLemmas

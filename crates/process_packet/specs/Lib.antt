@@ -14,3 +14,5 @@ pub mod Departure
 pub mod Front
 pub mod Routed
 pub mod Laws
+pub mod Net
+pub mod Agreement

@@ -2,6 +2,7 @@
 //! bytes it leaves.
 #![tactic(auto)]
 
+mod agreement;
 mod arrival;
 mod arriving;
 mod authority;
@@ -17,6 +18,7 @@ mod laws;
 mod leaving;
 mod lookup;
 mod neighbours;
+mod net;
 mod refusal;
 mod request;
 mod routed;
@@ -27,6 +29,7 @@ mod tests;
 mod totals;
 mod underlay;
 
+pub use agreement::agrees;
 pub use arrival::{Arrival, NoMemory, Routed};
 pub use cause::Cause;
 pub use config::Config;
@@ -37,6 +40,7 @@ pub use laws::{
     answers_are_sound, next_place_is_next, nothing_else_changes, only_authorised, only_lawful_ways,
 };
 pub use neighbours::{Bands, Link, Service, Sibling};
+pub use net::{End, Net, Wire};
 pub use refusal::header_cause;
 pub use request::trace_request;
 pub use routed::route;

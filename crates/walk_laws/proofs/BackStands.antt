@@ -10,7 +10,8 @@ use Rattle.scmp_answer.specs.WayBack.{is_external, is_in_later_segment, leaves_t
 use Rattle.process_packet.specs.declared.underlay.Underlay.{Underlay}
 use Rattle.process_packet.specs.Network.{own_link}
 use Rattle.process_packet.specs.Standing.{entry_place, is_first_of_path}
-use Rattle.walk_laws.specs.Net.{IsOf, Joined, Net, Router, end_at, router_at}
+use Rattle.process_packet.specs.Net.{Joined, Net, Router, end_at, router_at}
+use Rattle.walk_laws.specs.Domain.{IsOf}
 use Rattle.walk_laws.specs.Route.{IsBefore, Crosses, IsOn, IsRoute, Joins, Route, after, id_before, id_after, last_in, reversed_route, way_in, way_out}
 use Rattle.walk_laws.specs.Route as route_words
 use Rattle.walk_laws.specs.Stands.{PacketAt, IdsStand, IsFromEntry, IsOnItsWay, Stands, StandsInside, StandsOutside, place_of}

@@ -5,7 +5,9 @@ use Rattle.scion_packet.specs.Packet.{Packet}
 use Rattle.process_packet.specs.declared.neighbours.Link.{Link}
 use Rattle.process_packet.specs.declared.underlay.Underlay.{Underlay}
 use Rattle.process_packet.specs.Network.{own_link}
-use Rattle.walk_laws.specs.Net.{Agrees, AreOfOneAS, End, IsWire, Net, Router, end_at, router_at}
+use Rattle.process_packet.specs.Net.{Agrees, AreOfOneAS, Net, Router, end_at, router_at}
+use Rattle.process_packet.specs.declared.net.End.{End}
+use Rattle.walk_laws.proofs.NetLemmas.{IsWired, joined_ends}
 use Rattle.walk_laws.specs.Stands.{PacketAt}
 use Rattle.walk_laws.specs.Stop.{IsCarried}
 
@@ -27,7 +29,7 @@ same_number net r q y z agrees at-r at-q one same =
 pub carried_to_one : (net : Net) (r : ℕ) (x : Router) (out : ℕ) (to : Option Underlay) (b c : PacketAt) → Agrees net → router_at net r ≡ Some x
     → IsCarried net r x out to b → IsCarried net r x out to c → b.packet ≡ c.packet → b ≡ c
 carried_to_one net r x out _ b c agrees here (IsCarried.over_wire l own joined source) (IsCarried.over_wire m own' joined' source') same =
-    let w : IsWire net (end_at r out) (end_at b.router b.link) = agrees.wires (end_at r out) (end_at b.router b.link) joined in
+    let w : IsWired net (end_at r out) (end_at b.router b.link) = joined_ends net agrees (end_at r out) (end_at b.router b.link) joined in
     let end : end_at c.router c.link ≡ end_at b.router b.link = w.alone (end_at c.router c.link) joined' in
     let link = same_link l m (own_link x.network out) own own' in
     same_stop b c (sym (ap (λ (e : End). e.router) end)) (sym (ap (λ (e : End). e.link) end)) (source ∙ ap (λ (k : Link). k.local) link ∙ sym source') same

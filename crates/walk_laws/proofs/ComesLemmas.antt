@@ -11,7 +11,9 @@ use Rattle.process_packet.specs.declared.underlay.Underlay.{Underlay}
 use Rattle.process_packet.specs.Network.{is_local, is_owner, is_remote, sibling}
 use Rattle.process_packet.specs.Standing.{Standing, chained_id, entry, entry_place, ingress_of, is_along, is_external, is_first_of_path}
 use Rattle.process_packet.specs.Underlay.{same_ip}
-use Rattle.walk_laws.specs.Net.{Agrees, AreOfOneAS, IsOf, Lists, Net, Router}
+use Rattle.process_packet.specs.Net.{Agrees, AreOfOneAS, Net, Router}
+use Rattle.walk_laws.specs.Domain.{IsOf}
+use Rattle.walk_laws.proofs.NetLemmas.{ListsAt, listed_at}
 use Rattle.walk_laws.specs.Route.{IsHopOf, IsOn, IsRoute, Route, way_in}
 use Rattle.walk_laws.specs.Shown.{ComesAsItShould, turned}
 use Rattle.walk_laws.specs.Stands.{PacketAt, IdsStand, IsFromEntry, IsOnItsWay, StandsInside, StandsOutside, place_of}
@@ -103,8 +105,8 @@ module _ (net : Net) (w : Route) (from : Place) (moment : ℕ) (a : PacketAt) (b
       let x : Router = i.here in
       let e : Place = entry_place w.segments at in
       let one = of_one_as x entered.taker w at i.home entered.home in
-      let listed : Lists x entered.taker (way_in w e) entered.own =
-      (agrees.within a.router (w.entered_by e) x entered.taker i.here_is entered.taker_is one).siblings (way_in w e) entered.own entered.other entered.own_is in
+      let listed : ListsAt x entered.taker (way_in w e) entered.own =
+      listed_at x entered.taker (way_in w e) entered.own ((agrees.within a.router (w.entered_by e) x entered.taker i.here_is entered.taker_is one).siblings entered.other) entered.own_is in
       let ip : a.source.ip ≡ listed.entry.at.ip = ap (λ (u : Underlay). u.ip) (entered.source ∙ sym listed.at) in
       ap (λ (id : ℕ). is_owner (sibling x.network id) a.source) (entry_read (at.position == 0) w at a.packet.path.segments i.ids refl later)
       ∙ ap (λ (l : Option Sibling). is_owner l a.source) listed.listed

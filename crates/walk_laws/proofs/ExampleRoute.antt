@@ -4,7 +4,8 @@ use Rattle.scion_packet.specs.Path.{Place, hops_in, place_at}
 use Rattle.segment_switch.specs.Pairs.{goes_straight}
 use Rattle.segment_switch.specs.declared.kind.LinkKind.TheVariants.{Parent, Child}
 use Rattle.walk_laws.specs.Example.{address, link_to, beta_1, beta_2, beta_3, example_key, example_net, example_route, first_router, last_router, middle_router}
-use Rattle.walk_laws.specs.Net.{Domain, Router, router_at}
+use Rattle.process_packet.specs.Net.{Router, router_at}
+use Rattle.walk_laws.specs.Domain.{Domain}
 use Rattle.walk_laws.specs.Route.{AreJoined, Crosses, IsBefore, IsHopOf, IsOn, IsRoute}
 
 abbrev moment : ℕ

@@ -14,7 +14,8 @@ use Rattle.walk_laws.specs.PathSegments.{AreUnexpired, IsBeaconed, IsPathOver, m
 use Rattle.walk_laws.specs.Examples.{moment}
 use Rattle.walk_laws.specs.Hosts.{IsReachedAt}
 use Rattle.walk_laws.specs.LawfulStart.{IsIpHost, IsKnown, IsWalked, LawfulStart}
-use Rattle.walk_laws.specs.Net.{Domain, Router}
+use Rattle.process_packet.specs.Net.{Router}
+use Rattle.walk_laws.specs.Domain.{Domain}
 use Rattle.walk_laws.proofs.ExampleHops.{along_is}
 use Rattle.walk_laws.proofs.ExampleNet.{net_agrees}
 use Rattle.walk_laws.proofs.LawfulLemmas.{unasked}

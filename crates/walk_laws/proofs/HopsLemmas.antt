@@ -11,7 +11,10 @@ use Rattle.process_packet.specs.Network.{own_link}
 use Rattle.hop_check.specs.Beaconing.{hop_at}
 use Rattle.walk_laws.specs.Stretch.{IsStretch, Stretch, beta_met, key_met, made_at, segment_of}
 use Rattle.walk_laws.specs.PathSegments.{AreWired, AsEntry, PathSegment, IsBeaconed, IsMet, fields_of, keys_of, entry_at, met, no_path_segment, no_entry, part, route_over, segments_of, stretch_of}
-use Rattle.walk_laws.specs.Net.{Agrees, End, IsOf, IsWire, Joined, Net, Router, end_at, opposite, router_at}
+use Rattle.process_packet.specs.Net.{Agrees, Joined, Net, Router, end_at, opposite, router_at}
+use Rattle.process_packet.specs.declared.net.End.{End}
+use Rattle.walk_laws.specs.Domain.{IsOf}
+use Rattle.walk_laws.proofs.NetLemmas.{IsWired, joined_ends}
 use Rattle.walk_laws.specs.Route.{IsOn, hop_of, info_of}
 use Rattle.walk_laws.proofs.LeavesLemmas.{same_router}
 
@@ -133,7 +136,7 @@ same_link n id l m one other = let is : Some l ≡ Some m = sym one ∙ other in
 
 wired : (net : Net) (core : Bool) (h next : AsEntry) → Agrees net → AreWired net core h next → Leads net core true h next
 wired net core h next agrees w =
-    let e : IsWire net (end_at h.sent_by h.field.construction_egress) (end_at next.taken_by next.field.construction_ingress) = agrees.wires _ _ w.wire in
+    let e : IsWired net (end_at h.sent_by h.field.construction_egress) (end_at next.taken_by next.field.construction_ingress) = joined_ends net agrees _ _ w.wire in
     let one : e.one ≡ w.sender = same_router net h.sent_by h.sent_by e.one w.sender e.there w.sender_is refl in
     let other : e.other ≡ w.taker = same_router net next.taken_by next.taken_by e.other w.taker e.back w.taker_is refl in
     let out : own_link w.sender.network h.field.construction_egress ≡ Some e.out = subst (λ (x : Router). own_link x.network h.field.construction_egress ≡ Some e.out) one e.out_is in

@@ -12,7 +12,8 @@ use Rattle.hop_check.specs.Beaconing.{beta_at, hop_at}
 use Rattle.walk_laws.specs.PathSegments.{AreUnexpired, AsEntry, PathSegment, IsBeaconed, IsJoint, IsMet, IsPathOver, fields_of, keys_of, met, part, route_over, segments_of}
 use Rattle.walk_laws.specs.Stretch.{HopsHold}
 use Rattle.process_packet.specs.Network.{own_link}
-use Rattle.walk_laws.specs.Net.{Agrees, Domain, IsOf, Joined, Net, Router, end_at, router_at}
+use Rattle.process_packet.specs.Net.{Agrees, Joined, Net, Router, end_at, router_at}
+use Rattle.walk_laws.specs.Domain.{Domain, IsOf}
 use Rattle.walk_laws.specs.Route.{AreJoined, Crosses, IsBefore, IsHopOf, IsOn, IsRoute, Joins, Route, after, hop_of, info_of, last_in, way_in, way_out}
 use Rattle.walk_laws.proofs.HopsLemmas.{Leads, as_many, hop_is, info_is, into, is_met, is_stretch, its_key, key_is, leads, left, made_is, out_of, over, part_len, parts}
 use Rattle.walk_laws.proofs.MadeLemmas.{hops_hold}

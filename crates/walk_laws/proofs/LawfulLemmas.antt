@@ -5,7 +5,7 @@ use Rattle.scion_packet.specs.Places.{info_there}
 use Rattle.walk_laws.specs.Stretch.{beta_met}
 use Rattle.walk_laws.specs.PathSegments.{PathSegment, part, route_over, segments_of, stretch_of}
 use Rattle.walk_laws.specs.LawfulStart.{AsksNothing, SetsOutOn, last_met}
-use Rattle.walk_laws.specs.Net.{Agrees, Net, router_at}
+use Rattle.process_packet.specs.Net.{Agrees, Net, router_at}
 use Rattle.walk_laws.specs.Route.{Crosses, IsOn, IsRoute, Route, after, end_of, info_of}
 use Rattle.walk_laws.specs.Stands.{PacketAt, IsHostOf, IsUnasked, hops_at, with_id_of}
 use Rattle.walk_laws.specs.Start.{SetsOut, outset}

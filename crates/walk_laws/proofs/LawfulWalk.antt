@@ -17,7 +17,8 @@ use Rattle.scmp_answer.specs.WayBack.{has_no_way_back, is_external, is_first_of_
 use Rattle.walk_laws.specs.PathSegments.{PathSegment, route_over}
 use Rattle.walk_laws.specs.Hosts.{IsReachedAt}
 use Rattle.walk_laws.specs.LawfulStart.{IsAnswerable, IsAnswered, IsAskedOnTheWay, IsCarriedBack, IsIpHost, IsKnown, IsWalked, ReachesHost, SetsOutOn, WalksBy}
-use Rattle.walk_laws.specs.Net.{Agrees, IsOf, Net, Router, router_at}
+use Rattle.process_packet.specs.Net.{Agrees, Net, Router, router_at}
+use Rattle.walk_laws.specs.Domain.{IsOf}
 use Rattle.walk_laws.specs.Reply.{ComesBack, domain_of}
 use Rattle.walk_laws.specs.Route.{IsOn, IsRoute, Route, end_of}
 use Rattle.walk_laws.specs.Shown.{turned}

@@ -15,7 +15,9 @@ use Rattle.process_packet.specs.Rows.{Sent, is_pair_lawful, known_pair}
 use Rattle.process_packet.specs.Request.{is_request}
 use Rattle.process_packet.specs.Sight.{with_id}
 use Rattle.process_packet.specs.Standing.{Standing, arrival_kind, chained_id, egress, egress_alert, entry_place, hop, is_along, is_first_of_path, is_last_of_path, next_place, packet}
-use Rattle.walk_laws.specs.Net.{Agrees, IsOf, Joined, Lists, Net, Router, end_at, router_at}
+use Rattle.process_packet.specs.Net.{Agrees, Joined, Net, Router, end_at, router_at}
+use Rattle.walk_laws.specs.Domain.{IsOf}
+use Rattle.walk_laws.proofs.NetLemmas.{ListsAt, listed_at}
 use Rattle.walk_laws.specs.Route.{IsBefore, Crosses, IsHopOf, IsOn, IsRoute, Route, after, way_in, way_out}
 use Rattle.walk_laws.specs.Shown.{ComesAsItShould, StandsToLeave, asks_entry, asks_exit, is_for_us, packet_at, turned}
 use Rattle.walk_laws.specs.Stands.{PacketAt, IdsStand, IsOnItsWay, Stands}
@@ -156,7 +158,7 @@ module _ (net : Net) (w : Route) (from : Place) (moment : ℕ) (agrees : Agrees 
       let ss = u.path.segments in
       let c : Crosses net w at (after at) = route.crosses at e.more in
       let one = of_one_as x c.near w at e.home c.near_home in
-      let listed : Lists x c.near (way_out w at) c.out = (agrees.within r (w.left_by at) x c.near e.here c.near_there one).siblings (way_out w at) c.out other c.out_is in
+      let listed : ListsAt x c.near (way_out w at) c.out = listed_at x c.near (way_out w at) c.out ((agrees.within r (w.left_by at) x c.near e.here c.near_there one).siblings other) c.out_is in
       let none : own_link u.network (egress u) ≡ None = ap₂ own_link e.network out_read ∙ listed.not_own in
       let entry : sibling u.network (egress u) ≡ Some listed.entry = ap₂ sibling e.network out_read ∙ listed.listed in
       let pair = pair_right None (Some listed.entry) none entry (ap (λ (k : LinkKind). Some k) (listed.kind ∙ c.out_kind)) in

@@ -16,7 +16,8 @@ use Rattle.scmp_answer.proofs.TableLemmas.{table_len}
 use Rattle.process_packet.specs.declared.cause.Cause.TheVariants as cause
 use Rattle.process_packet.specs.declared.decision.Problem.{Problem}
 use Rattle.process_packet.specs.Request.{request}
-use Rattle.walk_laws.specs.Net.{Agrees, Domain, IsOf, Net, Router, router_at}
+use Rattle.process_packet.specs.Net.{Agrees, Net, Router, router_at}
+use Rattle.walk_laws.specs.Domain.{Domain, IsOf}
 use Rattle.walk_laws.specs.Route.{IsOn, IsRoute, Route, after, end_of, hop_of, reversed_route}
 use Rattle.walk_laws.specs.Route as route_words
 use Rattle.walk_laws.specs.Stands.{PacketAt, IsHostOf, IsOnItsWay, IsUnasked, Stands, StandsInside, StandsOutside, place_of}

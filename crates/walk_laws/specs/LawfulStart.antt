@@ -14,7 +14,8 @@ use Rattle.scmp_answer.specs.WayBack.{is_external}
 use Rattle.walk_laws.specs.Stretch.{beta_met}
 use Rattle.walk_laws.specs.PathSegments.{AreUnexpired, PathSegment, IsMet, IsPathOver, met, part, route_over, segments_of, stretch_of}
 use Rattle.walk_laws.specs.Hosts.{IsReachedAt}
-use Rattle.walk_laws.specs.Net.{Agrees, IsOf, Net, Router, router_at}
+use Rattle.process_packet.specs.Net.{Agrees, Net, Router, router_at}
+use Rattle.walk_laws.specs.Domain.{IsOf}
 use Rattle.walk_laws.specs.Reply.{domain_of}
 use Rattle.walk_laws.specs.Route.{IsRoute}
 use Rattle.walk_laws.specs.Start.{outset}

@@ -1,5 +1,5 @@
 pub mod Shown
-pub mod Net
+pub mod Domain
 pub mod Route
 pub mod Stands
 pub mod Stop

@@ -11,7 +11,8 @@ use Rattle.process_packet.specs.declared.neighbours.Link.{Link}
 use Rattle.process_packet.specs.Network.{own_link}
 use Rattle.hop_check.specs.Beaconing.{AreBeaconed}
 use Rattle.walk_laws.specs.Stretch.{Stretch, beta_met, key_met, segment_of}
-use Rattle.walk_laws.specs.Net.{Domain, IsOf, Joined, Net, Router, end_at, router_at}
+use Rattle.process_packet.specs.Net.{Joined, Net, Router, end_at, router_at}
+use Rattle.walk_laws.specs.Domain.{Domain, IsOf}
 use Rattle.walk_laws.specs.Route.{IsBefore, Route}
 
 -- An AS entry of a path segment: the AS, its key, the hop field that it wrote, and its routers with the two interfaces that the

@@ -10,7 +10,8 @@ use Rattle.scmp_answer.specs.Reply.{Sent, is_left_unanswered, reply}
 use Rattle.scmp_answer.specs.WayBack.{is_external, way_back}
 use Rattle.process_packet.specs.declared.decision.Problem.{Problem}
 use Rattle.process_packet.specs.Standing.{is_first_of_path}
-use Rattle.walk_laws.specs.Net.{Agrees, Domain, Net, Router, router_at}
+use Rattle.process_packet.specs.Net.{Agrees, Net, Router, router_at}
+use Rattle.walk_laws.specs.Domain.{Domain}
 use Rattle.walk_laws.specs.Route.{IsRoute, Route, reversed_route}
 use Rattle.walk_laws.specs.Stands.{PacketAt, IsHostOf, IsOnItsWay, Stands, place_of}
 use Rattle.walk_laws.specs.Stop.{IsCarried}

@@ -10,7 +10,7 @@ use Rattle.process_packet.specs.Network.{Network, own_link}
 use Rattle.process_packet.specs.Rows.{Sent, Verdict, delivered, traceroute_reply}
 use Rattle.process_packet.specs.Request.{is_request}
 use Rattle.process_packet.specs.Standing.{Standing, packet}
-use Rattle.walk_laws.specs.Net.{Agrees, AreOfOneAS, Joined, Net, Router, end_at, router_at}
+use Rattle.process_packet.specs.Net.{Agrees, AreOfOneAS, Joined, Net, Router, end_at, router_at}
 use Rattle.walk_laws.specs.Route.{IsOn, IsRoute, Route, hop_of}
 use Rattle.walk_laws.specs.Shown.{turned}
 use Rattle.walk_laws.specs.Stands.{PacketAt, Stands, place_of}
