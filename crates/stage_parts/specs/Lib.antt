@@ -1,0 +1,3 @@
+pub mod Outlet
+pub mod Heard
+pub mod ListSource

@@ -1,0 +1,80 @@
+//! A worker's end of a pipe into which it offers.
+
+ghost use Rattle.std.specs.Prelude.{◌≡◌, [], false, true, MatchResult};
+ghost use Rattle.stage_parts.specs.Outlet.{IsMarked, Tried, gave, kept};
+
+use ruled_pipe::{Full, Mark, Producer};
+use std::marker::Model;
+use std::sync::Wait;
+
+/// A producer that pushes its end mark once, after all that it offers, and never closes a pipe.
+#[derive(Drop)]
+pub struct Outlet<T> {
+    producer: Producer<T>,
+    ended: bool,
+}
+
+impl<T> Model for Outlet<T> {
+    ghost use Rattle.stage_parts.specs.Outlet.{IsMarked, Offering};
+
+    ghost Value = { Offering T };
+
+    ghost view = { λ o. record { sender = o.producer; ended = o.ended } };
+
+    ghost invariant = { λ o. IsMarked o.producer o.ended };
+}
+
+impl<T: Drop> Outlet<T> {
+    /// The end of a producer that pushed nothing yet.
+    pub fn of(producer: Producer<T>) -> Outlet<T>
+        requires { producer.offers ≡ [] }
+        ensures { result ≡ record { sender = producer; ended = false } }
+    {
+        Outlet {
+            producer,
+            ended: false,
+        }
+    }
+
+    /// Whether its end mark is there.
+    pub fn has_ended(&self) -> bool
+        ensures { result ≡ self.now.ended }
+    {
+        self.ended
+    }
+
+    /// Offers an item. At `Full` it comes back, and the refusal is noted.
+    pub fn offer<R: Wait>(&mut self, rt: &R, item: T) -> Result<(), Full<T>>
+        requires { self.old.ended ≡ false }
+        ensures { MatchResult result (λ _. self.new ≡ gave self.old item) (λ full. (full.0 ≡ item) × (self.new ≡ kept self.old item)) }
+    {
+        self.producer.offer(rt, item)
+    }
+
+    /// Tries its end mark where it is still owed, and says whether it is there now.
+    pub fn end<R: Wait>(&mut self, rt: &R) -> bool
+        ensures tried { Tried self.old self.new }
+        ensures there { result ≡ self.new.ended }
+    {
+        if self.ended {
+            return true;
+        }
+        match self.producer.mark(rt, Mark::End) {
+            Ok(()) => {
+                self.ended = true;
+                true
+            }
+            Err(_) => false,
+        }
+    }
+
+    /// The producer: it never closed its pipe, and where it ended, its end mark is its last offer and
+    /// its only mark.
+    pub fn into_producer(self) -> Producer<T>
+        ensures same { result ≡ self.sender }
+        ensures marks { IsMarked result self.ended }
+    {
+        let Outlet { producer, ended: _ } = self;
+        producer
+    }
+}

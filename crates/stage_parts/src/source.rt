@@ -1,0 +1,50 @@
+//! Where datagrams come from.
+
+ghost use Rattle.std.specs.Prelude.{◌≡◌, ◌+◌, ◌-◌, ◌^◌, ◌<◌, ◌≤◌, ℕ, List, Option, length};
+ghost use Rattle.stage_laws.specs.Forwards.{AddsTo};
+ghost use Rattle.stage_parts.specs.Heard.{Heard, failures_of, fits, heard};
+
+use process_packet::Underlay;
+
+/// What a source answers.
+#[derive(Clone, Copy, Debug, PartialEq, Eq)]
+pub enum NextLen {
+    /// A datagram of so many bytes, now at the front of the buffer, with the underlay's source and the
+    /// time in seconds of Unix time. A longer one is cut to the buffer.
+    Datagram {
+        len: usize,
+        from: Underlay,
+        now: u64,
+    },
+    /// There is none at the moment.
+    Quiet,
+    /// The device failed.
+    Failed,
+    /// There will be none any more.
+    End,
+}
+
+/// A source of datagrams.
+pub trait Source {
+    ghost use Rattle.std.specs.Prelude.{ℕ, List, Option};
+    ghost use Rattle.stage_parts.specs.Heard.{Heard};
+
+    /// All its answers so far, where it tells them.
+    ghost told: { Self → Option (List Heard) };
+
+    /// How often it failed.
+    ghost failed: { Self → ℕ };
+
+    /// Reads a datagram into a buffer of 9,217 bytes.
+    fn next_into(&mut self, buffer: &mut [u8]) -> NextLen
+        requires failures { failed self.old < 2 ^ 64 - 1 }
+        requires room { length buffer.old ≡ 9217 }
+        ensures same { length buffer.new ≡ length buffer.old }
+        ensures fits { fits result }
+        ensures failed { failed self.new ≡ failed self.old + failures_of result }
+        ensures told { AddsTo (told self.old) (heard buffer.new result) (told self.new) };
+
+    /// How often it failed.
+    fn failures(&self) -> u64
+        ensures { result ≡ failed self.now };
+}

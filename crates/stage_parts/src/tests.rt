@@ -1,0 +1,120 @@
+ghost use Rattle.std.specs.Prelude.{◌≡◌, []};
+
+use super::{Buffer, Inlet, ListSource, Next, NextLen, Outlet, ROOM, Source};
+use process_packet::{Ip, Underlay};
+use ruled_pipe::{Consumer, Load, Mark, Pipe, Producer};
+use std::alloc::{AllocError, Global};
+use std::sync::Wait;
+use std::test::*;
+
+const NEAR: Underlay = Underlay {
+    ip: Ip::V4([10, 1, 0, 2]),
+    port: 40000,
+};
+
+// Whether the source gives a datagram of so many bytes, with this first byte.
+fn gives(source: &mut ListSource, bytes: &mut Vec<u8>, want: usize, first: u8) -> bool {
+    if bytes.len() != ROOM || source.failures() > 5 {
+        return false;
+    }
+    match source.next_into(bytes.as_mut_slice()) {
+        NextLen::Datagram { len, from, now } => {
+            len == want && from == NEAR && now == 7 && bytes.len() == ROOM && bytes[0] == first
+        }
+        _ => false,
+    }
+}
+
+fn answers(source: &mut ListSource, bytes: &mut Vec<u8>, want: NextLen) -> bool {
+    bytes.len() == ROOM && source.failures() < 5 && source.next_into(bytes.as_mut_slice()) == want
+}
+
+// A datagram of 9,216 bytes, one that is too long, and the other answers.
+fn five_answers(alloc: Global) -> Result<Vec<Next>, AllocError> {
+    let mut answers = Vec::new(alloc);
+    let bytes = vec![in alloc; 5; 9216]?;
+    answers.push(Next::Datagram {
+        bytes,
+        from: NEAR,
+        now: 7,
+    })?;
+    answers.push(Next::Quiet)?;
+    answers.push(Next::Failed)?;
+    let bytes = vec![in alloc; 6; 9300]?;
+    answers.push(Next::Datagram {
+        bytes,
+        from: NEAR,
+        now: 7,
+    })?;
+    Ok(answers)
+}
+
+fn reads_all(alloc: Global) -> Result<bool, AllocError> {
+    let mut source = ListSource::new(five_answers(alloc)?);
+    let mut bytes = Buffer::new(alloc)?.into_bytes();
+    let one = gives(&mut source, &mut bytes, 9216, 5);
+    let two = answers(&mut source, &mut bytes, NextLen::Quiet);
+    let three = answers(&mut source, &mut bytes, NextLen::Failed);
+    let four = gives(&mut source, &mut bytes, ROOM, 6);
+    let five = answers(&mut source, &mut bytes, NextLen::End);
+    let six = answers(&mut source, &mut bytes, NextLen::End);
+    Ok(one && two && three && four && five && six && source.failures() == 1)
+}
+
+#[test]
+fn a_list_is_read_in_order(rt: HostRuntime) {
+    assert_eq!(rt; reads_all(rt.alloc()), Ok(true));
+}
+
+fn offers<R: Wait>(rt: &R, outlet: &mut Outlet<u32>, item: u32) -> bool {
+    !outlet.has_ended() && outlet.offer(rt, item).is_ok()
+}
+
+fn takes<R: Wait>(rt: &R, inlet: &mut Inlet<u32>, item: u32) -> bool {
+    if inlet.is_done() {
+        return false;
+    }
+    match inlet.take(rt) {
+        Some(Load::Payload(x)) => x == item,
+        _ => false,
+    }
+}
+
+fn takes_end<R: Wait>(rt: &R, inlet: &mut Inlet<u32>) -> bool {
+    if inlet.is_done() {
+        return false;
+    }
+    match inlet.take(rt) {
+        Some(Load::Marked(mark)) => mark == Mark::End,
+        _ => false,
+    }
+}
+
+// A pipe for one: its end mark is refused while an item is held, and is then the last.
+fn ends_once<R: Wait>(rt: &R, producer: Producer<u32>, consumer: Consumer<u32>) -> bool
+    requires producer { producer.offers ≡ [] }
+    requires consumer { (consumer.taken ≡ []) × (consumer.producers ≡ 1) }
+{
+    let mut outlet = Outlet::of(producer);
+    let mut inlet = Inlet::of(consumer, 1);
+    let one = offers(rt, &mut outlet, 8) && !offers(rt, &mut outlet, 9);
+    let two = !outlet.end(rt) && takes(rt, &mut inlet, 8);
+    let three = outlet.end(rt) && outlet.end(rt) && outlet.has_ended();
+    let four = takes_end(rt, &mut inlet) && inlet.is_done();
+    let _ = outlet.into_producer();
+    let _ = inlet.into_consumer();
+    one && two && three && four
+}
+
+fn end_of_a_pipe<R: Wait>(rt: &R, alloc: Global) -> Result<bool, AllocError> {
+    let (_, mut ends, consumer) = Pipe::<u32>::new(alloc, 1, 1)?;
+    match ends.pop() {
+        Some(producer) => Ok(ends_once(rt, producer, consumer)),
+        None => Ok(false),
+    }
+}
+
+#[test]
+fn an_end_mark_is_pushed_once(rt: HostRuntime) {
+    assert_eq!(rt; end_of_a_pipe(&rt, rt.alloc()), Ok(true));
+}
