@@ -3,15 +3,29 @@
 #![tactic(auto)]
 
 mod buffer;
+mod gate;
 mod inlet;
+mod list_sink;
 mod list_source;
 mod outlet;
+mod packet;
+mod parcel;
+mod question;
+mod router;
+mod sink;
 mod source;
 #[cfg(test)]
 mod tests;
 
 pub use buffer::{Buffer, ROOM};
+pub use gate::Gate;
 pub use inlet::Inlet;
+pub use list_sink::{ListSink, Sent};
 pub use list_source::{ListSource, Next};
 pub use outlet::Outlet;
+pub use packet::Packet;
+pub use parcel::Parcel;
+pub use question::{Question, Withheld};
+pub use router::Router;
+pub use sink::{Sink, SinkFault};
 pub use source::{NextLen, Source};

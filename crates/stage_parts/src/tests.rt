@@ -1,7 +1,8 @@
 ghost use Rattle.std.specs.Prelude.{◌≡◌, []};
 
-use super::{Buffer, Inlet, ListSource, Next, NextLen, Outlet, ROOM, Source};
+use super::{Buffer, Inlet, ListSink, ListSource, Next, NextLen, Outlet, ROOM, Sink, Source};
 use process_packet::{Ip, Underlay};
+use router_rules::Outgoing;
 use ruled_pipe::{Consumer, Load, Mark, Pipe, Producer};
 use std::alloc::{AllocError, Global};
 use std::sync::Wait;
@@ -117,4 +118,50 @@ fn end_of_a_pipe<R: Wait>(rt: &R, alloc: Global) -> Result<bool, AllocError> {
 #[test]
 fn an_end_mark_is_pushed_once(rt: HostRuntime) {
     assert_eq!(rt; end_of_a_pipe(&rt, rt.alloc()), Ok(true));
+}
+
+// Whether the sink takes a packet of this number.
+fn takes_packet(sink: &mut ListSink, number: u64) -> bool {
+    let out = Outgoing {
+        arrived: 1,
+        number,
+        answer: false,
+        to: None,
+    };
+    sink.failures() < 5 && sink.send(&out, b"abc").is_ok()
+}
+
+// Whether these are what the sink tells: the numbers, and whether it took each.
+fn tells(sink: &ListSink, numbers: &[u64], took: &[bool]) -> bool {
+    let Some(list) = sink.told() else {
+        return false;
+    };
+    if list.len() != numbers.len() || list.len() != took.len() {
+        return false;
+    }
+    for i in 0..list.len() {
+        if list[i].out.number != numbers[i] || list[i].took != took[i] || list[i].bytes.len() != 3 {
+            return false;
+        }
+    }
+    true
+}
+
+fn fails_at_two(alloc: Global) -> Result<bool, AllocError> {
+    let fails = vec![in alloc; 2_u64]?;
+    let mut sink = ListSink::new(alloc, fails);
+    let one = takes_packet(&mut sink, 7);
+    let two = !takes_packet(&mut sink, 8);
+    let three = takes_packet(&mut sink, 9);
+    Ok(
+        one && two
+            && three
+            && sink.failures() == 1
+            && tells(&sink, &[7, 8, 9], &[true, false, true]),
+    )
+}
+
+#[test]
+fn a_list_is_kept_and_fails_where_it_is_told(rt: HostRuntime) {
+    assert_eq!(rt; fails_at_two(rt.alloc()), Ok(true));
 }

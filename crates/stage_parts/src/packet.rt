@@ -1,0 +1,174 @@
+//! A datagram on its way to its processor.
+
+ghost use Rattle.std.specs.Prelude.{◌≡◌, ◌≤◌, length, take, None};
+ghost use Rattle.process_packet.specs.Decide.{decide, moved};
+ghost use Rattle.process_packet.specs.Network.{network};
+ghost use Rattle.process_packet.specs.declared.decision.Problem.{Problem as Told};
+ghost use Rattle.router_rules.specs.Rules.{by_decision, decided};
+ghost use Rattle.scion_packet.specs.Packet.{first_fault};
+ghost use Rattle.stage_parts.specs.Items.{StandsIn, arrival, asking, leaving, with_bytes};
+
+use crate::buffer::Buffer;
+use crate::parcel::Parcel;
+use crate::question::Question;
+use crate::router::Router;
+use process_packet::{Config, Decision, Problem, Underlay, answers_are_sound, route_in_place};
+use std::marker::{Model, PhantomData};
+
+/// A datagram as it arrived, in the buffer into which it was read.
+#[derive(Drop)]
+pub struct Packet<N: Router> {
+    pub(crate) link: u16,
+    pub(crate) interface: u16,
+    pub(crate) number: u64,
+    pub(crate) source: Underlay,
+    pub(crate) moment: u64,
+    pub(crate) len: usize,
+    pub(crate) bytes: Vec<u8>,
+    pub(crate) of: PhantomData<N>,
+}
+
+impl<N: Router> Model for Packet<N> {
+    ghost use Rattle.std.specs.Prelude.{◌≡◌, ◌≤◌, length, take};
+    ghost use Rattle.pipe_order.specs.Item.{Arrival};
+    ghost use Rattle.router_rules.specs.Rules.{kinds};
+    ghost use Rattle.stage_parts.specs.Items.{StandsIn, arrival};
+
+    ghost Value = { Arrival kinds };
+
+    ghost view = { λ p. arrival p.link p.interface p.number p.source p.moment (take p.len p.bytes.items) };
+
+    ghost invariant = { λ p. (length p.bytes.items ≡ 9217) × (p.len ≤ 9217) × StandsIn N.config p.link p.interface };
+}
+
+// Decides on the datagram at the front of a buffer, where it lies.
+fn decide_at_front(
+    config: &Config,
+    link: u16,
+    source: Underlay,
+    now: u64,
+    bytes: &mut Vec<u8>,
+    len: usize,
+) -> Decision
+    requires { len ≤ length bytes.old.items }
+    ensures decision { result ≡ decide (network config.now) link source now (take len bytes.old.items) }
+    ensures bytes { take len bytes.new.items ≡ moved (network config.now) link source now (take len bytes.old.items) }
+    ensures same { length bytes.new.items ≡ length bytes.old.items }
+{
+    let (front, _) = bytes.split_at_mut(len);
+    route_in_place(config, link, source, now, front)
+}
+
+impl<N: Router> Packet<N> {
+    /// The datagram of the first `len` bytes of a buffer, which came by the link of this number and
+    /// interface.
+    pub fn new(
+        link: u16,
+        interface: u16,
+        number: u64,
+        source: Underlay,
+        moment: u64,
+        len: usize,
+        bytes: Vec<u8>,
+    ) -> Packet<N>
+        requires room { length bytes.items ≡ 9217 }
+        requires len { len ≤ 9217 }
+        requires stands { StandsIn N.config link interface }
+        ensures { result ≡ arrival link interface number source moment (take len bytes.items) }
+    {
+        Packet {
+            link,
+            interface,
+            number,
+            source,
+            moment,
+            len,
+            bytes,
+            of: PhantomData,
+        }
+    }
+
+    /// The number of the link by which it came.
+    pub fn link(&self) -> u16
+        ensures link { result ≡ self.now.link }
+        ensures stands { StandsIn N.config self.now.link self.now.datagram.interface }
+    {
+        self.link
+    }
+
+    /// Its number among the datagrams of that link, from 1 on.
+    pub fn number(&self) -> u64
+        ensures { result ≡ self.now.number }
+    {
+        self.number
+    }
+
+    /// The interface of the link by which it came; 0 is the internal network.
+    pub fn interface(&self) -> u16
+        ensures { result ≡ self.now.datagram.interface }
+    {
+        self.interface
+    }
+
+    /// Decides on it where it lies: where it leaves, its bytes are what leaves, and else as they came.
+    pub fn decide(&mut self, config: &Config) -> Decision
+        ensures decided { by_decision config.now self.old.datagram.interface result self.new.datagram.bytes ≡ decided config.now self.old.datagram }
+        ensures kept { self.new ≡ with_bytes self.new.datagram.bytes self.old }
+        ensures sound { (p : Told) → result ≡ Decision.Answer p → (first_fault self.new.datagram.bytes ≡ None) × (self.new.datagram.bytes ≡ self.old.datagram.bytes) }
+    {
+        answers_are_sound();
+        let len = self.len;
+        decide_at_front(
+            config,
+            self.interface,
+            self.source,
+            self.moment,
+            &mut self.bytes,
+            len,
+        )
+    }
+
+    /// Its buffer, which is free again.
+    pub fn into_buffer(self) -> Buffer {
+        let Packet { bytes, .. } = self;
+        Buffer::of(bytes)
+    }
+
+    /// The packet on its way out by the link of a number, with its bytes as they are.
+    pub fn into_parcel(self, link: u16, to: Option<Underlay>) -> Parcel<N>
+        ensures { result ≡ leaving self link to }
+    {
+        let Packet {
+            link: arrived,
+            interface: came_by,
+            number,
+            source: _,
+            moment: _,
+            len,
+            bytes,
+            of,
+        } = self;
+        Parcel {
+            arrived,
+            came_by,
+            number,
+            answer: false,
+            link,
+            to,
+            len,
+            bytes,
+            of,
+        }
+    }
+
+    /// The packet with what its sender is to be told.
+    pub fn into_question(self, problem: Problem) -> Question<N>
+        requires { first_fault self.datagram.bytes ≡ None }
+        ensures { result ≡ asking self problem }
+    {
+        Question {
+            packet: self,
+            problem,
+        }
+    }
+}

@@ -1,0 +1,33 @@
+//! Where datagrams go.
+
+ghost use Rattle.std.specs.Prelude.{◌≡◌, ◌+◌, ◌-◌, ◌^◌, ◌<◌, ℕ, List, Option, is_ok, if◌then◌else◌};
+ghost use Rattle.stage_laws.specs.Forwards.{AddsTo};
+ghost use Rattle.stage_parts.specs.Told.{Told, telling};
+
+use router_rules::Outgoing;
+
+/// A sink failed to send.
+#[derive(Clone, Copy, Debug, PartialEq, Eq)]
+pub struct SinkFault;
+
+/// A sink of datagrams.
+pub trait Sink {
+    ghost use Rattle.std.specs.Prelude.{ℕ, List, Option};
+    ghost use Rattle.stage_parts.specs.Told.{Told};
+
+    /// All that it was handed so far, each with whether it took it, where it tells that.
+    ghost told: { Self → Option (List Told) };
+
+    /// How often it failed.
+    ghost failed: { Self → ℕ };
+
+    /// Sends a datagram.
+    fn send(&mut self, out: &Outgoing, bytes: &[u8]) -> Result<(), SinkFault>
+        requires { failed self.old < 2 ^ 64 - 1 }
+        ensures failed { failed self.new ≡ failed self.old + (if is_ok result then 0 else 1) }
+        ensures told { AddsTo (told self.old) (telling out.now bytes.now (is_ok result)) (told self.new) };
+
+    /// How often it failed.
+    fn failures(&self) -> u64
+        ensures { result ≡ failed self.now };
+}
