@@ -1,6 +1,4 @@
-pub mod NumberLemmas
 pub mod EntryLemmas
 pub mod IdLemmas
 pub mod ListLemmas
 pub mod ConfigLemmas
-pub mod ShownLemmas

@@ -7,7 +7,7 @@ use Rattle.process_packet.specs.declared.neighbours.Bands.TheVariants.{One, Two}
 use Rattle.process_packet.specs.declared.underlay.Underlay.{Underlay}
 use Rattle.segment_switch.specs.declared.kind.LinkKind.{LinkKind}
 use Rattle.segment_switch.specs.declared.kind.LinkKind.TheVariants.{Core, Parent, Child}
-use Rattle.router_config.specs.Address.{underlay_of}
+use Rattle.text_values.specs.Address.{underlay_of}
 use Rattle.router_config.specs.Fault.{or_fault, ◌>>=◌}
 use Rattle.router_config.specs.declared.entry.Version.{Version}
 use Rattle.router_config.specs.declared.entry.Version.TheVariants.{First, Second}

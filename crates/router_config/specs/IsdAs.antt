@@ -1,6 +1,6 @@
 -- ISD-AS numbers as text, as in `1-ff00:0:110` or `1-64512`.
 use Rattle.std.specs.Prelude.{ℕ, ◌+◌, ◌*◌, List, Option, Some, None}
-use Rattle.router_config.specs.Pieces.{cut, group_of, number_up_to, unless_zero, ◌>>=◌}
+use Rattle.text_values.specs.Pieces.{cut, group_of, number_up_to, unless_zero, ◌>>=◌}
 
 -- the number of three groups of 16 bits, joined by `:`
 unfoldable pub groups_of : List ℕ → Option ℕ

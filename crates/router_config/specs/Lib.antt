@@ -1,9 +1,9 @@
-pub mod Pieces
 pub mod IsdAs
-pub mod Address
 pub mod Fault
 pub mod Entry
 pub mod Neighbours
 pub mod Config
 pub mod Parts
-pub mod Shown
+pub use Rattle.text_values.specs.Pieces
+pub use Rattle.text_values.specs.Address
+pub use Rattle.text_values.specs.Shown

@@ -6,10 +6,10 @@ ghost use Rattle.process_packet.specs.Neighbours.{has_port};
 ghost use Rattle.router_config.specs.Entry.{address_at, bands_at, in_range, kind_at, kind_of, number_at, value_at, version_at};
 ghost use Rattle.router_config.specs.Fault.{on_ok};
 
-use crate::address::read_underlay;
 use crate::fault::ConfigFault;
 use process_packet::{Bands, Underlay};
 use segment_switch::LinkKind;
+use text_values::read_underlay;
 use toml::Table;
 use toml::value::Array;
 

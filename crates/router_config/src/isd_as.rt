@@ -2,7 +2,7 @@
 ghost use Rattle.std.specs.Prelude.{◌≡◌, ◌<◌, ◌≤◌, ◌^◌, IfSome};
 ghost use Rattle.router_config.specs.IsdAs.{as_of, groups_of, isd_as_of};
 
-use crate::pieces::{cut, read_group, read_number};
+use text_values::pieces::{cut, read_group, read_number};
 
 /// The AS number of three groups of hex digits.
 #[tactic(auto, unfolding(crate::specs::IsdAs::groups_of))]

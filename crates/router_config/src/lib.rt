@@ -2,21 +2,13 @@
 //! fault.
 #![tactic(auto)]
 
-mod address;
 mod config;
-mod decimal;
 mod entry;
 mod fault;
 mod isd_as;
 mod lists;
 mod neighbours;
-pub mod pieces;
-mod shown;
-#[cfg(test)]
-mod tests;
 
-pub use address::read_underlay;
 pub use config::read_config;
-pub use decimal::{push_decimal, read_decimal};
 pub use fault::ConfigFault;
-pub use shown::push_underlay;
+pub use text_values::{pieces, push_decimal, push_underlay, read_decimal, read_underlay};

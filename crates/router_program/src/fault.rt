@@ -5,7 +5,7 @@ ghost use Rattle.std.specs.IoError.{error_kind};
 ghost use Rattle.std.specs.declared.io.ErrorKind.TheVariants as kind;
 ghost use Rattle.router_program.specs.declared.fault.Fault.TheVariants as fault;
 
-use crate::words::WordsFault;
+use command_words::WordsFault;
 use router_config::ConfigFault;
 use router_engine::LinesFault;
 use std::alloc::AllocFailed;

@@ -3,12 +3,9 @@
 #![tactic(auto)]
 
 mod fault;
-#[cfg(test)]
-mod tests;
-mod words;
 
 use crate::fault::Fault;
-use crate::words::{Order, read_words};
+use command_words::{Order, WordsFault, read_words};
 use process_packet::{Config, Underlay};
 use router_config::read_config;
 use router_engine::{LinesFault, replay_lines, route_lines};
@@ -83,7 +80,7 @@ fn main(rt: HostRuntime) -> ExitCode {
     };
     // Help is printed as the words' fault; where that fails, the output's fault is the answer.
     let fault = match fault {
-        Fault::Words(words::WordsFault::Told(error)) => match error.print(&rt) {
+        Fault::Words(WordsFault::Told(error)) => match error.print(&rt) {
             Ok(()) => return ExitCode::from(if error.use_stderr() { 2 } else { 0 }),
             Err(_) => Fault::Lines(LinesFault::Output),
         },

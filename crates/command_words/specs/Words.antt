@@ -1,0 +1,72 @@
+-- What the words of a command line ask for, by what a parse of them finds.
+use Rattle.std.specs.Prelude.{◌≡◌, ◌≤◌, ℕ, List, [], Option, Some, None, true, codes, decimal, option_map}
+use Rattle.clap.specs.Faults.{fault_of}
+use Rattle.clap.specs.Simple.{App, new_app, new_rule, on_top, subcommand_of, with_rule, with_subcommand}
+use Rattle.clap.specs.Walk.{Row, Rule, Text, first_of}
+use Rattle.process_packet.specs.declared.underlay.Underlay.{Underlay}
+use Rattle.text_values.specs.Address.{underlay_of}
+use Rattle.clap.specs.declared.builder.action.ArgAction.TheVariants.{Set}
+use Rattle.command_words.specs.declared.words.Order.{Order}
+use Rattle.command_words.specs.declared.words.Order.TheVariants as order
+
+-- `--name VALUE`, which has to be there
+abbrev pub wanted : Text → Rule
+wanted name = record (new_rule name) { long = Some name; value_names = 1; action = Some Set; required = true }
+
+-- `--name VALUE`, which may be there
+abbrev pub offered : Text → Rule
+offered name = record (new_rule name) { long = Some name; value_names = 1; action = Some Set }
+
+-- `route --config FILE --link N --now S [--from ADDR]`
+abbrev pub route : App
+route =
+    with_rule (with_rule (with_rule (with_rule (new_app (codes "route")) (wanted (codes "config"))) (wanted (codes "link"))) (wanted (codes "now")))
+    (offered (codes "from"))
+
+-- `replay --config FILE`
+abbrev pub replay : App
+replay = with_rule (new_app (codes "replay")) (wanted (codes "config"))
+
+-- the program, whose words begin after its name
+abbrev pub router : App
+router =
+    with_subcommand
+    (with_subcommand (on_top (λ top. record top { has_version = true; no_binary_name = true; subcommand_required = true }) (new_app (codes "router"))) route.top)
+    replay.top
+
+-- the address that a word names, if it is one; no word names none
+abbrev pub from_of : Option Text → Option (Option Underlay)
+from_of None = Some None
+from_of (Some text) = option_map (λ u. Some u) (underlay_of text)
+
+-- what is asked for
+pub data Asked : Type 0 where
+  Routes : Text → ℕ → ℕ → Option Underlay → Asked  -- the configuration, the link, the moment, the source
+  Replays : Text → Asked  -- the configuration
+
+abbrev pub asked_of : Order → Asked
+asked_of (order.Route config link now from) = Routes config.now link now from
+asked_of (order.Replay config) = Replays config.now
+
+-- The options of `route` have these values. A number stands there as its decimal digits.
+pub record AsksRoute (rows : List Row) (config : Text) (link now : ℕ) (from : Option Underlay) : Type 0 where
+  pub config_is : first_of (codes "config") rows ≡ Some config
+  pub link_is : first_of (codes "link") rows ≡ Some (decimal link)
+  pub now_is : first_of (codes "now") rows ≡ Some (decimal now)
+  pub from_is : from_of (first_of (codes "from") rows) ≡ Some from
+  pub link_fits : link ≤ 65535
+  pub now_fits : now ≤ 1099511627775
+
+-- a subcommand and its options ask for it
+abbrev pub Asks : Text × List Row → Asked → Type 0
+Asks entered (Routes config link now from) = (entered.0 ≡ codes "route") × AsksRoute entered.1 config link now from
+Asks entered (Replays config) = (entered.0 ≡ codes "replay") × (first_of (codes "config") entered.1 ≡ Some config)
+
+abbrev pub AsksOf : Option (Text × List Row) → Asked → Type 0
+AsksOf None asked = ⊥
+AsksOf (Some entered) asked = Asks entered asked
+
+-- The words are taken by the grammar, and ask for it.
+pub record Orders (words : List Text) (asked : Asked) : Type 0 where
+  pub taken : fault_of router words ≡ []
+  pub asks : AsksOf (subcommand_of router words) asked

@@ -1,0 +1,245 @@
+//! The command line.
+ghost use Rattle.std.specs.Prelude.{◌≡◌, ◌≢◌, ◌≤◌, ℕ, List, Option, Some, codes, map, option_map, string_bytes, false, IfErr, IfNone, IfOk, IfSome};
+ghost use Rattle.clap.specs.Simple.{app_of, subcommand_rows_of};
+ghost use Rattle.clap.specs.Values.{kind_of};
+ghost use Rattle.clap.specs.Matches.{found_of};
+ghost use Rattle.clap.specs.Walk.{first_of, rows_of, rule_of};
+ghost use Rattle.clap.specs.declared.builder.command.Command.TheViews.{out-Command as fields_of};
+ghost use Rattle.clap.specs.declared.error.kind.ErrorKind.TheVariants.{OutOfMemory};
+ghost use Rattle.process_packet.specs.declared.underlay.Underlay.{Underlay as Address};
+ghost use Rattle.command_words.specs.Words.{Asked, Asks, AsksOf, AsksRoute, Orders, asked_of, from_of, offered, replay, route, router, wanted};
+ghost use Rattle.command_words.specs.declared.words.WordsFault.TheVariants.{Memory, Told};
+
+use clap::error::ErrorKind;
+use clap::{Arg, ArgAction, ArgMatches, Command};
+use process_packet::Underlay;
+use std::alloc::{AllocError, AllocFailed, Global};
+use text_values::{read_decimal, read_underlay};
+use thiserror::Error;
+
+/// The last second since 1970 that `--now` takes.
+const LAST_SECOND: u64 = 1099511627775;
+
+/// What is told of `--config`.
+const CONFIG_HELP: &str = "The border router's configuration, as TOML";
+
+/// What the command line asks for.
+#[derive(Clone, Copy, Debug)]
+pub enum Order<'a> {
+    /// To answer the datagrams on the standard input.
+    Route {
+        /// The path of the configuration.
+        config: &'a str,
+        /// The link on which the datagrams arrive; 0 is the internal network.
+        link: u16,
+        /// When they arrive, in seconds since 1970.
+        now: u64,
+        /// The underlay's source of them, where one is named.
+        from: Option<Underlay>,
+    },
+    /// To make the steps on the standard input.
+    Replay {
+        /// The path of the configuration.
+        config: &'a str,
+    },
+}
+
+/// Why a command line gives no order.
+#[derive(Debug, Drop, Error)]
+pub enum WordsFault {
+    /// Help or the version was asked for, or the words are refused. The error has the text, the
+    /// stream that it belongs on, and the exit status.
+    #[error("{0}")]
+    Told(clap::Error),
+    /// No memory was left.
+    #[error("memory")]
+    Memory,
+}
+
+impl From<AllocError> for WordsFault {
+    ghost from_gives = { λ _ fault. fault ≡ Memory };
+
+    fn from(_error: AllocError) -> WordsFault {
+        WordsFault::Memory
+    }
+}
+
+impl<T: Drop> From<AllocFailed<T>> for WordsFault {
+    ghost from_gives = { λ _ fault. fault ≡ Memory };
+
+    fn from(_error: AllocFailed<T>) -> WordsFault {
+        WordsFault::Memory
+    }
+}
+
+/// What an error of the parse means.
+fn fault_of(error: clap::Error) -> WordsFault
+    ensures memory { kind_of error ≡ OutOfMemory → result ≡ Memory }
+    ensures told { kind_of error ≢ OutOfMemory → result ≡ Told error }
+{
+    match error.kind() {
+        ErrorKind::OutOfMemory => WordsFault::Memory,
+        _ => WordsFault::Told(error),
+    }
+}
+
+/// The option `--name VALUE`, which has to be there.
+fn wanted<'a>(alloc: Global, name: &'a str, value: &'a str, help: &'a str) -> Arg<'a>
+    ensures rule { rule_of result ≡ wanted name.now }
+    ensures own { result.global ≡ false }
+{
+    Arg::new(alloc, name)
+        .long(name)
+        .value_name(value)
+        .help(help)
+        .required(true)
+        .action(ArgAction::Set)
+}
+
+/// The option `--name VALUE`, which may be there.
+fn offered<'a>(alloc: Global, name: &'a str, value: &'a str, help: &'a str) -> Arg<'a>
+    ensures rule { rule_of result ≡ offered name.now }
+    ensures own { result.global ≡ false }
+{
+    Arg::new(alloc, name)
+        .long(name)
+        .value_name(value)
+        .help(help)
+        .action(ArgAction::Set)
+}
+
+/// The words of `route`.
+fn route_grammar<'a>(alloc: Global) -> Result<Command<'a>, AllocError>
+    ensures app { IfOk result (λ command. app_of command ≡ route) }
+    ensures own { IfOk result (λ command. (fields_of command).has_globals ≡ false) }
+{
+    let config = wanted(alloc, "config", "FILE", CONFIG_HELP);
+    let link = wanted(
+        alloc,
+        "link",
+        "N",
+        "The link on which the datagrams arrive; 0 is the internal network",
+    );
+    let now = wanted(alloc, "now", "S", "When they arrive, in seconds since 1970");
+    let from = offered(
+        alloc,
+        "from",
+        "ADDR",
+        "The underlay's source, as 1.2.3.4:5 or [a:b:c:d:e:f:0:1]:5; else the link's remote end",
+    );
+    Command::new(alloc, "route")
+        .about("Answers each line of hex on the standard input, a datagram, by one line")
+        .arg(config)?
+        .arg(link)?
+        .arg(now)?
+        .arg(from)
+}
+
+/// The words of `replay`.
+fn replay_grammar<'a>(alloc: Global) -> Result<Command<'a>, AllocError>
+    ensures app { IfOk result (λ command. app_of command ≡ replay) }
+    ensures own { IfOk result (λ command. (fields_of command).has_globals ≡ false) }
+{
+    let config = wanted(alloc, "config", "FILE", CONFIG_HELP);
+    Command::new(alloc, "replay")
+        .about("Makes the steps of the pipeline that the standard input lists, and reports")
+        .arg(config)
+}
+
+/// The words that the program takes.
+fn grammar<'a>(alloc: Global) -> Result<Command<'a>, AllocError>
+    ensures { IfOk result (λ command. app_of command ≡ router) }
+{
+    let route = route_grammar(alloc)?;
+    let replay = replay_grammar(alloc)?;
+    Command::new(alloc, "router")
+        .about("A SCION border router")
+        .version("0.1.0")
+        .no_binary_name(true)
+        .subcommand_required(true)
+        .subcommand(route)?
+        .subcommand(replay)
+}
+
+/// The address that a word names, if it is one; no word names none.
+fn read_from(word: Option<&str>) -> Option<Option<Underlay>>
+    ensures { result ≡ from_of (option_map (λ text. text.now) word.entry) }
+{
+    match word {
+        None => Some(None),
+        Some(text) => match read_underlay(text) {
+            Some(from) => Some(Some(from)),
+            None => None,
+        },
+    }
+}
+
+/// The order that the options of `route` give, if their numbers are plain decimals in range and the
+/// source is an address.
+fn route_of<'a>(route: &ArgMatches<'a>) -> Option<Order<'a>>
+    ensures found { IfSome result (λ order. Asks (codes "route", rows_of (found_of route.now)) (asked_of order)) }
+    ensures none { IfNone result ((config : List ℕ) (link now : ℕ) (from : Option Address)
+        → ¬ AsksRoute (rows_of (found_of route.now)) config link now from) }
+{
+    let config = route.get_str("config")?;
+    let link = read_decimal(route.get_str("link")?, u16::MAX.into())?;
+    let now = read_decimal(route.get_str("now")?, LAST_SECOND)?;
+    let from = read_from(route.get_str("from"))?;
+    Some(Order::Route {
+        config,
+        link: link as u16,
+        now,
+        from,
+    })
+}
+
+/// The order that the option of `replay` gives.
+fn replay_of<'a>(replay: &ArgMatches<'a>) -> Option<Order<'a>>
+    ensures found { IfSome result (λ order. Asks (codes "replay", rows_of (found_of replay.now)) (asked_of order)) }
+    ensures none { IfNone result ((config : List ℕ) → first_of (codes "config") (rows_of (found_of replay.now)) ≢ Some config) }
+{
+    match replay.get_str("config") {
+        Some(config) => Some(Order::Replay { config }),
+        None => None,
+    }
+}
+
+/// The order that the parsed words give.
+fn order_of<'a>(matches: &ArgMatches<'a>) -> Option<Order<'a>>
+    ensures found { IfSome result (λ order. AsksOf (subcommand_rows_of matches.now) (asked_of order)) }
+    ensures none { IfNone result ((asked : Asked) → ¬ AsksOf (subcommand_rows_of matches.now) asked) }
+{
+    if let Some(route) = matches.subcommand_matches("route") {
+        return route_of(route);
+    }
+    if let Some(replay) = matches.subcommand_matches("replay") {
+        return replay_of(replay);
+    }
+    None
+}
+
+/// The order that the words after the program's name give.
+///
+/// Each option is named once, by `--name VALUE` or `--name=VALUE`. Numbers are plain decimals:
+/// digits with no sign and no leading zero.
+pub fn read_words<'a>(alloc: Global, words: &'a [String]) -> Result<Order<'a>, WordsFault>
+    ensures order { IfOk result (λ order. Orders (map string_bytes words.now) (asked_of order)) }
+    ensures fault { IfErr result (λ fault. (asked : Asked) → Orders (map string_bytes words.now) asked → fault ≡ Memory) }
+{
+    let mut command = grammar(alloc)?;
+    let matches = match command.try_get_matches_from_mut(words) {
+        Ok(matches) => matches,
+        Err(error) => return Err(fault_of(error)),
+    };
+    match order_of(&matches) {
+        Some(order) => Ok(order),
+        None => {
+            let message =
+                "N is a decimal number up to 65535, S one up to 1099511627775, and ADDR an address and port";
+            match command.error(ErrorKind::ValueValidation, message) {
+                Ok(error) => Err(fault_of(error)),
+                Err(_) => Err(WordsFault::Memory),
+            }
+        }
+    }
+}

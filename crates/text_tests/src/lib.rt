@@ -1,0 +1,8 @@
+//! Tests of what reads texts: the configuration, addresses, the words of a command line. They stand apart
+//! from these crates, each of which would be proved a second time for its tests.
+#![tactic(auto)]
+
+#[cfg(test)]
+mod config;
+#[cfg(test)]
+mod words;

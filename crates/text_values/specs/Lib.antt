@@ -1,0 +1,3 @@
+pub mod Pieces
+pub mod Address
+pub mod Shown

@@ -1,0 +1,44 @@
+//! Pieces of a text and the numbers that they spell.
+ghost use Rattle.std.specs.Prelude.{◌≡◌, ◌<◌, ◌≤◌, ◌^◌, IfSome, option_map};
+ghost use Rattle.text_values.specs.Pieces.{behind, cut, group_of, number_up_to};
+
+use crate::decimal::read_decimal;
+
+/// The parts before and after the first such ASCII character.
+pub fn cut(text: &str, mark: char) -> Option<(&str, &str)>
+    requires { mark < 128 }
+    ensures { option_map (λ parts. (parts.0.now, parts.1.now)) result ≡ cut mark text.now }
+{
+    text.split_once(mark)
+}
+
+/// What follows such an ASCII character where the text begins with it.
+pub fn behind(text: &str, mark: char) -> Option<&str>
+    requires { mark < 128 }
+    ensures { option_map (λ rest. rest.now) result ≡ behind mark text.now }
+{
+    let (before, rest) = cut(text, mark)?;
+    if before.is_empty() { Some(rest) } else { None }
+}
+
+/// The number up to the limit that a text is in plain decimal digits.
+pub fn read_number(text: &str, limit: u64) -> Option<u64>
+    ensures value { result ≡ number_up_to limit text.now }
+    ensures within { IfSome result (λ number. number ≤ limit) }
+{
+    read_decimal(text, limit)
+}
+
+/// The number of one to four hex digits.
+pub fn read_group(text: &str) -> Option<u16>
+    ensures { result ≡ group_of text.now }
+{
+    // A number's text may begin with a plus, a group may not.
+    if text.is_empty() || text.len() > 4 || text.as_bytes()[0] == b'+' {
+        return None;
+    }
+    match u16::from_str_radix(text, 16) {
+        Ok(group) => Some(group),
+        Err(_) => None,
+    }
+}
