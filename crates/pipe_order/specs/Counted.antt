@@ -1,4 +1,4 @@
--- Every packet that a receiver of a running pipeline numbered is counted once.
+-- As many packets as the receivers of a running pipeline numbered were handed to sinks and dropped, in sum.
 use Rattle.std.specs.Prelude.{◌≡◌, ◌<◌, ◌≤◌, ℕ, zero, suc, ◌+◌, ◌*◌, List, [], ◌∷◌, length}
 use Rattle.pipe_order.specs.Kinds.{Kinds}
 use Rattle.pipe_order.specs.Item.{Arrival, Outgoing}

@@ -35,7 +35,7 @@ module _ {K : Kinds} where
   abbrev pub dropped_count : (Cause K → Bool) → World K → ℕ
   dropped_count test w = count (λ f. test f.cause) w.fates
 
--- After any list of steps each received packet is counted once: sent, answered, waiting or dropped.
+-- After any list of steps as many packets were received as are sent, answered, waiting and dropped, in sum.
 abbrev pub KeepsTotals : Kinds → Type 0
 KeepsTotals K =
     (R : Rules K) (w : World K) (r : Reached R w) → IsLawfulFor R w r →

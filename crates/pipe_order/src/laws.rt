@@ -51,7 +51,7 @@ pub fn keeps_once<D, P, Q, R, K>()
     ensures law { KeepsOnce (record { Datagram = D; Parcel = P; Problem = Q; Reason = R; Key = K }) }
 {}
 
-/// After any list of steps each received packet is counted once.
+/// After any list of steps as many packets were received as are sent, answered, waiting and dropped, in sum.
 pub fn keeps_totals<D, P, Q, R, K>()
     ensures law { KeepsTotals (record { Datagram = D; Parcel = P; Problem = Q; Reason = R; Key = K }) }
 {}
@@ -91,7 +91,7 @@ pub fn settles_in_order<D, P, Q, R, K>()
     ensures law { Settles (record { Datagram = D; Parcel = P; Problem = Q; Reason = R; Key = K }) }
 {}
 
-/// Of such workers each packet that a receiver numbered was handed to a sink or dropped, once.
+/// Of such workers as many packets were handed to sinks and dropped, in sum, as receivers numbered.
 pub fn counts_once<D, P, Q, R, K>()
     ensures law { CountsOnce (record { Datagram = D; Parcel = P; Problem = Q; Reason = R; Key = K }) }
 {}
