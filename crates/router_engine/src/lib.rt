@@ -2,6 +2,8 @@
 //! line, `replay` makes steps of the pipeline and reports.
 #![tactic(auto)]
 
+#[cfg(test)]
+mod cases;
 mod fault;
 mod lines;
 mod replay;

@@ -1,26 +1,39 @@
 //! The engine of `replay` over readers and writers in memory: worked schedules, each kind of line, and
 //! what is refused.
+use crate::cases::push_hex;
 use crate::fault::LinesFault;
 use crate::replay::replay_lines;
-use crate::schedules::{BANDED, SCHEDULES, SHARED, TWO_BANDS, USUAL};
+use crate::schedules::{BANDED, SCHEDULES, Schedule, TWO_BANDS, USUAL};
 use crate::tests::FailsAt;
 use process_packet::Config;
 use router_config::{ConfigFault, read_config};
+use sample_packets::FIRST;
 use std::alloc::{AllocError, Global};
 use std::io;
 use std::process::Abort;
 
-/// A configuration of three links.
+/// A configuration of three links: the sizes, and what each link has besides.
 fn config_text(alloc: Global, sizes: &str, bands: [&str; 3]) -> Result<String, AllocError> {
-    let [first, second, third] = bands;
-    format!(in alloc;
-        "{sizes}isd_as = \"1-ff00:0:110\"\nkey = \"2b7e151628aed2a6abf7158809cf4f3c\"\n\
-        internal = \"10.0.0.1:30000\"\nhost_port = 30041\nlink = [\n\
-        {{id=1, kind=\"parent\", local=\"10.1.0.1:40000\", remote=\"10.1.0.2:40000\"{first}}},\n\
-        {{id=2, kind=\"child\", local=\"10.2.0.1:40000\", remote=\"10.2.0.2:40000\"{second}}},\n\
-        {{id=3, kind=\"core\", local=\"10.3.0.1:40000\", remote=\"10.3.0.2:40000\"{third}}}]\n"
-    )
+    let mut text = String::new(alloc);
+    text.push_str(sizes)?;
+    text.push_str(SHARED_KEYS)?;
+    for (link, band) in LINKS.iter().zip(bands.iter()) {
+        text.push_str(link)?;
+        text.push_str(band)?;
+    }
+    text.push_str("}]\n")?;
+    Ok(text)
 }
+
+const SHARED_KEYS: &str = "isd_as = \"1-ff00:0:110\"\nkey = \"2b7e151628aed2a6abf7158809cf4f3c\"\n\
+    internal = \"10.0.0.1:30000\"\nhost_port = 30041\nlink = [\n";
+
+/// Each link's table, up to its bands.
+const LINKS: [&str; 3] = [
+    "{id=1, kind=\"parent\", local=\"10.1.0.1:40000\", remote=\"10.1.0.2:40000\"",
+    "},\n{id=2, kind=\"child\", local=\"10.2.0.1:40000\", remote=\"10.2.0.2:40000\"",
+    "},\n{id=3, kind=\"core\", local=\"10.3.0.1:40000\", remote=\"10.3.0.2:40000\"",
+];
 
 fn config(rt: &(impl AllocGlobal + Abort), sizes: &str, bands: [&str; 3]) -> Config {
     let text = config_text(rt.alloc(), sizes, bands).expect(rt, "text");
@@ -36,32 +49,28 @@ fn usual(rt: &(impl AllocGlobal + Abort), banded: bool) -> Config {
     }
 }
 
+/// Whether a worked schedule gives its text.
+fn gives_its_text(rt: &(impl AllocGlobal + Abort), schedule: &Schedule) -> bool {
+    let mut input = Vec::new(rt.alloc());
+    for line in schedule.arrivals.lines() {
+        input.extend_from_slice(line.as_bytes()).expect(rt, "input");
+        push_hex(rt, &mut input, &FIRST[4..]);
+        input.push(b'\n').expect(rt, "input");
+    }
+    input
+        .extend_from_slice(schedule.steps.as_bytes())
+        .expect(rt, "input");
+    let config = config(rt, schedule.sizes, schedule.bands);
+    let mut reader = input.as_slice();
+    let mut writer = Vec::new(rt.alloc());
+    let result = replay_lines(rt.alloc(), config, &mut reader, &mut writer);
+    result == Ok(()) && writer.as_slice() == schedule.text.as_bytes()
+}
+
 #[test]
 fn replays_the_worked_schedules(rt: HostRuntime) {
-    let alloc = rt.alloc();
-    for schedule in SCHEDULES {
-        let mut input = Vec::new(alloc);
-        for line in schedule.arrivals.lines() {
-            for part in [line, SHARED, "\n"] {
-                input
-                    .extend_from_slice(part.as_bytes())
-                    .expect(&rt, "input");
-            }
-        }
-        input
-            .extend_from_slice(schedule.steps.as_bytes())
-            .expect(&rt, "input");
-        let config = config(&rt, schedule.sizes, schedule.bands);
-        let mut reader = input.as_slice();
-        let mut writer = Vec::new(alloc);
-        let result = replay_lines(alloc, config, &mut reader, &mut writer);
-        assert_eq!(rt; result, Ok(()), "{}", schedule.name);
-        assert_eq!(rt;
-            writer.as_slice(),
-            schedule.text.as_bytes(),
-            "{}",
-            schedule.name
-        );
+    for schedule in &SCHEDULES {
+        assert!(rt; gives_its_text(&rt, schedule), "{}", schedule.name);
     }
 }
 
@@ -125,82 +134,84 @@ fn reads_each_kind_of_arrival(rt: HostRuntime) {
     assert_eq!(rt; writer.as_slice(), want.as_slice());
 }
 
+/// What no line of a replay is, each behind its first letter, so that a line may be empty.
+const OTHER_LINES: &str = "|\n\
+    | \n\
+    |stop 1\n\
+    |Receive 1\n\
+    |receive\n\
+    |receive \n\
+    |receive 1 \n\
+    | receive 1\n\
+    |receive  1\n\
+    |receive 1\r\n\
+    |receive x\n\
+    |receive 01\n\
+    |receive +1\n\
+    |receive -1\n\
+    |receive 4\n\
+    |receive 65537\n\
+    |receive r1\n\
+    |nobuffer 5\n\
+    |offer\n\
+    |offer x1\n\
+    |offer p1\n\
+    |offer r4\n\
+    |offer f4\n\
+    |offer h2\n\
+    |offer s0\n\
+    |offer c \n\
+    |refuse p01\n\
+    |refuse\n\
+    |take h2\n\
+    |take x\n\
+    |take p\n\
+    |take f\n\
+    |look f2\n\
+    |look h2\n\
+    |look 2\n\
+    |route 0\n\
+    |route r1\n\
+    |route p1\n\
+    |route\n\
+    |answer s\n\
+    |answer \n\
+    |answers\n\
+    |lack\n\
+    |lack h2\n\
+    |close f2\n\
+    |close h2\n\
+    |close 4\n\
+    |close\n\
+    |end r1\n\
+    |end r1 s\n\
+    |end r1 f1\n\
+    |end r1 p1\n\
+    |end p0 p0\n\
+    |end p0 c\n\
+    |end s s\n\
+    |end s p0\n\
+    |end f1 f1\n\
+    |end c s\n\
+    |end c p0\n\
+    |end c h2\n\
+    |end  c f1\n\
+    |send 1\n\
+    |send 1 no\n\
+    |send 4 ok\n\
+    |send ok\n\
+    |send 1 ok \n\
+    |sweep f2\n\
+    |sweep p0\n\
+    |sweep s\n\
+    |arrive 1 - 0 00";
+
 /// What no replay line is ends the replay there, behind the notes of the lines before it.
 #[test]
 fn refuses_other_lines(rt: HostRuntime) {
     let alloc = rt.alloc();
-    for line in [
-        "",
-        " ",
-        "stop 1",
-        "Receive 1",
-        "receive",
-        "receive ",
-        "receive 1 ",
-        " receive 1",
-        "receive  1",
-        "receive 1\r",
-        "receive x",
-        "receive 01",
-        "receive +1",
-        "receive -1",
-        "receive 4",
-        "receive 65537",
-        "receive r1",
-        "nobuffer 5",
-        "offer",
-        "offer x1",
-        "offer p1",
-        "offer r4",
-        "offer f4",
-        "offer h2",
-        "offer s0",
-        "offer c ",
-        "refuse p01",
-        "refuse",
-        "take h2",
-        "take x",
-        "take p",
-        "take f",
-        "look f2",
-        "look h2",
-        "look 2",
-        "route 0",
-        "route r1",
-        "route p1",
-        "route",
-        "answer s",
-        "answer ",
-        "answers",
-        "lack",
-        "lack h2",
-        "close f2",
-        "close h2",
-        "close 4",
-        "close",
-        "end r1",
-        "end r1 s",
-        "end r1 f1",
-        "end r1 p1",
-        "end p0 p0",
-        "end p0 c",
-        "end s s",
-        "end s p0",
-        "end f1 f1",
-        "end c s",
-        "end c p0",
-        "end c h2",
-        "end  c f1",
-        "send 1",
-        "send 1 no",
-        "send 4 ok",
-        "send ok",
-        "send 1 ok ",
-        "sweep f2",
-        "sweep p0",
-        "sweep s",
-        "arrive 1 - 0 00",
-    ] {
+    for other in OTHER_LINES.split('\n') {
+        let line = other.strip_prefix('|').expect(&rt, other);
         let mut input = Vec::new(alloc);
         for part in ["receive 1\n", line, "\nreceive 1\n"] {
             input
@@ -215,42 +226,43 @@ fn refuses_other_lines(rt: HostRuntime) {
     }
 }
 
+/// A line that is no replay line, in two parts, the second of which may be no text.
+static OTHER_ARRIVALS: [(&str, &[u8]); 16] = [
+    ("arrive 1 - 0", b""),
+    ("arrive 1 - 0 0", b""),
+    ("arrive 1 - 0 0g", b""),
+    ("arrive 1 - 0 00 ", b""),
+    ("arrive 1 - 0  00", b""),
+    ("arrive 1 - 01 00", b""),
+    ("arrive 1 - 1099511627776 00", b""),
+    ("arrive 1 -- 0 00", b""),
+    ("arrive 1 10.0.0.1 0 00", b""),
+    ("arrive 1 10.0.0.01:1 0 00", b""),
+    ("arrive 4 - 0 00", b""),
+    ("arrive 01 - 0 00", b""),
+    ("arrive r1 - 0 00", b""),
+    ("arrives 1 - 0 00", b""),
+    ("arrive 1 - 0 00", b"\xff"),
+    ("receive 1", b"\xc3("),
+];
+
+/// Whether the line ends a replay after one that tells what arrives, with nothing written.
+fn ends_the_arrivals(rt: &(impl AllocGlobal + Abort), line: &str, end: &[u8]) -> bool {
+    let mut input = Vec::from_slice(rt.alloc(), b"arrive 1 - 0 00\n").expect(rt, "input");
+    input.extend_from_slice(line.as_bytes()).expect(rt, "input");
+    input.extend_from_slice(end).expect(rt, "input");
+    input.push(b'\n').expect(rt, "input");
+    let mut reader = input.as_slice();
+    let mut writer = Vec::new(rt.alloc());
+    let result = replay_lines(rt.alloc(), usual(rt, false), &mut reader, &mut writer);
+    result == Err(LinesFault::Line(2)) && writer.is_empty()
+}
+
 /// A line that is no replay line among those that tell what arrives.
 #[test]
 fn refuses_other_arrivals(rt: HostRuntime) {
-    let alloc = rt.alloc();
-    for (line, end) in [
-        ("arrive 1 - 0", b"".as_slice()),
-        ("arrive 1 - 0 0", b"".as_slice()),
-        ("arrive 1 - 0 0g", b"".as_slice()),
-        ("arrive 1 - 0 00 ", b"".as_slice()),
-        ("arrive 1 - 0  00", b"".as_slice()),
-        ("arrive 1 - 01 00", b"".as_slice()),
-        ("arrive 1 - 1099511627776 00", b"".as_slice()),
-        ("arrive 1 -- 0 00", b"".as_slice()),
-        ("arrive 1 10.0.0.1 0 00", b"".as_slice()),
-        ("arrive 1 10.0.0.01:1 0 00", b"".as_slice()),
-        ("arrive 4 - 0 00", b"".as_slice()),
-        ("arrive 01 - 0 00", b"".as_slice()),
-        ("arrive r1 - 0 00", b"".as_slice()),
-        ("arrives 1 - 0 00", b"".as_slice()),
-        ("arrive 1 - 0 00", b"\xff".as_slice()),
-        ("receive 1", b"\xc3(".as_slice()),
-    ] {
-        let mut input = Vec::new(alloc);
-        for part in [
-            b"arrive 1 - 0 00\n".as_slice(),
-            line.as_bytes(),
-            end,
-            b"\n".as_slice(),
-        ] {
-            input.extend_from_slice(part).expect(&rt, "input");
-        }
-        let mut reader = input.as_slice();
-        let mut writer = Vec::new(alloc);
-        let result = replay_lines(alloc, usual(&rt, false), &mut reader, &mut writer);
-        assert_eq!(rt; result, Err(LinesFault::Line(2)), "at {line:?}");
-        assert!(rt; writer.is_empty(), "at {line:?}");
+    for (line, end) in &OTHER_ARRIVALS {
+        assert!(rt; ends_the_arrivals(&rt, line, end), "at {line:?}");
     }
 }
 

@@ -8,17 +8,11 @@ pub struct Schedule {
     pub sizes: &'static str,
     /// What is told of the bands of the links 1, 2 and 3.
     pub bands: [&'static str; 3],
-    /// The lines that tell what arrives, each without the bytes that all its datagrams share.
+    /// The lines that tell what arrives, each datagram by its first four bytes, after which it is the first datagram.
     pub arrivals: &'static str,
     pub steps: &'static str,
     pub text: &'static str,
 }
-
-/// A datagram over three hops, at the second one, behind its first four bytes.
-pub const SHARED: &str =
-    "11150008010000000001ff00000001120001ff00000001110a0200070a01000501003000010012346500\
-    0000003f00000011a0a1a2a3a4a5003f000100020e66d2974536003f00120000b0b1b2b3b4b575597559\
-    00080000";
 
 /// The sizes of one processor and four places a queue.
 pub const USUAL: &str = "version = 1\nprocessors = 1\ncapacity = 4\nseed = 0\n";
@@ -31,7 +25,7 @@ const ONE_BAND: [&str; 3] = ["", "", ""];
 
 pub const TWO_BANDS: [&str; 3] = [", bands=1", ", bands=2", ", bands=1"];
 
-pub const SCHEDULES: [Schedule; 8] = [
+pub static SCHEDULES: [Schedule; 8] = [
     Schedule {
         name: "a full queue",
         sizes: "version = 1\nprocessors = 1\ncapacity = 1\nseed = 0\n",

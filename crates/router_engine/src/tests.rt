@@ -1,11 +1,13 @@
 //! The engine of `route` over readers and writers in memory.
+use crate::cases::{bytes_of, expanded, push_hex};
 use crate::fault::LinesFault;
 use crate::route::route_lines;
-use crate::rows::{CONFIG, DATAGRAM, LONG_ANSWER, LONG_HEADER, ROWS};
+use crate::rows::{LONG_ANSWER, LONG_HEADER, ROWS, Row};
 use path_fields::read_path;
 use process_packet::{Config, Ip, Underlay};
 use router_config::{ConfigFault, read_config, read_underlay};
 use router_lines::{Arriving, usual_source};
+use sample_packets::{CONFIGURATION, FIRST};
 use scion_header::read_header;
 use std::io::{self, Read, Write};
 use std::process::Abort;
@@ -21,7 +23,7 @@ const ARRIVING: Arriving = Arriving {
 };
 
 fn config(rt: &(impl AllocGlobal + Abort)) -> Config {
-    read_config(rt.alloc(), CONFIG).expect(rt, "config")
+    read_config(rt.alloc(), CONFIGURATION).expect(rt, "config")
 }
 
 #[test]
@@ -53,26 +55,43 @@ fn answers_each_line(rt: HostRuntime) {
     }
 }
 
-/// Each worked example gives its lines.
+/// Whether a worked example gives its lines.
+fn gives_its_lines(rt: &(impl AllocGlobal + Abort), config: &Config, row: &Row) -> bool {
+    let source = match read_underlay(row.from) {
+        Some(from) => from,
+        None => usual_source(config, row.link).expect(rt, row.name),
+    };
+    let arriving = Arriving {
+        link: row.link,
+        source,
+        moment: row.now,
+    };
+    let input = expanded(rt, row.input, b"");
+    let digits = input.as_slice().strip_suffix(b"\n".as_slice());
+    let own = bytes_of(rt, digits.expect(rt, row.name));
+    let want = expanded(rt, row.lines, own.as_slice());
+    gives(rt, config, &arriving, input.as_slice(), want.as_slice())
+}
+
+/// Whether the engine reads all of the input, and writes just this text.
+fn gives(
+    rt: &(impl AllocGlobal + Abort),
+    config: &Config,
+    arriving: &Arriving,
+    input: &[u8],
+    want: &[u8],
+) -> bool {
+    let mut reader = input;
+    let mut writer = Vec::new(rt.alloc());
+    let result = route_lines(rt.alloc(), config, arriving, &mut reader, &mut writer);
+    result == Ok(()) && writer.as_slice() == want
+}
+
 #[test]
 fn answers_the_worked_examples(rt: HostRuntime) {
-    let alloc = rt.alloc();
     let config = config(&rt);
-    for row in ROWS {
-        let source = match read_underlay(row.from) {
-            Some(from) => from,
-            None => usual_source(&config, row.link).expect(&rt, row.name),
-        };
-        let arriving = Arriving {
-            link: row.link,
-            source,
-            moment: row.now,
-        };
-        let mut reader = row.input.as_bytes();
-        let mut writer = Vec::new(alloc);
-        let result = route_lines(alloc, &config, &arriving, &mut reader, &mut writer);
-        assert_eq!(rt; result, Ok(()), "{}", row.name);
-        assert_eq!(rt; writer.as_slice(), row.lines.as_bytes(), "{}", row.name);
+    for row in &ROWS {
+        assert!(rt; gives_its_lines(&rt, &config, row), "{}", row.name);
     }
 }
 
@@ -138,17 +157,6 @@ fn reads_back(answer: &[u8]) -> bool {
     read_path(path).is_ok() && sum % 65535 == 0
 }
 
-/// The bytes of a text of hex.
-fn bytes_of(rt: &(impl AllocGlobal + Abort), digits: &[u8]) -> Vec<u8> {
-    let mut bytes = Vec::new(rt.alloc());
-    bytes.resize(digits.len() / 2, 0).expect(rt, "room");
-    assert!(rt;
-        hex::decode_to_slice(digits, bytes.as_mut_slice()).is_ok(),
-        "hex"
-    );
-    bytes
-}
-
 /// The datagram gives one line, and an answer reads back.
 fn gives_one_line(
     rt: &(impl AllocGlobal + Abort),
@@ -188,9 +196,7 @@ fn answers_every_beginning(rt: HostRuntime) {
     let mut input = Vec::new(rt.alloc());
     for len in 0..92usize {
         input.clear();
-        let digits = len.saturating_mul(2);
-        let beginning = DATAGRAM.as_bytes().get(..digits).expect(&rt, "digits");
-        input.extend_from_slice(beginning).expect(&rt, "input");
+        push_hex(&rt, &mut input, &FIRST[..len]);
         input.push(b'\n').expect(&rt, "input");
         let line = line_of(&rt, &config, &arriving, input.as_slice());
         let line = line.as_slice();
@@ -210,16 +216,12 @@ fn answers_every_changed_byte(rt: HostRuntime) {
         moment: 1694520417,
         ..ARRIVING
     };
-    let digits = DATAGRAM.as_bytes();
-    let datagram = bytes_of(&rt, digits);
     let mut text = Vec::new(rt.alloc());
-    for at in 0..datagram.len() {
+    for at in 0..92usize {
         for turn in 1..=255u8 {
-            let mut changed = bytes_of(&rt, digits);
-            if let Some(byte) = changed.get_mut(at) {
-                *byte ^= turn;
-            }
-            gives_one_line(&rt, &config, &arriving, changed.as_slice(), &mut text);
+            let mut changed = FIRST;
+            changed[at] ^= turn;
+            gives_one_line(&rt, &config, &arriving, &changed, &mut text);
         }
     }
 }
@@ -321,7 +323,7 @@ fn tells_a_device_that_fails(rt: HostRuntime) {
 #[test]
 fn ends_without_memory(rt: HostRuntime) {
     let alloc = rt.alloc();
-    let config = match read_config(alloc, CONFIG) {
+    let config = match read_config(alloc, CONFIGURATION) {
         Ok(config) => config,
         Err(fault) => {
             assert_eq!(rt; fault, ConfigFault::Memory);

@@ -7,5 +7,7 @@ mod router;
 #[cfg(test)]
 mod tests;
 
-pub use datagram::{FIRST, IN_TIME, LATE, MAC_AT, OTHER_MAC, PATH_AT, PAYLOAD_AT, with_bytes};
+pub use datagram::{
+    ANSWER, FIRST, IN_TIME, LATE, MAC_AT, OTHER_MAC, PATH_AT, PAYLOAD_AT, with_bytes,
+};
 pub use router::{CONFIGURATION, KEY};
