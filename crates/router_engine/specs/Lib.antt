@@ -1,4 +1,5 @@
 pub mod Lines
+pub mod Answers
 pub mod Route
 pub mod Replay
 pub mod ReplayParts

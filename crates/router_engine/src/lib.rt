@@ -2,6 +2,7 @@
 //! line, `replay` makes steps of the pipeline and reports.
 #![tactic(auto)]
 
+mod answers;
 #[cfg(test)]
 mod cases;
 mod fault;
@@ -17,6 +18,7 @@ mod schedules;
 #[cfg(test)]
 mod tests;
 
+pub use answers::answer_line;
 pub use fault::LinesFault;
 pub use replay::replay_lines;
 pub use route::route_lines;

@@ -1,12 +1,13 @@
 //! The engine of `router route`: answers line by line what it reads.
 ghost use Rattle.std.specs.Prelude.{IfSome};
-ghost use Rattle.router_lines.specs.Answers.{answer_to};
+ghost use Rattle.router_engine.specs.Answers.{answer_to};
 ghost use Rattle.router_engine.specs.Route.{Wrote};
 
+use crate::answers::answer_line;
 use crate::fault::LinesFault;
 use crate::lines::{is_memory, read_line, send};
 use process_packet::Config;
-use router_lines::{Arriving, answer_line};
+use router_lines::Arriving;
 use std::alloc::Global;
 use std::io::{BufRead, Write};
 

@@ -1,5 +1,4 @@
 pub mod HexLineLemmas
-pub mod AnswerLemmas
 pub mod TextLemmas
 pub mod GatheredLemmas
 pub mod ReportLemmas

@@ -1,6 +1,5 @@
 pub mod Arriving
 pub mod HexLine
-pub mod Answers
 pub mod Text
 pub mod Names
 pub mod StepLine

@@ -5,7 +5,7 @@ ghost use Rattle.router_lines.specs.HexLine.{bytes_of};
 use std::alloc::AllocError;
 
 /// Replaces the bytes with those that a line of hex has; false where the line is no hex.
-pub(crate) fn read_hex(line: &[u8], bytes: &mut Vec<u8>) -> Result<bool, AllocError>
+pub fn read_hex(line: &[u8], bytes: &mut Vec<u8>) -> Result<bool, AllocError>
     ensures { IfOk result (λ is_hex. bytes_of line.now ≡ (if is_hex then Some bytes.new.items else None)) }
 {
     bytes.clear();

@@ -1,4 +1,4 @@
-use Rattle.router_lines.specs.Answers.{answer_to}
+use Rattle.router_engine.specs.Answers.{answer_to}
 use Rattle.router_engine.proofs.RouteLemmas.{Progress}
 use Rattle.router_engine.proofs.route.route_lines.Given as goal
 

@@ -3,14 +3,13 @@ ghost use Rattle.std.specs.Prelude.{◌≡◌, ◌++◌, ◌*◌, length, IfOk, 
 ghost use Rattle.hex.specs.Hex.{encode_lower};
 ghost use Rattle.process_packet.specs.Routed.{IsAnswer};
 ghost use Rattle.scion_packet.specs.Packet.{first_fault};
-ghost use Rattle.router_lines.specs.Answers.{answer_for, answer_to, drop_text, reply_text, sent_text, text_for, to_text};
+ghost use Rattle.router_engine.specs.Answers.{answer_for, answer_to, drop_text, reply_text, sent_text, text_for, to_text};
 
-use crate::arriving::Arriving;
-use crate::hex_line::read_hex;
 use process_packet::{
     Cause, Config, Decision, Problem, Underlay, answers_are_sound, route_in_place,
 };
 use router_config::{push_decimal, push_underlay};
+use router_lines::{Arriving, read_hex};
 use scmp_answer::{AnswerLen, answer_into};
 use std::alloc::AllocError;
 

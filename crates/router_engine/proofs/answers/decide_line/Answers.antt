@@ -2,8 +2,8 @@ use Rattle.std.proofs.Common.{ap, subst, ◌∙◌}
 use Rattle.scion_packet.specs.Packet.{first_fault}
 use Rattle.process_packet.specs.Network.{network}
 use Rattle.process_packet.specs.Routed.{IsAnswer}
-use Rattle.router_lines.proofs.AnswerLemmas.{answered_sound}
-use Rattle.router_lines.proofs.answers.decide_line.Goals as goal
+use Rattle.router_engine.proofs.AnswerLemmas.{answered_sound}
+use Rattle.router_engine.proofs.answers.decide_line.Goals as goal
 
 pub write_answer-requires : goal.write_answer-requires
 write_answer-requires c asks =
