@@ -24,8 +24,6 @@ mod request;
 mod routed;
 mod sight;
 mod spot;
-#[cfg(test)]
-mod tests;
 mod totals;
 mod underlay;
 

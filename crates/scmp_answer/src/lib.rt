@@ -8,8 +8,6 @@ mod arriving;
 mod checksum;
 mod message;
 mod outcome;
-#[cfg(test)]
-mod tests;
 mod way_back;
 mod writing;
 
