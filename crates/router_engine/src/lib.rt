@@ -3,10 +3,10 @@
 #![tactic(auto)]
 
 mod answers;
-#[cfg(test)]
-mod cases;
 mod fault;
 mod lines;
+#[cfg(test)]
+mod malicious_tests;
 mod replay;
 #[cfg(test)]
 mod replay_tests;
@@ -17,6 +17,8 @@ mod rows;
 mod schedules;
 #[cfg(test)]
 mod tests;
+#[cfg(test)]
+mod worked_tests;
 
 pub use answers::answer_line;
 pub use fault::LinesFault;

@@ -1,10 +1,9 @@
 //! The engine of `replay` over readers and writers in memory: worked schedules, each kind of line, and
 //! what is refused.
-use crate::cases::push_hex;
 use crate::fault::LinesFault;
 use crate::replay::replay_lines;
 use crate::schedules::{BANDED, SCHEDULES, Schedule, TWO_BANDS, USUAL};
-use crate::tests::FailsAt;
+use crate::tests::{FailsAt, push_hex};
 use process_packet::Config;
 use router_config::{ConfigFault, read_config};
 use sample_packets::FIRST;
@@ -54,7 +53,9 @@ fn gives_its_text(rt: &(impl AllocGlobal + Abort), schedule: &Schedule) -> bool 
     let mut input = Vec::new(rt.alloc());
     for line in schedule.arrivals.lines() {
         input.extend_from_slice(line.as_bytes()).expect(rt, "input");
-        push_hex(rt, &mut input, &FIRST[4..]);
+        if !push_hex(&mut input, &FIRST[4..]) {
+            return false;
+        }
         input.push(b'\n').expect(rt, "input");
     }
     input

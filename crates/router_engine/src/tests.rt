@@ -1,229 +1,149 @@
-//! The engine of `route` over readers and writers in memory.
-use crate::cases::{bytes_of, expanded, push_hex};
+//! The engine of `route` over readers and writers in memory: lines, and devices that fail.
 use crate::fault::LinesFault;
 use crate::route::route_lines;
-use crate::rows::{LONG_ANSWER, LONG_HEADER, ROWS, Row};
-use path_fields::read_path;
+use crate::rows::{LONG_ANSWER, LONG_HEADER};
 use process_packet::{Config, Ip, Underlay};
-use router_config::{ConfigFault, read_config, read_underlay};
-use router_lines::{Arriving, usual_source};
-use sample_packets::{CONFIGURATION, FIRST};
-use scion_header::read_header;
+use router_config::{ConfigFault, read_config};
+use router_lines::Arriving;
+use sample_packets::{CONFIGURATION, IN_TIME};
+use std::alloc::Global;
 use std::io::{self, Read, Write};
-use std::process::Abort;
+use std::test::*;
 
-/// How the examples arrive where nothing else is told.
-const ARRIVING: Arriving = Arriving {
+/// From the other end of link 1, at a second at which the first datagram is sent on.
+pub const ARRIVING: Arriving = Arriving {
     link: 1,
     source: Underlay {
         ip: Ip::V4([10, 1, 0, 2]),
         port: 40000,
     },
-    moment: 7,
+    moment: IN_TIME,
 };
 
-fn config(rt: &(impl AllocGlobal + Abort)) -> Config {
-    read_config(rt.alloc(), CONFIGURATION).expect(rt, "config")
-}
-
-#[test]
-fn answers_each_line(rt: HostRuntime) {
-    let alloc = rt.alloc();
-    let config = config(&rt);
-    for (input, want, ended) in [
-        ("", "", Ok(())),
-        ("\n", "drop 1\n", Ok(())),
-        ("00AbCdEf", "drop 1\n", Ok(())),
-        (
-            "000000000000000000000000\n00000000000000000000000\n00\n",
-            "drop 3\n",
-            Err(LinesFault::Line(2)),
-        ),
-        (
-            "00\n\n0000000000000000000000FF",
-            "drop 1\ndrop 1\ndrop 3\n",
-            Ok(()),
-        ),
-        ("00\r\n", "", Err(LinesFault::Line(1))),
-        ("00\n0g", "drop 1\n", Err(LinesFault::Line(2))),
-    ] {
-        let mut reader = input.as_bytes();
-        let mut writer = Vec::new(alloc);
-        let result = route_lines(alloc, &config, &ARRIVING, &mut reader, &mut writer);
-        assert_eq!(rt; result, ended, "at {input:?}");
-        assert_eq!(rt; writer.as_slice(), want.as_bytes(), "at {input:?}");
-    }
-}
-
-/// Whether a worked example gives its lines.
-fn gives_its_lines(rt: &(impl AllocGlobal + Abort), config: &Config, row: &Row) -> bool {
-    let source = match read_underlay(row.from) {
-        Some(from) => from,
-        None => usual_source(config, row.link).expect(rt, row.name),
-    };
-    let arriving = Arriving {
-        link: row.link,
-        source,
-        moment: row.now,
-    };
-    let input = expanded(rt, row.input, b"");
-    let digits = input.as_slice().strip_suffix(b"\n".as_slice());
-    let own = bytes_of(rt, digits.expect(rt, row.name));
-    let want = expanded(rt, row.lines, own.as_slice());
-    gives(rt, config, &arriving, input.as_slice(), want.as_slice())
-}
-
-/// Whether the engine reads all of the input, and writes just this text.
-fn gives(
-    rt: &(impl AllocGlobal + Abort),
+/// Whether the engine reads the whole text; what it writes stands in the line then.
+pub fn answers(
+    alloc: Global,
     config: &Config,
     arriving: &Arriving,
-    input: &[u8],
-    want: &[u8],
+    text: &[u8],
+    line: &mut Vec<u8>,
 ) -> bool {
-    let mut reader = input;
-    let mut writer = Vec::new(rt.alloc());
-    let result = route_lines(rt.alloc(), config, arriving, &mut reader, &mut writer);
-    result == Ok(()) && writer.as_slice() == want
+    line.clear();
+    let mut reader = text;
+    route_lines(alloc, config, arriving, &mut reader, line).is_ok()
 }
 
-#[test]
-fn answers_the_worked_examples(rt: HostRuntime) {
-    let config = config(&rt);
-    for row in &ROWS {
-        assert!(rt; gives_its_lines(&rt, &config, row), "{}", row.name);
-    }
-}
-
-/// The line that the engine writes for one datagram in hex.
-fn line_of(
-    rt: &(impl AllocGlobal + Abort),
-    config: &Config,
-    arriving: &Arriving,
-    input: &[u8],
-) -> Vec<u8> {
-    let alloc = rt.alloc();
-    let mut reader = input;
-    let mut writer = Vec::new(alloc);
-    let result = route_lines(alloc, config, arriving, &mut reader, &mut writer);
-    assert!(rt; result == Ok(()), "the line is read");
-    writer
-}
-
-/// A datagram of 9,216 bytes with 64 hops is answered in 1,232 bytes; one byte more is too long.
-#[test]
-fn answers_the_longest_datagram(rt: HostRuntime) {
-    let config = config(&rt);
-    let arriving = Arriving {
-        moment: 1694499816,
-        ..ARRIVING
-    };
-    let mut input = Vec::new(rt.alloc());
-    input
-        .extend_from_slice(LONG_HEADER.as_bytes())
-        .expect(&rt, "header");
-    for _ in 0..8360 {
-        input.extend_from_slice(b"5a").expect(&rt, "payload");
-    }
-    let line = line_of(&rt, &config, &arriving, input.as_slice());
-    assert!(rt; line.as_slice() == LONG_ANSWER.as_bytes(), "9,216 bytes");
-    input.extend_from_slice(b"5a").expect(&rt, "payload");
-    let line = line_of(&rt, &config, &arriving, input.as_slice());
-    assert!(rt; line.as_slice() == b"drop 11\n".as_slice(), "9,217 bytes");
-}
-
-/// Whether the bytes are a datagram whose header and path are read, and whose message has the right
-/// checksum: the sum of all words is then a multiple of 65,535.
-fn reads_back(answer: &[u8]) -> bool {
-    let Ok(header) = read_header(answer) else {
-        return false;
-    };
-    let begin = header.front_len();
-    let end = 4 * usize::from(header.header_length);
-    let (Some(addresses), Some(path), Some(message)) = (
-        answer.get(12..begin),
-        answer.get(begin..end),
-        answer.get(end..),
-    ) else {
-        return false;
-    };
-    let mut sum = u64::from(header.payload_length).wrapping_add(202);
-    for part in [addresses, message] {
-        for (at, byte) in part.iter().enumerate() {
-            let word = if at % 2 == 0 { 256 } else { 1 };
-            sum = sum.wrapping_add(u64::from(*byte).wrapping_mul(word));
-        }
-    }
-    read_path(path).is_ok() && sum % 65535 == 0
-}
-
-/// The datagram gives one line, and an answer reads back.
-fn gives_one_line(
-    rt: &(impl AllocGlobal + Abort),
+/// The same of a datagram as a line of hex, which stands in the text then.
+pub fn answers_datagram(
+    alloc: Global,
     config: &Config,
     arriving: &Arriving,
     datagram: &[u8],
     text: &mut Vec<u8>,
-) {
+    line: &mut Vec<u8>,
+) -> bool {
     text.clear();
-    text.resize(184, 0).expect(rt, "room");
-    assert!(rt;
-        hex::encode_to_slice(datagram, text.as_mut_slice()).is_ok(),
-        "hex"
-    );
-    let line = line_of(rt, config, arriving, text.as_slice());
-    let line = line.as_slice();
-    assert!(rt;
-        line.iter().filter(|byte| **byte == b'\n').count() == 1,
-        "one line"
-    );
-    assert!(rt; line.last() == Some(&b'\n'), "a whole line");
-    if let Some(hex) = line.strip_prefix(b"answer 1 - ".as_slice()) {
-        let digits = hex.get(..hex.len().saturating_sub(1)).expect(rt, "digits");
-        let answer = bytes_of(rt, digits);
-        assert!(rt; reads_back(answer.as_slice()), "it reads back");
+    push_hex(text, datagram)
+        && text.push(b'\n').is_ok()
+        && answers(alloc, config, arriving, text.as_slice(), line)
+}
+
+/// Whether there was memory for the bytes in hex behind the text.
+pub fn push_hex(text: &mut Vec<u8>, bytes: &[u8]) -> bool {
+    let begin = text.len();
+    let end = begin.saturating_add(bytes.len().saturating_mul(2));
+    if text.resize(end, 0).is_err() {
+        return false;
+    }
+    match text.as_mut_slice().get_mut(begin..end) {
+        Some(digits) => hex::encode_to_slice(bytes, digits).is_ok(),
+        None => false,
     }
 }
 
-/// Each beginning of a datagram that is cut in its header is dropped; one that is cut behind it is answered.
-#[test]
-fn answers_every_beginning(rt: HostRuntime) {
-    let config = config(&rt);
-    let arriving = Arriving {
-        moment: 1694499816,
-        ..ARRIVING
-    };
-    let mut input = Vec::new(rt.alloc());
-    for len in 0..92usize {
-        input.clear();
-        push_hex(&rt, &mut input, &FIRST[..len]);
-        input.push(b'\n').expect(&rt, "input");
-        let line = line_of(&rt, &config, &arriving, input.as_slice());
-        let line = line.as_slice();
-        if len < 84 {
-            assert!(rt; line == b"drop 1\n".as_slice(), "{len} bytes");
-        } else {
-            assert!(rt; line.starts_with(b"answer 1 - "), "{len} bytes");
-        }
-    }
+/// Whether the engine ends so at a text, and writes just this.
+fn gives(
+    alloc: Global,
+    config: &Config,
+    text: &str,
+    wanted: &str,
+    ended: Result<(), LinesFault>,
+) -> bool {
+    let mut reader = text.as_bytes();
+    let mut writer = Vec::new(alloc);
+    let result = route_lines(alloc, config, &ARRIVING, &mut reader, &mut writer);
+    result == ended && writer.as_slice() == wanted.as_bytes()
 }
 
-/// Each datagram that differs from a valid one in one byte gives one line, and each answer reads back.
 #[test]
-fn answers_every_changed_byte(rt: HostRuntime) {
-    let config = config(&rt);
-    let arriving = Arriving {
-        moment: 1694520417,
-        ..ARRIVING
-    };
-    let mut text = Vec::new(rt.alloc());
-    for at in 0..92usize {
-        for turn in 1..=255u8 {
-            let mut changed = FIRST;
-            changed[at] ^= turn;
-            gives_one_line(&rt, &config, &arriving, &changed, &mut text);
-        }
+fn answers_each_line(rt: HostRuntime) -> Result<(), Fail> {
+    let alloc = rt.alloc();
+    let config = read_config(alloc, CONFIGURATION)?;
+    assert!(rt; gives(alloc, &config, "", "", Ok(())));
+    assert!(rt; gives(alloc, &config, "\n", "drop 1\n", Ok(())));
+    assert!(rt; gives(alloc, &config, "00AbCdEf", "drop 1\n", Ok(())));
+    assert!(rt;
+        gives(
+            alloc,
+            &config,
+            "00\n\n0000000000000000000000FF",
+            "drop 1\ndrop 1\ndrop 3\n",
+            Ok(())
+        )
+    );
+    Ok(())
+}
+
+#[test]
+fn ends_at_a_line_that_is_no_hex(rt: HostRuntime) -> Result<(), Fail> {
+    let alloc = rt.alloc();
+    let config = read_config(alloc, CONFIGURATION)?;
+    assert!(rt;
+        gives(
+            alloc,
+            &config,
+            "000000000000000000000000\n00000000000000000000000\n00\n",
+            "drop 3\n",
+            Err(LinesFault::Line(2))
+        )
+    );
+    assert!(rt; gives(alloc, &config, "00\r\n", "", Err(LinesFault::Line(1))));
+    assert!(rt;
+        gives(
+            alloc,
+            &config,
+            "00\n0g",
+            "drop 1\n",
+            Err(LinesFault::Line(2))
+        )
+    );
+    Ok(())
+}
+
+/// Whether there was memory for the header with this many bytes `5a` behind it, in hex.
+fn push_long(text: &mut Vec<u8>, payload: usize) -> bool {
+    text.clear();
+    let mut good = text.extend_from_slice(LONG_HEADER.as_bytes()).is_ok();
+    for _ in 0..payload {
+        good = text.extend_from_slice(b"5a").is_ok() && good;
     }
+    good
+}
+
+/// A datagram of 9,216 bytes with 64 hops is answered in 1,232 bytes; one byte more is too long.
+#[test]
+fn answers_the_longest_datagram(rt: HostRuntime) -> Result<(), Fail> {
+    let alloc = rt.alloc();
+    let config = read_config(alloc, CONFIGURATION)?;
+    let mut text = Vec::new(alloc);
+    let mut line = Vec::new(alloc);
+    assert!(rt; push_long(&mut text, 8360));
+    assert!(rt; answers(alloc, &config, &ARRIVING, text.as_slice(), &mut line));
+    assert!(rt; line.as_slice() == LONG_ANSWER.as_bytes(), "9,216 bytes");
+    assert!(rt; push_long(&mut text, 8361));
+    assert!(rt; answers(alloc, &config, &ARRIVING, text.as_slice(), &mut line));
+    assert!(rt; line.as_slice() == b"drop 11\n".as_slice(), "9,217 bytes");
+    Ok(())
 }
 
 /// A reader and a writer of a few bytes a call, which fails at one of its calls.
@@ -274,48 +194,55 @@ impl Write for FailsAt {
     }
 }
 
+/// Whether the engine tells a reader that fails at this call, and has answered the lines before; it reads
+/// "00", an end, "0", "1", an end.
+fn tells_of_its_reader(alloc: Global, config: &Config, left: u64) -> io::Result<bool> {
+    let bytes = Vec::from_slice(alloc, b"\n10\n00")?;
+    let mut reader = io::BufReader::new(alloc, FailsAt { left, bytes })?;
+    let mut writer = Vec::new(alloc);
+    let result = route_lines(alloc, config, &ARRIVING, &mut reader, &mut writer);
+    let wanted = if left < 7 {
+        Err(LinesFault::Input)
+    } else {
+        Ok(())
+    };
+    let lines = if left < 3 {
+        ""
+    } else if left < 6 {
+        "drop 1\n"
+    } else {
+        "drop 1\ndrop 1\n"
+    };
+    Ok(result == wanted && writer.as_slice() == lines.as_bytes())
+}
+
+/// Whether it tells a writer that fails at this call.
+fn tells_of_its_writer(alloc: Global, config: &Config, left: u64) -> bool {
+    let mut reader = b"00\n01\n".as_slice();
+    let bytes = Vec::new(alloc);
+    let mut writer = FailsAt { left, bytes };
+    let wanted = if left < 16 {
+        Err(LinesFault::Output)
+    } else {
+        Ok(())
+    };
+    route_lines(alloc, config, &ARRIVING, &mut reader, &mut writer) == wanted
+}
+
 #[test]
-fn tells_a_device_that_fails(rt: HostRuntime) {
-    let alloc = rt.alloc();
-    let config = config(&rt);
-    // Backwards: "00", an end, "0", "1", an end.
-    let input = b"\n10\n00".as_slice();
+fn tells_a_device_that_fails(rt: HostRuntime) -> Result<(), Fail> {
+    let config = read_config(rt.alloc(), CONFIGURATION)?;
     for left in 0..8 {
-        let bytes = Vec::from_slice(alloc, input).expect(&rt, "bytes");
-        let mut reader = io::BufReader::new(alloc, FailsAt { left, bytes }).expect(&rt, "reader");
-        let mut writer = Vec::new(alloc);
-        let result = route_lines(alloc, &config, &ARRIVING, &mut reader, &mut writer);
-        let want = if left < 7 {
-            Err(LinesFault::Input)
-        } else {
-            Ok(())
-        };
-        assert_eq!(rt; result, want, "at call {left} of the reader");
-        let lines = if left < 3 {
-            0
-        } else if left < 6 {
-            7
-        } else {
-            14
-        };
-        assert_eq!(rt;
-            writer.as_slice(),
-            &b"drop 1\ndrop 1\n"[..lines],
-            "at call {left} of the reader"
-        );
+        let told = tells_of_its_reader(rt.alloc(), &config, left)?;
+        assert!(rt; told, "at call {left} of the reader");
     }
     for left in 0..17 {
-        let mut reader = b"00\n01\n".as_slice();
-        let bytes = Vec::new(alloc);
-        let mut writer = FailsAt { left, bytes };
-        let result = route_lines(alloc, &config, &ARRIVING, &mut reader, &mut writer);
-        let want = if left < 16 {
-            Err(LinesFault::Output)
-        } else {
-            Ok(())
-        };
-        assert_eq!(rt; result, want, "at call {left} of the writer");
+        assert!(rt;
+            tells_of_its_writer(rt.alloc(), &config, left),
+            "at call {left} of the writer"
+        );
     }
+    Ok(())
 }
 
 /// With each allocation refused in turn (`--fail-alloc`): the engine ends with `memory`, after a

@@ -43,16 +43,6 @@ pub const IN_TIME: u64 = 1694499816;
 /// The first second at which its second hop field has expired.
 pub const LATE: u64 = 1694520417;
 
-/// The answer to the datagram with `OTHER_MAC` at `LATE`, up to its quote: the hop field has expired. From
-/// 1-ff00:0:110, 10.0.0.1, over the path travelled back.
-pub const ANSWER: [u8; 92] = *b"\x00\x00\x00\x01\xca\x15\x00\x64\x01\x00\x00\x00\
-    \x00\x01\xff\x00\x00\x00\x01\x11\x00\x01\xff\x00\x00\x00\x01\x10\x0a\x01\x00\x05\x0a\x00\x00\x01\
-    \x02\x00\x30\x00\x00\x00\x12\x34\x65\x00\x00\x00\
-    \x00\x3f\x00\x12\x00\x00\xb0\xb1\xb2\xb3\xb4\xb5\
-    \x00\x3f\x00\x01\x00\x02\xc0\xc1\xc2\xc3\xc4\xc5\
-    \x00\x3f\x00\x00\x00\x11\xa0\xa1\xa2\xa3\xa4\xa5\
-    \x04\x34\xe2\xbd\x00\x00\x00\x3c";
-
 /// A datagram with these bytes in place of those from an offset on.
 pub fn with_bytes(datagram: [u8; 92], at: usize, bytes: &[u8]) -> [u8; 92]
     requires { at + length bytes.now ≤ 92 }
