@@ -1,20 +1,12 @@
 use super::*;
+use sample_packets::{FIRST, IN_TIME, PATH_AT, with_bytes};
 use std::test::*;
 
-/// From 1-ff00:0:111 to 1-ff00:0:112 over three hops, at the second one; its MAC was made by OpenSSL.
-const DATAGRAM: [u8; 92] = [
-    0x00, 0x00, 0x00, 0x01, 0x11, 0x15, 0x00, 0x08, 0x01, 0x00, 0x00, 0x00, 0x00, 0x01, 0xff, 0x00,
-    0x00, 0x00, 0x01, 0x12, 0x00, 0x01, 0xff, 0x00, 0x00, 0x00, 0x01, 0x11, 0x0a, 0x02, 0x00, 0x07,
-    0x0a, 0x01, 0x00, 0x05, 0x01, 0x00, 0x30, 0x00, 0x01, 0x00, 0x12, 0x34, 0x65, 0x00, 0x00, 0x00,
-    0x00, 0x3f, 0x00, 0x00, 0x00, 0x11, 0xa0, 0xa1, 0xa2, 0xa3, 0xa4, 0xa5, 0x00, 0x3f, 0x00, 0x01,
-    0x00, 0x02, 0x0e, 0x66, 0xd2, 0x97, 0x45, 0x36, 0x00, 0x3f, 0x00, 0x12, 0x00, 0x00, 0xb0, 0xb1,
-    0xb2, 0xb3, 0xb4, 0xb5, 0x75, 0x59, 0x75, 0x59, 0x00, 0x08, 0x00, 0x00,
-];
-
+/// How the first datagram arrives at the timing program.
 const ARRIVED: Arrived = Arrived {
     begin: 0,
     end: 92,
-    moment: 1694499816,
+    moment: IN_TIME,
     address: 0x0a01_0002,
     port: 40000,
     link: 1,
@@ -24,24 +16,21 @@ const ARRIVED: Arrived = Arrived {
 
 #[test]
 fn tells_of_rounds(rt: HostRuntime) {
-    let mut bytes = DATAGRAM;
+    let mut bytes = FIRST;
     // each time it is sent without an address, by link 2
     assert_eq!(rt;
         decision_bench_rounds(rt.alloc(), 5, &[ARRIVED], &mut bytes),
         15
     );
-    assert!(rt; bytes == DATAGRAM);
+    assert!(rt; bytes == FIRST);
 }
 
 #[test]
 fn tells_once(rt: HostRuntime) {
-    let mut bytes = DATAGRAM;
+    let mut bytes = FIRST;
     let told = decision_bench_once(rt.alloc(), &ARRIVED, &mut bytes);
     assert_eq!(rt; (told.kind, told.what, told.place), (1, 2, 0));
-    let mut wanted = DATAGRAM;
     // the cursor at the third hop, and the identifier with the MAC's first two bytes xored in
-    wanted[36] = 0x02;
-    wanted[42] = 0x1c;
-    wanted[43] = 0x52;
+    let wanted = with_bytes(with_bytes(FIRST, PATH_AT, &[0x02]), 42, &[0x1c, 0x52]);
     assert!(rt; bytes == wanted);
 }
