@@ -1,5 +1,3 @@
-pub mod KeptLemmas
-pub mod SentLemmas
 pub mod Upheld
 pub mod Starts
 pub mod Turns

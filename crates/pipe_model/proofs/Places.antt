@@ -10,11 +10,12 @@ use Rattle.pipe_order.specs.Place.{Place, InHand, Dropped, here_if, in_fates, in
 use Rattle.pipe_order.specs.Rules.{Rules}
 use Rattle.pipe_order.specs.World.{Fate, Hand, Empty, Got, Owes}
 use Rattle.router_rules.specs.Rules.{kinds}
-use Rattle.pipe_model.specs.Finding.{has_in_hand, has_in_pipe, is_among, place_of_sent}
-use Rattle.pipe_model.specs.Sent.{joined}
-use Rattle.pipe_model.specs.Shown.{first}
+use Rattle.pipe_model.specs.Finding.{has_in_hand, has_in_pipe, is_among}
+use Rattle.pipe_parts.specs.Sent.{place_of_sent}
+use Rattle.pipe_parts.specs.Sent.{joined}
+use Rattle.pipe_parts.specs.Sent.{first}
 use Rattle.router_rules.specs.declared.outgoing.Outgoing.{Outgoing as Left}
-use Rattle.pipe_model.specs.declared.sent.Way.{Way}
+use Rattle.pipe_parts.specs.declared.sent.Way.{Way}
 
 pub first-append : {X : Type 0} (xs ys : List X) → first (xs ++ ys) ≡ option_or (first xs) (first ys)
 first-append [] ys = refl

@@ -11,7 +11,8 @@ use Rattle.process_packet.specs.declared.arrival.Arrival.{Arrival as Came}
 use Rattle.process_packet.specs.declared.config.Config.{Config}
 use Rattle.router_rules.specs.Links.{link_index}
 use Rattle.router_rules.specs.Rules.{Arrives, kinds, rules}
-use Rattle.pipe_model.specs.Arrivals.{AreArrivals, AreFrom, AreNumbered, arrived_in, source, source_entry, sources_from}
+use Rattle.pipe_model.specs.Begun.{AreArrivals, AreFrom, AreNumbered}
+use Rattle.pipe_parts.specs.Arrivals.{arrived_in, source, source_entry, sources_from}
 use Rattle.pipe_model.specs.Headline.{IsReached}
 
 abbrev Lists : Type 0

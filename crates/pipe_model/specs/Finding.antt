@@ -1,9 +1,8 @@
 -- Whether a packet that is looked for is in a hand or in a pipe.
-use Rattle.std.specs.Prelude.{ℕ, Bool, false, if◌then◌else◌, drop, List}
+use Rattle.std.specs.Prelude.{ℕ, Bool, false, drop, List}
 use Rattle.std.specs.List.{list_any}
 use Rattle.pipe_order.specs.Item.{is_named}
 use Rattle.pipe_order.specs.Pipe.{Entry, Pipe}
-use Rattle.pipe_order.specs.Place.{Place, Answered, Sent}
 use Rattle.pipe_order.specs.World.{Hand, Empty, Got, Owes}
 use Rattle.router_rules.specs.Rules.{kinds}
 
@@ -17,7 +16,3 @@ is_among named es = list_any (λ e. is_named named e.item) es
 
 abbrev pub has_in_pipe : (ℕ → ℕ → Bool) → Pipe kinds → Bool
 has_in_pipe named p = is_among named (drop p.taken p.history)
-
--- where what was sent stands, as itself or as an answer
-abbrev pub place_of_sent : Bool → Place kinds
-place_of_sent answer = if answer then Answered else Sent

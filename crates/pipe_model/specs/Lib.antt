@@ -1,12 +1,6 @@
 pub mod Step
-pub mod Items
-pub mod Causes
-pub mod Outcomes
-pub mod Ended
-pub mod Kept
 pub mod Pipeline
-pub mod Arrivals
+pub mod Begun
 pub mod Shown
-pub mod Sent
-pub mod Headline
 pub mod Finding
+pub mod Headline

@@ -1,18 +1,17 @@
 -- What is told of a pipeline: what each link sent, where a packet is, how many of them.
 use Rattle.std.specs.Prelude.{ℕ, Bool, ◌==◌, List, [], ◌∷◌, map, slice_index_or, Option, Some, None, option_map}
-use Rattle.pipe_order.specs.Item.{Outgoing}
 use Rattle.pipe_order.specs.Place as place
 use Rattle.pipe_order.specs.Place.{places}
 use Rattle.pipe_order.specs.Totals.{answered_count, dropped_count, received_count, sent_count, waiting_count}
 use Rattle.pipe_order.specs.Worker.{Worker, Receiver, Processor, Slow, Forwarder, Controller}
 use Rattle.pipe_order.specs.World.{Cause}
 use Rattle.process_packet.specs.Cause.{number_of}
-use Rattle.process_packet.specs.declared.cause.Cause.{Cause as Why}
-use Rattle.process_packet.specs.declared.cause.Cause.TheVariants as why
 use Rattle.process_packet.specs.declared.config.Config.{Config}
 use Rattle.process_packet.specs.declared.totals.Totals.{Totals}
 use Rattle.router_rules.specs.Links.{interface_at, link_index}
 use Rattle.router_rules.specs.Rules.{kinds}
+use Rattle.pipe_parts.specs.Sent.{first, left}
+use Rattle.pipe_parts.specs.Causes.{why_of}
 use Rattle.pipe_model.specs.Pipeline.{Pipeline, rules_in}
 use Rattle.router_rules.specs.declared.outgoing.Outgoing.{Outgoing as Left}
 use Rattle.pipe_model.specs.declared.place.Place.{Place as Stands}
@@ -21,9 +20,6 @@ use Rattle.router_rules.specs.declared.worker.Worker.{Worker as Named}
 use Rattle.router_rules.specs.declared.worker.Worker.TheVariants as named
 
 -- ---- what was sent
-
-abbrev pub left : Outgoing kinds → Left × List ℕ
-left o = (record { arrived = o.parcel.came_by; number = o.number; answer = o.answer; to = o.parcel.to }, o.parcel.bytes)
 
 -- by the link with the interface, in order; nothing by a link that isn't there
 abbrev pub sent_by : Pipeline → ℕ → List (Left × List ℕ)
@@ -38,16 +34,6 @@ named_in c Slow = named.Slow
 named_in c (Forwarder l) = named.Forwarder (interface_at c l)
 named_in c Controller = named.Controller
 
-abbrev pub why_of : Cause kinds → Why
-why_of (Cause.Ruled w) = w
-why_of Cause.ProcessorFull = why.ProcessorFull
-why_of Cause.LinkFull = why.LinkFull
-why_of Cause.AnswerFull = why.AnswerFull
-why_of Cause.NoMemory = why.NoMemory
-why_of Cause.Closed = why.Closed
-why_of Cause.SendFailed = why.SendFailed
-why_of Cause.NoBuffer = why.NoBuffer
-
 abbrev pub stands_in : Config → place.Place kinds → Stands
 stands_in c (place.InHand w) = stands.Hand (named_in c w)
 stands_in c (place.InPipe w) = stands.Pipe (named_in c w)
@@ -55,10 +41,6 @@ stands_in c (place.InHighPipe l) = stands.HighPipe (interface_at c l)
 stands_in c place.Sent = stands.Sent
 stands_in c place.Answered = stands.Answered
 stands_in c (place.Dropped w) = stands.Dropped (why_of w)
-
-abbrev pub first : {X : Type 0} → List X → Option X
-first [] = None
-first (x ∷ xs) = Some x
 
 -- the place of a packet by its link's interface and its number; None where it isn't received
 abbrev pub place_of : Pipeline → ℕ → ℕ → Option Stands

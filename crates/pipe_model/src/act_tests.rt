@@ -1,8 +1,7 @@
-use crate::fault::StepFault;
-use crate::pipe::Pipe;
 use crate::samples::{DATAGRAM, EXPIRED, IN_TIME, arrival, config, is_what_leaves};
 use crate::state::State;
-use crate::step::Step;
+use crate::step::{Step, StepFault};
+use pipe_parts::Pipe;
 use process_packet::{Bands, Config};
 use router_rules::{Queue, Worker};
 use std::alloc::Global;

@@ -5,19 +5,11 @@ ghost use Rattle.pipe_order.specs.Counts.{count, total};
 ghost use Rattle.pipe_order.specs.Pipe.{held};
 ghost use Rattle.pipe_order.specs.Totals.{packets_in_hand};
 ghost use Rattle.pipe_order.specs.World.{Empty};
-ghost use Rattle.pipe_model.specs.Items.{hand_in, item_in};
+ghost use Rattle.pipe_parts.specs.Items.{hand_in, item_in};
 ghost use Rattle.pipe_model.specs.Shown.{causes, is_number, totals_of};
 
-use crate::bytes::Bytes;
-use crate::entry::Entry;
-use crate::fate::Fates;
-use crate::hands::Hands;
-use crate::item::Hand;
-use crate::named::is_packet;
-use crate::naming::reason;
-use crate::pipe::Pipe;
-use crate::sent::Sent;
 use crate::state::State;
+use pipe_parts::{Bytes, Entry, Fates, Hand, Hands, Pipe, Sent, is_packet, reason};
 use process_packet::{Config, Totals};
 use router_rules::{Outgoing, link_count};
 

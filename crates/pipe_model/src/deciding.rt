@@ -3,15 +3,12 @@
 ghost use Rattle.std.specs.Prelude.{◌≡◌, ◌↔◌, Some, None, OnOk, OnErr, IsErrOf};
 ghost use Rattle.pipe_order.specs.Next.{next};
 ghost use Rattle.pipe_order.specs.Step.{Step};
-ghost use Rattle.router_rules.specs.Rules.{rules};
 ghost use Rattle.router_rules.specs.Actor.{worker_of};
+ghost use Rattle.router_rules.specs.Rules.{rules};
 
-use crate::cause::Cause;
-use crate::fault::StepFault;
-use crate::item::{Hand, Item};
-use crate::outcome::Outcome;
-use crate::rules::{decide, reply};
 use crate::state::State;
+use crate::step::StepFault;
+use pipe_parts::{Cause, Hand, Item, Outcome, decide, reply};
 use process_packet::Config;
 use router_rules::Actor;
 use std::alloc::Global;

@@ -1,15 +1,14 @@
 //! Marks: what closes a link, and the last that a worker pushes.
 
 ghost use Rattle.std.specs.Prelude.{◌≡◌, ◌↔◌, Some, None, OnOk, OnErr, IsErrOf};
-ghost use Rattle.pipe_order.specs.Next.{next};
+ghost use Rattle.pipe_order.specs.Next.{next, is_over};
 ghost use Rattle.pipe_order.specs.Step.{Step};
-ghost use Rattle.router_rules.specs.Rules.{rules};
-ghost use Rattle.pipe_order.specs.Next.{is_over};
 ghost use Rattle.router_rules.specs.Actor.{queue_of, worker_of};
+ghost use Rattle.router_rules.specs.Rules.{rules};
 
-use crate::fault::StepFault;
-use crate::item::Item;
 use crate::state::State;
+use crate::step::StepFault;
+use pipe_parts::Item;
 use process_packet::Config;
 use router_rules::{Actor, Channel, link_count};
 

@@ -3,13 +3,12 @@
 ghost use Rattle.std.specs.Prelude.{◌≡◌, ◌↔◌, Some, None, OnOk, OnErr, IsErrOf};
 ghost use Rattle.pipe_order.specs.Next.{may_take, next};
 ghost use Rattle.pipe_order.specs.Step.{Step};
-ghost use Rattle.router_rules.specs.Rules.{rules};
 ghost use Rattle.router_rules.specs.Actor.{queue_of, worker_of};
+ghost use Rattle.router_rules.specs.Rules.{rules};
 
-use crate::fault::StepFault;
-use crate::item::Hand;
-use crate::rules::home;
 use crate::state::State;
+use crate::step::StepFault;
+use pipe_parts::{Hand, home};
 use process_packet::Config;
 use router_rules::{Actor, Channel, has_two_bands};
 

@@ -5,11 +5,9 @@ ghost use Rattle.pipe_order.specs.Next.{next};
 ghost use Rattle.pipe_order.specs.Step.{Step};
 ghost use Rattle.router_rules.specs.Rules.{rules};
 
-use crate::cause::Cause;
-use crate::fault::StepFault;
-use crate::item::{Hand, Item};
-use crate::packet::Packet;
 use crate::state::State;
+use crate::step::StepFault;
+use pipe_parts::{Cause, Hand, Item, Packet};
 use process_packet::Config;
 use router_rules::{inspect, link_count};
 

@@ -1,19 +1,33 @@
-//! The state of the pipeline at one moment.
+//! The state of the pipeline at one moment, and one step of it.
 
-ghost use Rattle.std.specs.Prelude.{◌≡◌, IfOk};
+ghost use Rattle.std.specs.Prelude.{◌≡◌, ◌≤◌, IfOk, length, ◌↔◌, Some, None, OnOk, OnErr, IsErrOf};
+ghost use Rattle.pipe_order.specs.Next.{next};
 ghost use Rattle.pipe_order.specs.Start.{first_world};
 ghost use Rattle.router_rules.specs.Rules.{rules};
+ghost use Rattle.pipe_parts.specs.Arrivals.{sources_from};
+ghost use Rattle.pipe_model.specs.Step.{step_in};
 
-use crate::fate::Fates;
-use crate::hands::Hands;
-use crate::looks::Looks;
-use crate::pipe::Pipe;
-use crate::pipes::Pipes;
-use crate::sent::Sent;
-use process_packet::Config;
-use router_rules::{link_count, seat_count};
+use crate::step::{Step, StepFault};
+use pipe_parts::{Fates, Hands, Looks, Pipe, Pipes, Sent};
+use process_packet::{Arrival, Config, NoMemory};
+use router_rules::{Actor, Channel, link_count, link_index, seat_count};
 use std::alloc::{AllocError, Global};
 use std::marker::Model;
+
+/// The arrivals of each link, none of them received.
+pub fn sources(alloc: Global, arrivals: Vec<Vec<Arrival>>) -> Result<Vec<Pipe>, NoMemory>
+    requires few { length arrivals.items ≤ 33 }
+    ensures { IfOk result (λ pipes. pipes.items ≡ sources_from 0 arrivals.items) }
+{
+    let mut pipes = Vec::new(alloc);
+    for of_link in arrivals {
+        let pipe = Pipe::of_arrivals(alloc, pipes.len() as u16, of_link)?;
+        if pipes.push(pipe).is_err() {
+            return Err(NoMemory);
+        }
+    }
+    Ok(pipes)
+}
 
 /// Hands, pipes and all that ended.
 #[derive(Debug, Drop)]
@@ -56,5 +70,39 @@ impl State {
             fates: Fates::new(alloc),
             sent,
         })
+    }
+}
+
+impl State {
+    /// Makes a step, if it is possible.
+    pub(crate) fn step(
+        &mut self,
+        alloc: Global,
+        config: &Config,
+        step: Step,
+    ) -> Result<(), StepFault>
+        ensures ok { OnOk result (next (rules config.now) self.old (step_in config.now step) ≡ Some self.new) }
+        ensures not_now { IsErrOf result StepFault.NotNow ↔ (next (rules config.now) self.old (step_in config.now step) ≡ None) }
+        ensures err { OnErr result (self.new ≡ self.old) }
+    {
+        match step {
+            Step::Receive(id) => self.receive(config, link_index(config, id)),
+            Step::NoBuffer(id) => self.no_buffer(config, link_index(config, id)),
+            Step::Offer(worker) => self.offer(config, Actor::named(config, worker)),
+            Step::Refuse(worker) => self.refuse(config, Actor::named(config, worker)),
+            Step::Take(queue) => self.take(config, Channel::named(config, queue)),
+            Step::Look(id) => self.look(config, link_index(config, id)),
+            Step::Route(i) => self.route(config, i),
+            Step::Answer => self.answer(alloc, config),
+            Step::Lack(worker) => self.lack(config, Actor::named(config, worker)),
+            Step::CloseMark(queue) => self.close_mark(config, Channel::named(config, queue)),
+            Step::EndMark(worker, queue) => self.end_mark(
+                config,
+                Actor::named(config, worker),
+                Channel::named(config, queue),
+            ),
+            Step::Send(id, ok) => self.send(config, link_index(config, id), ok),
+            Step::Sweep(queue) => self.sweep(config, Channel::named(config, queue)),
+        }
     }
 }

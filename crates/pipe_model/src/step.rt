@@ -1,6 +1,11 @@
-//! What a worker does in one step.
+//! What a worker does in one step, and why it is not made.
+
+ghost use Rattle.std.specs.Prelude.{◌≡◌};
+ghost use Rattle.pipe_model.specs.declared.step.StepFault.TheVariants.{NoMemory};
 
 use router_rules::{Queue, Worker};
+use std::alloc::AllocError;
+use thiserror::Error;
 
 /// One act of one worker. One that the worker can't do now, or that names what isn't there, isn't
 /// possible.
@@ -32,4 +37,21 @@ pub enum Step {
     Send(u16, bool),
     /// The forwarder takes the front behind a closing mark, and drops it.
     Sweep(Queue),
+}
+
+/// Why a step was not made.
+#[derive(Clone, Copy, Debug, PartialEq, Eq, Error)]
+pub enum StepFault {
+    #[error("the step is not possible now")]
+    NotNow,
+    #[error("no memory")]
+    NoMemory,
+}
+
+impl From<AllocError> for StepFault {
+    ghost from_gives = { λ _ f. f ≡ NoMemory };
+
+    fn from(_: AllocError) -> StepFault {
+        StepFault::NoMemory
+    }
 }

@@ -1,7 +1,6 @@
-use crate::fault::StepFault;
 use crate::place::Place;
 use crate::samples::{DATAGRAM, EXPIRED, IN_TIME, arrival, config, is_what_leaves};
-use crate::step::Step;
+use crate::step::{Step, StepFault};
 use crate::world::{NoMemoryAt, World};
 use process_packet::{Bands, Cause, NoMemory, Totals};
 use router_rules::{Outgoing, Queue, Worker, link_count, link_index};

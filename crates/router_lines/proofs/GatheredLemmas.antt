@@ -9,7 +9,8 @@ use Rattle.std.proofs.lemmas.Bool.Decides.{Decides-eqb}
 use Rattle.process_packet.specs.declared.arrival.Arrival.{Arrival as Came}
 use Rattle.process_packet.specs.declared.config.Config.{Config}
 use Rattle.pipe_order.specs.Pipe.{Entry, Pipe}
-use Rattle.pipe_model.specs.Arrivals.{AreArrivals, AreFrom, AreNumbered, begun, datagram_of, source, source_entry, sources_from}
+use Rattle.pipe_model.specs.Begun.{AreArrivals, AreFrom, AreNumbered, begun}
+use Rattle.pipe_parts.specs.Arrivals.{datagram_of, source, source_entry, sources_from}
 use Rattle.router_rules.specs.Datagram.{Datagram}
 use Rattle.router_rules.specs.Links.{link_index}
 use Rattle.router_rules.specs.Rules.{kinds}

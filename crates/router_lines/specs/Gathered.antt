@@ -12,7 +12,8 @@ use Rattle.process_packet.specs.declared.config.Config.{Config}
 use Rattle.router_rules.specs.Datagram.{Datagram}
 use Rattle.router_rules.specs.Links.{link_count, link_index}
 use Rattle.router_rules.specs.Rules.{kinds, rules}
-use Rattle.pipe_model.specs.Arrivals.{AreArrivals, AreNumbered, begun, source_entry}
+use Rattle.pipe_model.specs.Begun.{AreArrivals, AreNumbered, begun}
+use Rattle.pipe_parts.specs.Arrivals.{source_entry}
 use Rattle.pipe_model.specs.Pipeline.{Pipeline}
 
 -- number n on link a

@@ -4,7 +4,7 @@ use Rattle.std.specs.declared.vec.Vec.{Vec}
 use Rattle.process_packet.specs.declared.arrival.Arrival.{Arrival}
 use Rattle.process_packet.specs.declared.config.Config.{Config}
 use Rattle.router_rules.specs.Links.{link_count, link_index}
-use Rattle.pipe_model.specs.Arrivals.{AreArrivals, AreNumbered}
+use Rattle.pipe_model.specs.Begun.{AreArrivals, AreNumbered}
 use Rattle.pipe_model.proofs.tests.pipeline.Goals as goal
 
 -- two that came by the link of interface 1, the second of three

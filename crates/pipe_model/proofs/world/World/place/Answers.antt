@@ -3,7 +3,8 @@ use Rattle.std.specs.Prelude.{option_map}
 use Rattle.pipe_order.specs.Place.{places}
 use Rattle.router_rules.specs.Rules.{rules}
 use Rattle.pipe_model.specs.Pipeline.{Pipeline}
-use Rattle.pipe_model.specs.Shown.{first, place_of, stands_in}
+use Rattle.pipe_model.specs.Shown.{place_of, stands_in}
+use Rattle.pipe_parts.specs.Sent.{first}
 use Rattle.pipe_model.proofs.world.World.place.Goals as goal
 
 pub returns : goal.returns

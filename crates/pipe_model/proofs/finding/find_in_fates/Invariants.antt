@@ -1,8 +1,0 @@
-use Rattle.std.proofs.Common.{◌≡◌, drop}
-use Rattle.pipe_order.specs.Item.{is_one}
-use Rattle.pipe_order.specs.Place.{in_fates}
-use Rattle.pipe_model.specs.Shown.{first}
-use Rattle.pipe_model.proofs.finding.find_in_fates.Given as goal
-
-abbrev pub invariant-loop-fate : goal.invariant-loop-fate
-invariant-loop-fate l = first (in_fates (is_one l.link l.number) (drop l.fate-index l.fate-items)) ≡ first (in_fates (is_one l.link l.number) l.fates)

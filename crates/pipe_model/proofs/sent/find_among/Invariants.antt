@@ -1,9 +1,0 @@
-use Rattle.std.proofs.Common.{◌≡◌, drop}
-use Rattle.pipe_order.specs.Item.{is_one}
-use Rattle.pipe_order.specs.Place.{in_sent}
-use Rattle.pipe_model.specs.Sent.{joined}
-use Rattle.pipe_model.specs.Shown.{first}
-use Rattle.pipe_model.proofs.sent.find_among.Given as goal
-
-abbrev pub invariant-loop-i : goal.invariant-loop-i
-invariant-loop-i l = first (in_sent (is_one l.arrived l.number) (joined (drop l.i l.ways) (drop l.i l.entries))) ≡ first (in_sent (is_one l.arrived l.number) (joined l.ways l.entries))

@@ -1,0 +1,43 @@
+//! Why a packet, or the answer to it, ended without being sent.
+
+ghost use Rattle.std.specs.Prelude.{◌≡◌};
+ghost use Rattle.pipe_parts.specs.Causes.{cause_in, why_of};
+
+use process_packet::Cause as Reason;
+
+/// Why a packet, or the answer to it, ended without being sent.
+#[derive(Clone, Copy, Debug, PartialEq, Eq)]
+pub enum Cause {
+    /// The router's rules dropped it, or withheld the answer.
+    Ruled(Reason),
+    /// The pipe of its processor was full.
+    ProcessorFull,
+    /// The pipe of its leaving link was full.
+    LinkFull,
+    /// The pipe of the slow path was full.
+    AnswerFull,
+    /// Memory ran out.
+    NoMemory,
+    /// Its leaving link was closed.
+    Closed,
+    /// The device of its leaving link failed.
+    SendFailed,
+    /// Its arriving link had no free buffer.
+    NoBuffer,
+}
+
+/// Why a packet, or the answer to it, ended without being sent, as one of all causes.
+pub fn reason(cause: Cause) -> Reason
+    ensures { result ≡ why_of (cause_in cause) }
+{
+    match cause {
+        Cause::Ruled(reason) => reason,
+        Cause::ProcessorFull => Reason::ProcessorFull,
+        Cause::LinkFull => Reason::LinkFull,
+        Cause::AnswerFull => Reason::AnswerFull,
+        Cause::NoMemory => Reason::NoMemory,
+        Cause::Closed => Reason::Closed,
+        Cause::SendFailed => Reason::SendFailed,
+        Cause::NoBuffer => Reason::NoBuffer,
+    }
+}

@@ -1,0 +1,66 @@
+//! Of which links the high pipe was seen empty.
+
+ghost use Rattle.std.specs.Prelude.{◌≡◌, false, IfOk, replicate, slice_index_or, slice_set};
+ghost use Rattle.pipe_order.specs.Next.{forgotten};
+ghost use Rattle.router_rules.specs.Actor.{queue_of};
+
+use router_rules::{Actor, Channel};
+use std::alloc::{AllocError, Global};
+use std::marker::Model;
+
+/// Of each link, whether its high pipe was seen empty.
+#[derive(Debug, Drop)]
+pub struct Looks {
+    links: Vec<bool>,
+}
+
+impl Model for Looks {
+    ghost use Rattle.std.specs.Prelude.{Bool, List};
+
+    ghost Value = { List Bool };
+
+    ghost view = { λ l. l.links.items };
+}
+
+impl Looks {
+    /// Of so many links, none seen empty.
+    pub fn new(alloc: Global, count: usize) -> Result<Looks, AllocError>
+        ensures { IfOk result (λ looks. looks ≡ replicate count false) }
+    {
+        let mut links = Vec::new(alloc);
+        for i in 0..count {
+            links.push(false)?;
+        }
+        Ok(Looks { links })
+    }
+
+    pub fn get(&self, link: u16) -> bool
+        ensures { result ≡ slice_index_or self.now link false }
+    {
+        let at = usize::from(link);
+        if at < self.links.len() {
+            self.links[at]
+        } else {
+            false
+        }
+    }
+
+    /// Notes it of a link; where there is none, nothing changes.
+    pub fn set(&mut self, link: u16, seen: bool)
+        ensures { self.new ≡ slice_set self.old link seen }
+    {
+        let at = usize::from(link);
+        if at < self.links.len() {
+            self.links[at] = seen;
+        }
+    }
+
+    /// A note is used up by the next take or sweep of its link.
+    pub fn use_up(&mut self, channel: Channel)
+        ensures { self.new ≡ forgotten (queue_of channel) self.old }
+    {
+        if let Channel::High(link) | Channel::Of(Actor::Forwarder(link)) = channel {
+            self.set(link, false);
+        }
+    }
+}

@@ -1,0 +1,165 @@
+//! All pipes, by their places.
+
+ghost use Rattle.std.specs.Prelude.{◌≡◌, ◌++◌, Some, None, MatchOption, IsSome, IfOk, is_ok, if◌then◌else◌, replicate, slice_set};
+ghost use Rattle.pipe_order.specs.Item.{ends};
+ghost use Rattle.pipe_order.specs.Pipe.{empty_pipe, front, gone, has_end_of, has_room, is_marked, is_shut, one_taken, pushed, refusal_of, refused};
+ghost use Rattle.router_rules.specs.Actor.{worker_of};
+ghost use Rattle.pipe_parts.specs.Items.{item_in};
+ghost use Rattle.pipe_parts.specs.Kept.{pipe_at};
+
+use crate::item::Item;
+use crate::pipe::Pipe;
+use router_rules::Actor;
+use std::alloc::{AllocError, Global};
+use std::marker::Model;
+
+/// All pipes, by their places. A pipe that isn't there has no room and holds nothing, and nothing changes
+/// it.
+#[derive(Debug, Drop)]
+pub struct Pipes {
+    items: Vec<Pipe>,
+}
+
+impl Model for Pipes {
+    ghost use Rattle.std.specs.Prelude.{List};
+    ghost use Rattle.pipe_order.specs.Pipe.{Pipe};
+    ghost use Rattle.router_rules.specs.Rules.{kinds};
+
+    ghost Value = { List (Pipe kinds) };
+
+    ghost view = { λ p. p.items.items };
+}
+
+impl Pipes {
+    /// The sources, and behind them so many empty pipes.
+    pub fn new(
+        alloc: Global,
+        sources: Vec<Pipe>,
+        count: usize,
+        capacity: usize,
+    ) -> Result<Pipes, AllocError>
+        ensures { IfOk result (λ pipes. pipes ≡ sources.items ++ replicate count (empty_pipe capacity)) }
+    {
+        let mut items = sources;
+        for i in 0..count {
+            items.push(Pipe::new(alloc, capacity))?;
+        }
+        Ok(Pipes { items })
+    }
+
+    /// Whether one more item may be pushed.
+    pub fn has_room(&self, at: usize) -> bool
+        ensures { result ≡ has_room (pipe_at self.now at) }
+    {
+        match self.items.get(at) {
+            None => false,
+            Some(pipe) => pipe.has_room(),
+        }
+    }
+
+    /// Whether a closing mark was taken.
+    pub fn is_shut(&self, at: usize) -> bool
+        ensures { result ≡ is_shut (pipe_at self.now at) }
+    {
+        match self.items.get(at) {
+            None => false,
+            Some(pipe) => pipe.is_shut(),
+        }
+    }
+
+    /// Whether a closing mark was pushed.
+    pub fn is_marked(&self, at: usize) -> bool
+        ensures { result ≡ is_marked (pipe_at self.now at) }
+    {
+        match self.items.get(at) {
+            None => false,
+            Some(pipe) => pipe.is_marked(),
+        }
+    }
+
+    /// How many end marks were taken.
+    pub fn ends_taken(&self, at: usize) -> usize
+        ensures { result ≡ ends (gone (pipe_at self.now at)) }
+    {
+        match self.items.get(at) {
+            None => 0,
+            Some(pipe) => pipe.ends_taken(),
+        }
+    }
+
+    /// Whether the worker has pushed its end mark.
+    pub fn has_end_of(&self, at: usize, worker: Actor) -> bool
+        ensures { result ≡ has_end_of (worker_of worker) (pipe_at self.now at) }
+    {
+        match self.items.get(at) {
+            None => false,
+            Some(pipe) => pipe.has_end_of(worker),
+        }
+    }
+
+    /// What would be taken next.
+    pub fn first(&self, at: usize) -> Option<&Item>
+        ensures { MatchOption result (front (pipe_at self.now at) ≡ None) (λ x. front (pipe_at self.now at) ≡ Some (item_in x.now)) }
+    {
+        match self.items.get(at) {
+            None => None,
+            Some(pipe) => pipe.first(),
+        }
+    }
+
+    /// Pushes an item.
+    pub fn push(&mut self, at: usize, from: Actor, item: Item) -> Result<(), AllocError>
+        ensures { self.new ≡ (if is_ok result then slice_set self.old at (pushed (pipe_at self.old at) (worker_of from) (item_in item)) else self.old) }
+    {
+        if at < self.items.len() {
+            self.items[at].push(from, item)?;
+        }
+        Ok(())
+    }
+
+    /// Takes the first that is held.
+    pub fn advance(&mut self, at: usize)
+        requires { IsSome (front (pipe_at self.old at)) }
+        ensures { self.new ≡ slice_set self.old at (one_taken (pipe_at self.old at)) }
+    {
+        if at < self.items.len() {
+            self.items[at].advance();
+        }
+    }
+
+    /// Notes that an item was refused.
+    pub fn refuse(&mut self, at: usize, item: &Item) -> Result<(), AllocError>
+        ensures { self.new ≡ (if is_ok result then slice_set self.old at (refused (pipe_at self.old at) (refusal_of (item_in item.now) (pipe_at self.old at))) else self.old) }
+    {
+        if at < self.items.len() {
+            self.items[at].refuse(item)?;
+        }
+        Ok(())
+    }
+}
+
+impl Pipes {
+    ghost use Rattle.std.specs.Prelude.{drop, take};
+
+    /// The first so many.
+    pub fn up_to(&self, count: usize) -> &[Pipe]
+        ensures { result.now ≡ take count self.now }
+    {
+        if count <= self.items.len() {
+            &self.items[..count]
+        } else {
+            self.items.as_slice()
+        }
+    }
+
+    /// Those behind the first so many.
+    pub fn behind(&self, count: usize) -> &[Pipe]
+        ensures { result.now ≡ drop count self.now }
+    {
+        if count <= self.items.len() {
+            &self.items[count..]
+        } else {
+            &[]
+        }
+    }
+}
