@@ -1,4 +1,4 @@
--- Row after row: no packet is dropped for a cause of the pipeline's own.
+-- Row after row: each packet is dropped for a cause of the decision's own.
 use Rattle.std.proofs.Common.{◌≡◌, ℕ, Bool, true, false, ◌&&◌, ◌==◌, if◌then◌else◌, List, [], ◌∷◌, drop, Option, Some, None, refl}
 use Rattle.std.specs.List.{AllByRecursion}
 use Rattle.process_packet.specs.Decide.{decision_table, verdict, verdict_of}
@@ -11,15 +11,15 @@ use Rattle.process_packet.specs.declared.underlay.Underlay.{Underlay}
 use Rattle.scion_packet.specs.Fault.{Fault, TooShort, WrongVersion, WrongPathType, WrongLength, WrongPath, PeeringSegment}
 use Rattle.scion_packet.specs.Header.{host_code}
 use Rattle.scion_packet.specs.Packet.{Packet}
-use Rattle.router_rules.specs.Laws.{is_ruled}
+use Rattle.router_rules.specs.Laws.{is_decided}
 
-abbrev has_ruled_cause : Verdict → Bool
-has_ruled_cause (Sent out to p) = true
-has_ruled_cause (Answered problem) = true
-has_ruled_cause (Dropped why) = is_ruled why
+abbrev has_own_cause : Verdict → Bool
+has_own_cause (Sent out to p) = true
+has_own_cause (Answered problem) = true
+has_own_cause (Dropped why) = is_decided why
 
 pub record IsRuled (v : Verdict) : Type 0 where
-  pub is : has_ruled_cause v ≡ true
+  pub is : has_own_cause v ≡ true
 
 abbrev AreRuled : Turn → Type 0
 AreRuled (GoesOn s) = Unit {0}
@@ -48,7 +48,7 @@ sent out to p = record { is = refl }
 answered : (problem : Problem) → IsRuled (Answered problem)
 answered problem = record { is = refl }
 
-dropped : (why : Cause) → is_ruled why ≡ true → IsRuled (Dropped why)
+dropped : (why : Cause) → is_decided why ≡ true → IsRuled (Dropped why)
 dropped why h = record { is = h }
 
 goes_on : (s : Standing) → IsRuledTurn (GoesOn s)
@@ -69,7 +69,7 @@ test_ruled : (b : Bool) (v : Verdict) (s : Standing) → IsRuled v → IsRuledTu
 test_ruled true v s h = ends v h
 test_ruled false v s h = goes_on s
 
-fault_ruled : (f : Fault) → is_ruled (cause_of f) ≡ true
+pub fault_ruled : (f : Fault) → is_decided (cause_of f) ≡ true
 fault_ruled TooShort = refl
 fault_ruled WrongVersion = refl
 fault_ruled WrongPathType = refl
@@ -111,7 +111,7 @@ leave_ruled s = either_turn _ _ _ (ends _ (either _ _ _ (dropped _ refl) (sent _
 asks : (b : Standing → Bool) (q : Standing → Problem) → IsRuledRow (λ s. ends_where (b s) (Answered (q s)) s)
 asks b q s = test_ruled (b s) _ s (answered (q s))
 
-drops : (b : Standing → Bool) (why : Cause) → is_ruled why ≡ true → IsRuledRow (λ s. ends_where (b s) (Dropped why) s)
+drops : (b : Standing → Bool) (why : Cause) → is_decided why ≡ true → IsRuledRow (λ s. ends_where (b s) (Dropped why) s)
 drops b why h s = test_ruled (b s) _ s (dropped why h)
 
 delivery_ruled : (s : Standing) → IsRuledTurn (delivery s)

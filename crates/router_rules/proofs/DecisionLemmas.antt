@@ -20,23 +20,23 @@ use Rattle.scion_packet.specs.Header.{HeaderFields, header_fault, header_of, hea
 use Rattle.scion_packet.specs.Packet.{Packet, spelling}
 use Rattle.scion_packet.specs.Path.{path_text}
 use Rattle.router_rules.specs.Datagram.{Datagram, Parcel}
-use Rattle.router_rules.specs.Laws.{is_ruled}
+use Rattle.router_rules.specs.Laws.{is_decided}
 use Rattle.router_rules.specs.Links.{link_index}
 use Rattle.router_rules.specs.Rules.{by_decision, decided, inspected, is_urgent}
-use Rattle.router_rules.proofs.CauseLemmas.{IsRuled, decision_ruled}
+use Rattle.router_rules.proofs.CauseLemmas.{IsRuled, decision_ruled, fault_ruled}
 
 abbrev pub verdict_on : Config → Datagram → Verdict
 verdict_on c d = verdict (network c) d.interface d.source d.moment d.bytes
 
 -- ---- drops
 
-pub ruled_drop : (c : Config) (from : ℕ) (bytes : List ℕ) (v : Verdict) (why : Cause) → IsRuled v → by_decision c from (decision_of v) (moved_by v bytes) ≡ Drops why → is_ruled why ≡ true
+pub ruled_drop : (c : Config) (from : ℕ) (bytes : List ℕ) (v : Verdict) (why : Cause) → IsRuled v → by_decision c from (decision_of v) (moved_by v bytes) ≡ Drops why → is_decided why ≡ true
 ruled_drop c from bytes (Sent out to p) why ruled is = absurd cc
 ruled_drop c from bytes (Answered problem) why ruled is = absurd cc
-ruled_drop c from bytes (Dropped other) why ruled is = let e : other ≡ why = cc in subst (λ (x : Cause). is_ruled x ≡ true) e ruled.is
+ruled_drop c from bytes (Dropped other) why ruled is = let e : other ≡ why = cc in subst (λ (x : Cause). is_decided x ≡ true) e ruled.is
 
-pub drop_is_ruled : (c : Config) (d : Datagram) (why : Cause) → decided c d ≡ Drops why → is_ruled why ≡ true
-drop_is_ruled c d why is = ruled_drop c d.interface d.bytes (verdict_on c d) why (decision_ruled (network c) d.interface d.source d.moment d.bytes) is
+pub drop_is_decided : (c : Config) (d : Datagram) (why : Cause) → decided c d ≡ Drops why → is_decided why ≡ true
+drop_is_decided c d why is = ruled_drop c d.interface d.bytes (verdict_on c d) why (decision_ruled (network c) d.interface d.source d.moment d.bytes) is
 
 -- ---- what a receiver refuses
 
@@ -74,6 +74,15 @@ by_test c d false why short is = by_fault c d (header_fault d.bytes) why short r
 
 pub refused_is_dropped : (c : Config) (d : Datagram) (why : Cause) → inspected d.bytes ≡ Some why → decided c d ≡ Drops why
 refused_is_dropped c d why is = by_test c d (nat_lt 9216 (length d.bytes)) why refl is
+
+-- and for a cause of the decision's own
+refused_by : (b : Bool) (o : Option Fault) (why : Cause) → (if b then Some cause.TooLong else option_map cause_of o) ≡ Some why → is_decided why ≡ true
+refused_by true o why is = let e : cause.TooLong ≡ why = cc in subst (λ (x : Cause). is_decided x ≡ true) e refl
+refused_by false None why is = absurd cc
+refused_by false (Some f) why is = let e : cause_of f ≡ why = cc in subst (λ (x : Cause). is_decided x ≡ true) e (fault_ruled f)
+
+pub refusal_is_decided : (bytes : List ℕ) (why : Cause) → inspected bytes ≡ Some why → is_decided why ≡ true
+refusal_is_decided bytes why is = refused_by (nat_lt 9216 (length bytes)) (header_fault bytes) why is
 
 -- ---- what is sent
 

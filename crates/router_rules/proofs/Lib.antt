@@ -6,3 +6,4 @@ pub mod CauseLemmas
 pub mod DecisionLemmas
 pub mod Lawful
 pub mod PortLemmas
+pub mod ProducerLemmas

@@ -12,14 +12,14 @@ use Rattle.scmp_answer.specs.Outcome.{outcome}
 use Rattle.scmp_answer.specs.Reply.{Dropped, Reply, Sent, is_left_unanswered, local_address, reply}
 use Rattle.scmp_answer.specs.WayBack.{has_no_way_back}
 use Rattle.router_rules.specs.Datagram.{Datagram, Parcel}
-use Rattle.router_rules.specs.Laws.{is_ruled}
+use Rattle.router_rules.specs.Laws.{is_withheld}
 use Rattle.router_rules.specs.Links.{link_index}
 use Rattle.router_rules.specs.Rules.{by_outcome, replied}
 
 -- an answer leaves by the link; a drop has a cause of its own
 abbrev Goes : ℕ → Reply → Type 0
 Goes link (Sent out to p) = out ≡ link
-Goes link (Dropped why) = is_ruled why ≡ true
+Goes link (Dropped why) = is_withheld why ≡ true
 
 record GoesBack (link : ℕ) (r : Reply) : Type 0 where
   is : Goes link r
@@ -28,7 +28,7 @@ either : (link : ℕ) (b : Bool) (r s : Reply) → GoesBack link r → GoesBack 
 either link true r s h k = h
 either link false r s h k = k
 
-withheld : (link : ℕ) (why : Cause) → is_ruled why ≡ true → GoesBack link (Dropped why)
+withheld : (link : ℕ) (why : Cause) → is_withheld why ≡ true → GoesBack link (Dropped why)
 withheld link why h = record { is = h }
 
 returned : (link : ℕ) (to : Option Underlay) (p : Packet) → GoesBack link (Sent link to p)
@@ -44,12 +44,12 @@ left_by : (c : Config) (link : ℕ) (r : Reply) (l : ℕ) (y : Parcel) → GoesB
 left_by c link (Sent out to p) l y back is = let e : l ≡ link_index c out = cc in e ∙ ap (link_index c) back.is
 left_by c link (Dropped why) l y back is = absurd cc
 
-ruled_by : (c : Config) (link : ℕ) (r : Reply) (why : Cause) → GoesBack link r → by_outcome c link (outcome r) ≡ Withholds why → is_ruled why ≡ true
+ruled_by : (c : Config) (link : ℕ) (r : Reply) (why : Cause) → GoesBack link r → by_outcome c link (outcome r) ≡ Withholds why → is_withheld why ≡ true
 ruled_by c link (Sent out to p) why back is = absurd cc
-ruled_by c link (Dropped other) why back is = let e : other ≡ why = cc in subst (λ (x : Cause). is_ruled x ≡ true) e back.is
+ruled_by c link (Dropped other) why back is = let e : other ≡ why = cc in subst (λ (x : Cause). is_withheld x ≡ true) e back.is
 
 pub answer_leaves_by : (c : Config) (d : Datagram) (problem : Problem) (l : ℕ) (y : Parcel) → replied c d problem ≡ Replies l y → l ≡ link_index c d.interface
 answer_leaves_by c d problem l y is = left_by c d.interface _ l y (goes_back (local_address c) d.interface d.source d.bytes problem) is
 
-pub withheld_is_ruled : (c : Config) (d : Datagram) (problem : Problem) (why : Cause) → replied c d problem ≡ Withholds why → is_ruled why ≡ true
-withheld_is_ruled c d problem why is = ruled_by c d.interface _ why (goes_back (local_address c) d.interface d.source d.bytes problem) is
+pub reply_withholds : (c : Config) (d : Datagram) (problem : Problem) (why : Cause) → replied c d problem ≡ Withholds why → is_withheld why ≡ true
+reply_withholds c d problem why is = ruled_by c d.interface _ why (goes_back (local_address c) d.interface d.source d.bytes problem) is

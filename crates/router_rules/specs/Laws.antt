@@ -1,5 +1,5 @@
 -- What is told of the router's rules as a whole.
-use Rattle.std.specs.Prelude.{◌≡◌, ◌<◌, ℕ, Bool, true, false}
+use Rattle.std.specs.Prelude.{◌≡◌, ◌<◌, ℕ, Bool, true, false, Some}
 use Rattle.pipe_order.specs.Rules.{Drops, IsLawful, Withholds}
 use Rattle.process_packet.specs.Network.{has_link, network}
 use Rattle.process_packet.specs.declared.cause.Cause.{Cause}
@@ -8,7 +8,7 @@ use Rattle.process_packet.specs.declared.config.Config.{Config}
 use Rattle.process_packet.specs.declared.decision.Problem.{Problem}
 use Rattle.router_rules.specs.Datagram.{Datagram}
 use Rattle.router_rules.specs.Links.{interface_at, link_count, link_index}
-use Rattle.router_rules.specs.Rules.{Arrives, decided, replied, rules}
+use Rattle.router_rules.specs.Rules.{Arrives, decided, inspected, replied, rules}
 
 abbrev pub AreLawful : Type 0
 AreLawful = (c : Config) → IsLawful (rules c) (Arrives c)
@@ -24,18 +24,31 @@ pub record StandInOrder (c : Config) : Type 0 where
 abbrev pub LinksStandInOrder : Type 0
 LinksStandInOrder = (c : Config) → StandInOrder c
 
--- a cause that the decision or the answer has, and not the pipeline
-abbrev pub is_ruled : Cause → Bool
-is_ruled cause.ProcessorFull = false
-is_ruled cause.LinkFull = false
-is_ruled cause.AnswerFull = false
-is_ruled cause.NoMemory = false
-is_ruled cause.Closed = false
-is_ruled cause.SendFailed = false
-is_ruled cause.NoBuffer = false
-is_ruled _ = true
+-- a cause for which the inspection or the decision drops: a datagram that is too long, a fault of its header or its path, the
+-- underlay source, a path that ends where the packet would go on
+abbrev pub is_decided : Cause → Bool
+is_decided cause.Short = true
+is_decided cause.Version = true
+is_decided cause.PathType = true
+is_decided cause.Header = true
+is_decided cause.Path = true
+is_decided cause.Peering = true
+is_decided cause.UnderlaySource = true
+is_decided cause.PathEnd = true
+is_decided cause.TooLong = true
+is_decided _ = false
 
-abbrev pub OnlyRuledCauses : Type 0
-OnlyRuledCauses =
-    ((c : Config) (d : Datagram) (why : Cause) → decided c d ≡ Drops why → is_ruled why ≡ true)
-    × ((c : Config) (d : Datagram) (p : Problem) (why : Cause) → replied c d p ≡ Withholds why → is_ruled why ≡ true)
+-- a cause for which an answer is withheld
+abbrev pub is_withheld : Cause → Bool
+is_withheld cause.NoAnswer = true
+is_withheld cause.NoWayBack = true
+is_withheld _ = false
+
+-- Each drops for causes of its own. All others are the pipeline's.
+pub record TellCauses (c : Config) : Type 0 where
+  pub inspection : (d : Datagram) (why : Cause) → inspected d.bytes ≡ Some why → is_decided why ≡ true
+  pub decision : (d : Datagram) (why : Cause) → decided c d ≡ Drops why → is_decided why ≡ true
+  pub reply : (d : Datagram) (p : Problem) (why : Cause) → replied c d p ≡ Withholds why → is_withheld why ≡ true
+
+abbrev pub CausesAreApart : Type 0
+CausesAreApart = (c : Config) → TellCauses c

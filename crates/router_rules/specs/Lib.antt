@@ -5,3 +5,5 @@ pub mod Laws
 pub mod Ports
 pub mod Worker
 pub mod Actor
+pub mod Producers
+pub mod Example

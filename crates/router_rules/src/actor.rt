@@ -4,6 +4,7 @@ ghost use Rattle.std.specs.Prelude.{◌≡◌};
 ghost use Rattle.pipe_order.specs.Next.{feeds, is_out};
 ghost use Rattle.pipe_order.specs.Worker.{consumer, same_worker};
 ghost use Rattle.pipe_order.specs.World.{has_queue, has_worker, pipe_of, seat_of};
+ghost use Rattle.router_rules.specs.Producers.{producer_count, producer_of};
 ghost use Rattle.router_rules.specs.Rules.{rules};
 ghost use Rattle.router_rules.specs.Actor.{queue_of, worker_of};
 ghost use Rattle.router_rules.specs.Worker.{queue_in, worker_in};
@@ -95,6 +96,19 @@ impl Actor {
             Actor::Forwarder(_) => false,
         }
     }
+
+    /// The number under which it pushes to the pipes that it feeds; a forwarder feeds none.
+    pub fn producer(self, config: &Config) -> Option<usize>
+        ensures { result ≡ producer_of (rules config.now) (worker_of self) }
+    {
+        match self {
+            Actor::Receiver(link) => Some(usize::from(link)),
+            Actor::Processor(i) => Some(usize::from(i)),
+            Actor::Slow => Some(usize::from(config.processors)),
+            Actor::Forwarder(_) => None,
+            Actor::Controller => Some(usize::from(config.processors) + 1),
+        }
+    }
 }
 
 impl Channel {
@@ -146,6 +160,20 @@ impl Channel {
         match self {
             Channel::Of(worker) => worker,
             Channel::High(link) => Actor::Forwarder(link),
+        }
+    }
+
+    /// How many workers push to it.
+    pub fn producers(self, config: &Config) -> usize
+        ensures { result ≡ producer_count (rules config.now) (queue_of self) }
+    {
+        match self {
+            Channel::Of(Actor::Processor(_)) => link_count(config),
+            Channel::Of(Actor::Slow) => usize::from(config.processors),
+            Channel::Of(Actor::Forwarder(_)) | Channel::High(_) => {
+                usize::from(config.processors) + 2
+            }
+            Channel::Of(Actor::Receiver(_) | Actor::Controller) => 0,
         }
     }
 

@@ -1,7 +1,9 @@
 //! What is told of the router's rules as a whole: nothing here runs. A law of the decision is called for
 //! what it says.
 
-ghost use Rattle.router_rules.specs.Laws.{AreLawful, LinksStandInOrder, OnlyRuledCauses};
+ghost use Rattle.router_rules.specs.Example.{RulesAreTold};
+ghost use Rattle.router_rules.specs.Laws.{AreLawful, CausesAreApart, LinksStandInOrder};
+ghost use Rattle.router_rules.specs.Producers.{ProducersAreNumbered};
 
 use process_packet::{nothing_else_changes, only_lawful_ways};
 
@@ -19,7 +21,18 @@ pub fn links_stand_in_order()
     ensures { LinksStandInOrder }
 {}
 
-/// Neither the decision nor the answer ever drops for a cause of the pipeline's own.
-pub fn only_ruled_causes()
-    ensures { OnlyRuledCauses }
+/// The inspection, the decision and the reply each drop for causes of their own: the first two for the
+/// causes 1 to 8 and 11, the reply for 9 and 10. No one drops for a cause of the pipeline's.
+pub fn causes_are_apart()
+    ensures { CausesAreApart }
+{}
+
+/// The workers that feed a pipe are numbered below its count of producers, each by a number of its own.
+pub fn producers_are_numbered()
+    ensures { ProducersAreNumbered }
+{}
+
+/// The rules over small cases.
+pub fn examples()
+    ensures { RulesAreTold }
 {}

@@ -19,7 +19,9 @@ mod worker;
 pub use actor::{Actor, Channel};
 pub use faults::inspect;
 pub use flows::{is_urgent, processor, processor_or_fault};
-pub use laws::{links_stand_in_order, only_ruled_causes, rules_are_lawful};
+pub use laws::{
+    causes_are_apart, examples, links_stand_in_order, producers_are_numbered, rules_are_lawful,
+};
 pub use links::{has_two_bands, interface_at, link_count, link_index};
 pub use outgoing::Outgoing;
 pub use places::{link_pipe, seat_count, slow_seat};
