@@ -1,17 +1,20 @@
 -- A pipeline before its first step.
-use Rattle.std.proofs.Common.{◌≡◌, ℕ, zero, suc, ◌+◌, ◌*◌, ◌<◌, List, [], ◌∷◌, ◌++◌, map, replicate, length, get_or, refl, subst, ap, ◌∙◌, arith}
+use Rattle.std.proofs.Common.{◌≡◌, ℕ, zero, suc, ◌+◌, ◌*◌, ◌<◌, List, [], ◌∷◌, ◌++◌, map, replicate, length, get_or, refl, sym, subst, ap, ap₂, ◌∙◌, arith}
 use Rattle.std.specs.List.{Contains}
+use Rattle.std.proofs.lemmas.List.{ext_get_or}
+use Rattle.std.proofs.lemmas.List.FromFn.{get_or-map-range_with_len, length-map-range_with_len}
 use Rattle.std.specs.declared.alloc.Global.{Global}
 use Rattle.std.specs.declared.vec.Vec.{Vec}
 use Rattle.pipe_order.specs.Item.{Arrival, Arrived, Item}
-use Rattle.pipe_order.specs.Pipe.{Pipe, empty_pipe, items}
-use Rattle.pipe_order.specs.Start.{AreSources, HasArrival, Numbered, first_world}
+use Rattle.pipe_order.specs.Pipe.{Entry, Pipe, empty_pipe, items}
+use Rattle.pipe_order.specs.Start.{AreSources, HasArrival, Numbered, arrivals, first_world}
+use Rattle.pipe_order.specs.World.{World}
 use Rattle.pipe_order.proofs.Begins.{begins}
 use Rattle.process_packet.specs.declared.arrival.Arrival.{Arrival as Came}
 use Rattle.process_packet.specs.declared.config.Config.{Config}
-use Rattle.router_rules.specs.Links.{link_index}
+use Rattle.router_rules.specs.Links.{link_count, link_index}
 use Rattle.router_rules.specs.Rules.{Arrives, kinds, rules}
-use Rattle.pipe_model.specs.Begun.{AreArrivals, AreFrom, AreNumbered}
+use Rattle.pipe_model.specs.Begun.{AreArrivals, AreFrom, AreNumbered, arriving, entry_of, sources_of}
 use Rattle.pipe_parts.specs.Arrivals.{arrived_in, source, source_entry, sources_from}
 use Rattle.pipe_model.specs.Headline.{IsReached}
 
@@ -81,6 +84,45 @@ arrives c ls h x there =
     let e : 0 + x.link ≡ x.link = omega arith in
     (r.0.0 ∙ e, omega (arith, r.1, h.0))
 
+-- ---- the start, read off the world
+
+abbrev lists_of : ℕ → Lists → List (List (Item kinds))
+lists_of a [] = []
+lists_of a (xs ∷ ls) = items (map (source_entry a) xs.items) ∷ lists_of (a + 1) ls
+
+length-lists_of : (a : ℕ) (ls : Lists) → length (lists_of a ls) ≡ length ls
+length-lists_of a [] = refl
+length-lists_of a (xs ∷ ls) = ap suc (length-lists_of (a + 1) ls)
+
+entries_back : (a : ℕ) (xs : List Came) → map (entry_of a) (items (map (source_entry a) xs)) ≡ map (source_entry a) xs
+entries_back a [] = refl
+entries_back a (x ∷ xs) = ap (λ (es : List (Entry kinds)). source_entry a x ∷ es) (entries_back a xs)
+
+sources_back : (a : ℕ) (ls : Lists) → sources_of a (lists_of a ls) ≡ sources_from a ls
+sources_back a [] = refl
+sources_back a (xs ∷ ls) =
+    ap₂ (λ (es : List (Entry kinds)) (ps : List (Pipe kinds)). record { history = es; taken = 0; capacity = 0; refusals = [] } ∷ ps) (entries_back a xs.items) (sources_back (a + 1) ls)
+
+list_at : (a : ℕ) (ls : Lists) (rest : List (Pipe kinds)) (i : ℕ) → i < length ls → history_at (sources_from a ls ++ rest) i ≡ get_or (lists_of a ls) i []
+list_at a [] rest i there = absurd (omega (arith, there))
+list_at a (xs ∷ ls) rest zero there = refl
+list_at a (xs ∷ ls) rest (suc i) there = list_at (a + 1) ls rest i (omega (arith, there))
+
+arriving_first : (c : Config) (ls : Lists) → length ls ≡ link_count c → arriving c (first_world (rules c) c.capacity (sources_from 0 ls)) ≡ lists_of 0 ls
+arriving_first c ls count = ext_get_or [] _ _ (long ∙ sym (length-lists_of 0 ls ∙ count)) at
+  where
+    w : World kinds
+    w = first_world (rules c) c.capacity (sources_from 0 ls)
+
+    long : length (arriving c w) ≡ link_count c
+    long = length-map-range_with_len (arrivals w) 0 (link_count c)
+
+    at : (i : ℕ) → i < length (arriving c w) → get_or (arriving c w) i [] ≡ get_or (lists_of 0 ls) i []
+    at i below =
+        let same : 0 + i ≡ i = omega arith in
+        get_or-map-range_with_len (arrivals w) 0 (link_count c) i i [] (omega (arith, below, long)) same
+        ∙ list_at 0 ls (replicate ((rules c).processors + 1 + 2 * (rules c).links) (empty_pipe c.capacity)) i (omega (arith, below, long, count))
+
 pub begun_is_reached : (c : Config) (ls : Lists) → AreArrivals c ls → IsReached c (first_world (rules c) c.capacity (sources_from 0 ls))
 begun_is_reached c ls h = record {
   way = record {
@@ -89,5 +131,6 @@ begun_is_reached c ls h = record {
     is_start = begins kinds (rules c) c.capacity (sources_from 0 ls) (length-sources_from 0 ls ∙ h.0) (are_sources c 0 ls h.1);
     by_steps = refl;
   };
+  begins = ap (first_world (rules c) c.capacity) (sym (ap (sources_of 0) (arriving_first c ls h.0) ∙ sources_back 0 ls));
   arrives = arrives c ls h;
 }

@@ -1,19 +1,40 @@
 -- Steps of a pipeline, one after the other.
-use Rattle.std.proofs.Common.{◌≡◌, ℕ, ◌+◌, ◌<◌, List, [], ◌∷◌, ◌++◌, map, length, take, drop, get_or, refl, sym, subst, ◌∙◌, ap, append_assoc}
+use Rattle.std.proofs.Common.{◌≡◌, ℕ, zero, suc, ◌+◌, ◌<◌, List, [], ◌∷◌, ◌++◌, map, length, take, drop, get_or, refl, sym, subst, ◌∙◌, ap, ap₂, append_assoc, arith}
 use Rattle.std.specs.Prelude.{Option, Some, None}
 use Rattle.std.proofs.lemmas.List.{append-nil, drop_more, map-append, take_more}
+use Rattle.std.specs.List.{range_with_len}
+use Rattle.pipe_order.specs.Item.{Item}
 use Rattle.pipe_order.specs.Next.{next}
 use Rattle.pipe_order.specs.Run.{or_same, run, skip_if, skipped_from}
-use Rattle.pipe_order.specs.Start.{HasArrival}
+use Rattle.pipe_order.specs.Start.{HasArrival, arrivals, first_world}
 use Rattle.pipe_order.specs.Step.{Step}
 use Rattle.pipe_order.specs.World.{World}
 use Rattle.pipe_order.proofs.Reach.{reaches_on, run-append}
+use Rattle.pipe_order.proofs.Runs.{keeps_arrivals, run_keeps}
 use Rattle.process_packet.specs.declared.config.Config.{Config}
+use Rattle.router_rules.specs.Links.{link_count}
 use Rattle.router_rules.specs.Rules.{kinds, rules}
+use Rattle.pipe_model.specs.Begun.{arriving, sources_of}
 use Rattle.pipe_model.specs.Headline.{IsReached}
 use Rattle.pipe_model.specs.Pipeline.{Pipeline, ran, rules_in, skipped, stepped, with_world}
 use Rattle.pipe_model.specs.Step.{step_in}
 use Rattle.pipe_model.specs.declared.step.Step.{Step as Act}
+
+-- ---- what arrives stays
+
+map_same : {X : Type 0} (f g : ℕ → X) (a n : ℕ) → ((k : ℕ) → k < a + n → f k ≡ g k) → map f (range_with_len a n) ≡ map g (range_with_len a n)
+map_same f g a zero same = refl
+map_same f g a (suc n) same = ap₂ (λ x xs. x ∷ xs) (same a (omega arith)) (map_same f g (a + 1) n (λ k below. same k (omega (arith, below))))
+
+pub arriving_kept : (c : Config) (w : World kinds) (ss : List Step) → arriving c (run (rules c) w ss) ≡ arriving c w
+arriving_kept c w ss = map_same (arrivals (run (rules c) w ss)) (arrivals w) 0 (link_count c) same
+  where
+    same : (a : ℕ) → a < 0 + link_count c → arrivals (run (rules c) w ss) a ≡ arrivals w a
+    same a below =
+        let there : a < link_count c = omega (arith, below) in
+        run_keeps (rules c) (λ v. arrivals v a ≡ arrivals w a) (λ u v m e. keeps_arrivals (rules c) a there u v m ∙ e) ss w refl
+
+-- ---- one step more
 
 pub reached_more : (c : Config) (w v : World kinds) (s : Step) → next (rules c) w s ≡ Some v → IsReached c w → IsReached c v
 reached_more c w v s e r =
@@ -21,6 +42,7 @@ reached_more c w v s e r =
     let f : run (rules c) w (s ∷ []) ≡ v = ap (or_same w) e in
     let there : IsReached c (run (rules c) w (s ∷ [])) = record {
       way = on.0;
+      begins = on.1 ∙ (r.begins ∙ sym (ap (λ (xs : List (List (Item kinds))). first_world (rules c) c.capacity (sources_of 0 xs)) (arriving_kept c w (s ∷ []))));
       arrives = λ x h. (let P : World kinds → Type 0 = λ u. HasArrival u x in r.arrives x (subst P on.1 h));
     } in
     subst (IsReached c) f there

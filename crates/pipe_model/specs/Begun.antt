@@ -1,14 +1,35 @@
 -- The pipeline before its first step, and what may arrive.
-use Rattle.std.specs.Prelude.{◌≡◌, ◌+◌, ℕ, List, [], ◌∷◌, length}
+use Rattle.std.specs.Prelude.{◌≡◌, ◌+◌, ℕ, List, [], ◌∷◌, length, map}
+use Rattle.std.specs.List.{range_with_len}
 use Rattle.std.specs.declared.alloc.Global.{Global}
 use Rattle.std.specs.declared.vec.Vec.{Vec}
-use Rattle.pipe_order.specs.Start.{first_world}
+use Rattle.pipe_order.specs.Item.{Item}
+use Rattle.pipe_order.specs.Pipe.{Entry, Pipe}
+use Rattle.pipe_order.specs.Start.{arrivals, first_world}
+use Rattle.pipe_order.specs.Worker.{Receiver}
+use Rattle.pipe_order.specs.World.{World}
 use Rattle.process_packet.specs.declared.arrival.Arrival.{Arrival as Came}
 use Rattle.process_packet.specs.declared.config.Config.{Config}
 use Rattle.router_rules.specs.Links.{link_count, link_index}
-use Rattle.router_rules.specs.Rules.{rules}
+use Rattle.router_rules.specs.Rules.{kinds, rules}
 use Rattle.pipe_parts.specs.Arrivals.{sources_from}
 use Rattle.pipe_model.specs.Pipeline.{Pipeline}
+
+-- what arrives on each link, received or not: receivers' pipes keep it
+abbrev pub arriving : Config → World kinds → List (List (Item kinds))
+arriving c w = map (arrivals w) (range_with_len 0 (link_count c))
+
+abbrev pub entry_of : ℕ → Item kinds → Entry kinds
+entry_of a x = record { from = Receiver a; item = x }
+
+-- the links' sources from a on, with nothing of them received
+abbrev pub sources_of : ℕ → List (List (Item kinds)) → List (Pipe kinds)
+sources_of a [] = []
+sources_of a (xs ∷ rest) = record { history = map (entry_of a) xs; taken = 0; capacity = 0; refusals = [] } ∷ sources_of (a + 1) rest
+
+-- the world that it all began with: pipes of the configured capacity, and what arrives, none of it received
+abbrev pub start_of : Config → World kinds → World kinds
+start_of c w = first_world (rules c) c.capacity (sources_of 0 (arriving c w))
 
 -- before the first step
 abbrev pub begun : Config → List (Vec Came Global) → Pipeline

@@ -1,6 +1,6 @@
 -- What holds of a pipeline after any list of steps: packets of a flow keep their order, each packet is at one place, each is
 -- counted once, a drop at a full pipe met it full, and nothing behind a closing mark is sent.
-use Rattle.std.specs.Prelude.{◌≡◌, ◌<◌, ◌+◌, ℕ, true}
+use Rattle.std.specs.Prelude.{◌≡◌, ◌<◌, ◌+◌, ℕ, true, List}
 use Rattle.pipe_order.specs.ByRules.{IsByRules}
 use Rattle.pipe_order.specs.Close.{IsClosing}
 use Rattle.pipe_order.specs.Full.{IsFull}
@@ -14,12 +14,20 @@ use Rattle.pipe_order.specs.Totals.{answered_count, dropped_count, received_coun
 use Rattle.pipe_order.specs.World.{World}
 use Rattle.process_packet.specs.declared.config.Config.{Config}
 use Rattle.router_rules.specs.Rules.{Arrives, kinds, rules}
+use Rattle.pipe_model.specs.Begun.{arriving, start_of}
+use Rattle.pipe_model.specs.Pipeline.{Pipeline, ran}
+use Rattle.pipe_model.specs.declared.step.Step.{Step}
 
--- Some steps led to the world, from one in which nothing was received, and what arrives comes by the links that it is
--- numbered on.
+-- Some steps led to the world from the one that it all began with: its pipes have the configured capacity, nothing was
+-- received, and what arrives is what the world tells of. It comes by the links that it is numbered on.
 pub record IsReached (c : Config) (w : World kinds) : Type 0 where
   pub way : Reached (rules c) w
+  pub begins : way.start ≡ start_of c w
   pub arrives : (x : Arrival kinds) → HasArrival way.start x → Arrives c x
+
+-- What arrives stays: by whatever steps, the world tells of the same arrivals.
+abbrev pub ArrivalsStay : Type 0
+ArrivalsStay = (p : Pipeline) (ss : List Step) → arriving (ran p ss).config (ran p ss).world ≡ arriving p.config p.world
 
 -- For each arriving link, flow and leaving link what the forwarder took for sending is a beginning of what the sequential
 -- router sends there, in order and byte for byte, less the packets counted as dropped; each packet is at one place.

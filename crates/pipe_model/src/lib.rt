@@ -5,6 +5,7 @@
 mod act_tests;
 mod counting;
 mod deciding;
+mod laws;
 mod marking;
 mod passing;
 mod place;
@@ -18,6 +19,7 @@ mod step;
 mod tests;
 mod world;
 
+pub use laws::arrivals_stay;
 pub use pipe_parts::Bytes;
 pub use place::Place;
 pub use router_rules::{Outgoing, Queue, Worker};

@@ -69,6 +69,7 @@ fn totals(received: u128, sent: u128) -> Totals {
 
 #[test]
 fn two_packets_at_each_moment(rt: HostRuntime) {
+    crate::arrivals_stay();
     let Ok(mut world) = pipeline(rt.alloc(), IN_TIME) else {
         return assert!(rt; false, "there is memory");
     };

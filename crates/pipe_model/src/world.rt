@@ -1,6 +1,6 @@
 //! The pipeline over any list of steps, and what is told of it.
 
-ghost use Rattle.std.specs.Prelude.{◌≡◌, ◌≤◌, ◌↔◌, length, take, Some, None, OnOk, OnErr, IsErrOf, IfOk, IfErr, ◌+◌, sum};
+ghost use Rattle.std.specs.Prelude.{◌≡◌, ◌<◌, ◌↔◌, length, take, Some, None, OnOk, OnErr, IsErrOf, IfOk, IfErr, ◌+◌, sum};
 ghost use Rattle.pipe_model.specs.Begun.{AreArrivals, begun};
 ghost use Rattle.pipe_model.specs.Headline.{IsHeadline, IsReached, IsWayGood};
 ghost use Rattle.pipe_model.specs.Pipeline.{ran, skipped, stepped};
@@ -89,7 +89,7 @@ impl World {
     pub fn run(&mut self, alloc: Global, steps: &[Step]) -> Result<Vec<usize>, NoMemoryAt>
         ensures ok { OnOk result (self.new ≡ ran self.old steps.now) }
         ensures skipped { IfOk result (λ places. places.items ≡ skipped self.old steps.now) }
-        ensures err { IfErr result (λ e. (e.0 ≤ length steps.now) × (self.new ≡ ran self.old (take e.0 steps.now))) }
+        ensures err { IfErr result (λ e. (e.0 < length steps.now) × (self.new ≡ ran self.old (take e.0 steps.now))) }
         ensures headline { IsHeadline self.new.config self.new.world }
         ensures reached { IsReached self.new.config self.new.world }
         ensures way { (r : IsReached self.new.config self.new.world) → IsWayGood self.new.config self.new.world r }
