@@ -7,3 +7,6 @@ pub mod Forwards
 pub mod Counting
 pub mod Placed
 pub mod Settling
+pub mod Reasons
+pub mod Places
+pub mod Causes

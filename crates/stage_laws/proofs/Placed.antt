@@ -15,14 +15,14 @@ use Rattle.stage_laws.specs.Works.{leaves, IsOffered}
 use Rattle.stage_laws.specs.Answers.{is_answered, IsAnswered, answer_to, replied_out, to_back}
 use Rattle.stage_laws.proofs.Gathers.{picked, send_weighed, ask_weighed}
 
-map_offer : {C : Type 0} {P Q : Type 0} (o : Ending C) → (P → Q) → is_offer o P → is_offer o Q
+pub map_offer : {C : Type 0} {P Q : Type 0} (o : Ending C) → (P → Q) → is_offer o P → is_offer o Q
 map_offer Accepted f p = f p
 map_offer Refused f p = f p
 map_offer Lacked f p = tt
 map_offer (Counted c) f p = tt
 
 -- the place of a link's pipe among those of the links
-home_at : {K : Kinds} (R : Rules K) (o : Outgoing K) (l : ℕ) → o.link ≡ l → l < R.links → (k : ℕ) × ((home R (Out o) ≡ place_of R k) × (k < link_pipes R))
+pub home_at : {K : Kinds} (R : Rules K) (o : Outgoing K) (l : ℕ) → o.link ≡ l → l < R.links → (k : ℕ) × ((home R (Out o) ≡ place_of R k) × (k < link_pipes R))
 home_at R o l is lt = go (is_high R o) refl
   where
     high : link_pipe R true o.link ≡ place_of R (2 * o.link + 1)

@@ -1,5 +1,5 @@
 -- Each packet of a running pipeline that has ended stands at one place.
-use Rattle.std.proofs.Common.{◌≡◌, ℕ, suc, ◌+◌, ◌<◌, Bool, true, false, eqb, cond, List, [], ◌∷◌, ◌++◌, refl, sym, ◌∙◌, ap, arith}
+use Rattle.std.proofs.Common.{◌≡◌, ℕ, suc, ◌+◌, ◌<◌, ◌≤◌, Bool, true, false, eqb, cond, List, [], ◌∷◌, ◌++◌, refl, sym, ◌∙◌, ap, arith}
 use Rattle.std.specs.List.{flat_map}
 use Rattle.std.proofs.lemmas.Grind.{flat_map-append}
 use Rattle.pipe_order.specs.Kinds.{Kinds}
@@ -12,7 +12,7 @@ use Rattle.pipe_order.specs.Counted.{sum_to, is_offer, SlowViews, place_of, link
 use Rattle.pipe_order.proofs.Sums.{total-append}
 use Rattle.pipe_order.proofs.Joints.{split_mark}
 use Rattle.pipe_order.proofs.Counted.{sum_below, sum_add, sum_zero, sum_swap, sum_one, all_below}
-use Rattle.stage_laws.specs.Weighed.{lost_by, lost, IsWeighed, arrival_weight, question_weight, outgoing_weight, AreWeighed, Joined, IsPlaced, PlacesEach}
+use Rattle.stage_laws.specs.Weighed.{lost_by, lost, IsWeighed, arrival_weight, question_weight, outgoing_weight, AreWeighed, Joined, IsPlaced, PlacesEach, numbered, through_processors, through_slow, through_links}
 
 module _ {T : Type 0} (f : T → ℕ) where
   -- what was taken, by its producers
@@ -159,18 +159,24 @@ module _ {K : Kinds} where
         let c = sum_below L (λ l. total O (s.leaving_full (at l))) (λ l. total O (flat_map (refused (back (at l))) s.worked)) (λ l b. ap (total O) (t.slow_tells (at l)).1) in
         omega arith
 
-    handed_are : (l : ℕ) → l < L → total O (v.handed (at l)) + total O (v.swept (at l)) ≡ sum_to P (λ i. out_ i l) + total O (payloads (s.leaving (at l)))
-    handed_are l lt =
+    forwarded_are : (l : ℕ) → l < L → total O (payloads (v.forwarded (at l))) ≡ total O (v.handed (at l)) + total O (v.swept (at l))
+    forwarded_are l lt =
         let law = t.settled.forwarders (at l) (omega arith, omega arith) in
         let es = v.forwarded (at l) in
         let whole : total O (payloads (before_mark es)) + total O (payloads (from_mark es)) ≡ total O (payloads es) =
         sym (total-append O (payloads (before_mark es)) (payloads (from_mark es))) ∙ ap (total O) (sym (flat_map-append (λ (e : Pushed (Outgoing K)). payload_of e.load) (before_mark es) (from_mark es)) ∙ ap payloads (split_mark es)) in
+        let x = ap (total O) law.sent in
+        let y = ap (total O) law.behind in
+        omega arith
+
+    handed_are : (l : ℕ) → l < L → total O (v.handed (at l)) + total O (v.swept (at l)) ≡ sum_to P (λ i. out_ i l) + total O (payloads (s.leaving (at l)))
+    handed_are l lt =
+        let es = v.forwarded (at l) in
+        let whole = forwarded_are l lt in
         let n = by_number O (suc (suc P)) es (all_below (suc (suc P)) es (λ j ge. t.outer_none l j lt ge)) in
         let a = sum_below P (λ i. total O (payloads (of_producer i es))) (λ i. out_ i l) (λ i below. ap (λ (xs : List (Pushed (Outgoing K))). total O (payloads xs)) (t.settled.outer (at l) i (omega arith, omega arith) below)) in
         let b = ap (λ (xs : List (Pushed (Outgoing K))). total O (payloads xs)) (t.outer_slow l lt) in
         let c = ap (total O) (t.outer_marks l lt) in
-        let x = ap (total O) law.sent in
-        let y = ap (total O) law.behind in
         omega arith
 
     pub placed : IsPlaced w R v s
@@ -187,6 +193,23 @@ module _ {K : Kinds} where
         let m = sum_add L (λ l. total O (v.handed (at l))) (λ l. total O (v.swept (at l))) in
         let n = sum_add L (λ l. sum_to P (λ i. out_ i l)) (λ l. total O (payloads (s.leaving (at l)))) in
         omega arith
+
+    -- what went through the pipes of a kind is at most what was numbered
+    pub through : (through_processors w R v ≤ numbered w R v) × (through_slow w s ≤ numbered w R v) × (through_links w R v ≤ numbered w R v)
+    through =
+        let a = sum_three N (λ p. total A (done_items (v.received p))) (λ p. sum_to P (λ i. in_ p i)) (λ p. sum_to P (λ i. total A (v.arrived_full p i))) (λ p. lost A (v.received p)) received_are in
+        let b = sum_swap N P in_ in
+        let c = sum_below P (λ i. total A (done_items (v.worked i))) (λ i. sum_to N (λ p. in_ p i)) worked_are in
+        let taken = sum_below P (λ i. total A (payloads (v.taken i))) (λ i. total A (done_items (v.worked i))) (λ i lt. ap (total A) (t.settled.workers i lt).took) in
+        let d = sum_three P (λ i. total A (done_items (v.worked i))) (λ i. sum_to L (λ l. out_ i l)) (λ i. total Q (payloads (v.asked i))) gone_ split_are in
+        let f = slow_are in
+        let slow = ap (total Q) t.slow_took in
+        let g = slow_split in
+        let h = sum_swap P L out_ in
+        let k = sum_below L (λ l. total O (v.handed (at l)) + total O (v.swept (at l))) (λ l. sum_to P (λ i. out_ i l) + total O (payloads (s.leaving (at l)))) handed_are in
+        let m = sum_below L (λ l. total O (payloads (v.forwarded (at l)))) (λ l. total O (v.handed (at l)) + total O (v.swept (at l))) (λ l lt. forwarded_are l lt) in
+        let n = sum_add L (λ l. sum_to P (λ i. out_ i l)) (λ l. total O (payloads (s.leaving (at l)))) in
+        (omega arith, omega arith, omega arith)
 
 pub places_each : (K : Kinds) → PlacesEach K
 places_each K R v s back t w kept = placed R v s back t w kept

@@ -1,16 +1,15 @@
 -- What holds of a running pipeline that has ended: the premises that the workers give, and what follows.
-use Rattle.std.specs.Prelude.{◌≡◌, ◌<◌, ◌≤◌, ◌+◌, ℕ, Bool, true, false, ◌&&◌, List, [], ◌++◌, length, if◌then◌else◌}
+use Rattle.std.specs.Prelude.{◌≡◌, ◌<◌, ◌≤◌, ◌+◌, ℕ, Bool, true, false, ◌&&◌, List, [], ◌++◌}
 use Rattle.pipe_order.specs.Kinds.{Kinds}
-use Rattle.pipe_order.specs.Item.{Arrival, Outgoing}
+use Rattle.pipe_order.specs.Item.{Arrival, Outgoing, Out}
 use Rattle.pipe_order.specs.Rules.{Rules, Sends, Asks, Replies, IsLawful}
-use Rattle.pipe_order.specs.Counts.{total, count}
-use Rattle.pipe_order.specs.World.{link_pipe}
-use Rattle.pipe_order.specs.Deeds.{payloads, of_producer, Each, Ending, Accepted, Refused, Lacked, Counted, Deed}
+use Rattle.pipe_order.specs.World.{home, link_pipe}
+use Rattle.pipe_order.specs.Deeds.{payloads, of_producer, Each, Deed}
 use Rattle.pipe_order.specs.Settled.{Question, Views, IsTold, IsLinkPipe, Settled, SettlesInOrder}
-use Rattle.pipe_order.specs.Counted.{sum_to, SlowViews, place_of, link_pipes}
+use Rattle.pipe_order.specs.Counted.{SlowViews, place_of, link_pipes}
 use Rattle.stage_laws.specs.Works.{IsOffered, LacksNothing}
 use Rattle.stage_laws.specs.Answers.{SlowLaw}
-use Rattle.stage_laws.specs.Receives.{IsClear, lacks}
+use Rattle.stage_laws.specs.Receives.{IsClear}
 use Rattle.stage_laws.specs.Forwards.{Handed, handed_items, WentOn}
 use Rattle.stage_laws.specs.Weighed.{IsPlaced}
 
@@ -36,17 +35,6 @@ pub record Ended {K : Kinds} (R : Rules K) (v : Views K) (s : SlowViews K) (went
 
 -- ---- what follows
 
-module _ {C : Type 0} where
-  abbrev pub was_counted : (C → Bool) → Ending C → ℕ
-  was_counted test Accepted = 0
-  was_counted test Refused = 0
-  was_counted test Lacked = 0
-  was_counted test (Counted c) = if test c then 1 else 0
-
-module _ {C X : Type 0} where
-  abbrev pub counted_in : (C → Bool) → List (Deed C X) → ℕ
-  counted_in test log = total (λ d. was_counted test d.end) log
-
 module _ {K : Kinds} where
   -- an answer is the reply to the problem that was decided for a packet of its name
   abbrev pub IsAnswerTo : Rules K → Views K → Outgoing K → Type 0
@@ -57,24 +45,13 @@ module _ {K : Kinds} where
   abbrev pub IsPacketOf : Rules K → Views K → Outgoing K → Type 0
   IsPacketOf R v o = o.answer ≡ false → (x : Arrival K) × IsTold v x × (R.decide x ≡ Sends o.link o.parcel) × (x.link ≡ o.arrived) × (x.number ≡ o.number)
 
-  -- dropped by the rules, for some reasons
-  abbrev pub ruled_count : Rules K → Views K → SlowViews K → (K.Reason → Bool) → ℕ
-  ruled_count R v s test = sum_to R.links (λ p. counted_in test (v.received p)) + sum_to R.processors (λ i. counted_in test (v.worked i)) + counted_in test s.worked
-
-  abbrev pub no_buffer_count : Rules K → Views K → ℕ
-  no_buffer_count R v = sum_to R.links (λ p. lacks (v.received p))
-
-  abbrev pub went_count : Rules K → (ℕ → List (Handed K)) → (Handed K → Bool) → ℕ
-  went_count R went test = sum_to R.links (λ l. count test (went l))
-
-  abbrev pub swept_count : Rules K → Views K → ℕ
-  swept_count R v = sum_to (link_pipes R) (λ j. length (v.swept (place_of R j)))
-
 pub record HasEnded {K : Kinds} (R : Rules K) (v : Views K) (s : SlowViews K) (went : ℕ → List (Handed K)) (closed : ℕ → Bool) : Type 0 where
   pub order : SettlesInOrder R v
   pub place : (w : (link number : ℕ) → ℕ) → IsPlaced w R v s
   pub packets : (q : ℕ) → IsLinkPipe R q → Each (IsPacketOf R v) (v.handed q ++ v.swept q)
   pub answers : (q : ℕ) → IsLinkPipe R q → Each (IsAnswerTo R v) (v.handed q ++ v.swept q)
+  -- each in the pipe of its link and its band
+  pub own_pipe : (q : ℕ) → IsLinkPipe R q → Each (λ (o : Outgoing K). home R (Out o) ≡ q) (v.handed q ++ v.swept q)
   pub not_closed : (l : ℕ) → l < R.links → closed l ≡ false → (v.swept (link_pipe R false l) ≡ []) × (v.swept (link_pipe R true l) ≡ [])
 
 -- Of workers that keep their laws over pipes that hold nothing any more.

@@ -8,3 +8,6 @@ pub mod Gathers
 pub mod Forwards
 pub mod Counting
 pub mod Ended
+pub mod Places
+pub mod Reasons
+pub mod Causes

@@ -44,17 +44,33 @@ pub record AreWeighed {K : Kinds} (R : Rules K) (v : Views K) (s : SlowViews K) 
   pub slow : Each (IsWeighed (link_pipes R) (λ j. back (place_of R j)) (no_side {X = Question K} {Y = Question K}) (question_weight w) (outgoing_weight w) (question_weight w)) s.worked
 
 module _ {K : Kinds} (w : (link number : ℕ) → ℕ) where
-  -- received is handed to sinks, refused at a full pipe, counted without a push, or swept; with the weight that is 1 for one
-  -- packet alone and else 0, that packet stands at one of these places, once
-  abbrev pub IsPlaced : Rules K → Views K → SlowViews K → Type 0
-  IsPlaced R v s =
-      sum_to R.links (λ p. total (arrival_weight w) (done_items (v.received p)))
-      ≡ sum_to (link_pipes R) (λ j. total (outgoing_weight w) (v.handed (place_of R j)))
+  -- all that a receiver numbered, and all places where it may have ended: handed to a sink, refused at a full pipe, counted
+  -- without a push, swept
+  abbrev pub numbered : Rules K → Views K → ℕ
+  numbered R v = sum_to R.links (λ p. total (arrival_weight w) (done_items (v.received p)))
+
+  abbrev pub places : Rules K → Views K → SlowViews K → ℕ
+  places R v s =
+      sum_to (link_pipes R) (λ j. total (outgoing_weight w) (v.handed (place_of R j)))
       + (sum_to R.links (λ p. sum_to R.processors (λ i. total (arrival_weight w) (v.arrived_full p i)))
       + (sum_to R.processors (λ i. sum_to (link_pipes R) (λ j. total (outgoing_weight w) (v.leaving_full i (place_of R j)))) + sum_to (link_pipes R) (λ j. total (outgoing_weight w) (s.leaving_full (place_of R j))))
       + sum_to R.processors (λ i. total (question_weight w) (v.asked_full i))
       + (sum_to R.links (λ p. lost (arrival_weight w) (v.received p)) + sum_to R.processors (λ i. lost (arrival_weight w) (v.worked i)) + lost (question_weight w) s.worked)
       + sum_to (link_pipes R) (λ j. total (outgoing_weight w) (v.swept (place_of R j))))
+
+  -- with the weight that is 1 for one packet alone and else 0, that packet stands at one of these places, once
+  abbrev pub IsPlaced : Rules K → Views K → SlowViews K → Type 0
+  IsPlaced R v s = numbered R v ≡ places R v s
+
+  -- what went through the processors' pipes, the slow path's, the links'
+  abbrev pub through_processors : Rules K → Views K → ℕ
+  through_processors R v = sum_to R.processors (λ i. total (arrival_weight w) (payloads (v.taken i)))
+
+  abbrev pub through_slow : SlowViews K → ℕ
+  through_slow s = total (question_weight w) (payloads s.taken)
+
+  abbrev pub through_links : Rules K → Views K → ℕ
+  through_links R v = sum_to (link_pipes R) (λ j. total (outgoing_weight w) (payloads (v.forwarded (place_of R j))))
 
 -- The gathered views, joined by their pipes, with what the slow path makes of a question for the link's pipe at a place.
 pub record Joined {K : Kinds} (R : Rules K) (v : Views K) (s : SlowViews K) (back : ℕ → Question K → List (Outgoing K)) : Type 0 where
