@@ -156,8 +156,8 @@ module _ {K : Kinds} where
         let d = deeds P (to_processor R) (no_side {X = Arrival K} {Y = Question K}) (v.received p) (t.receiver_one p lt) in
         let z = none_accepted (Question K) (v.received p) in
         let y = none_refused (Question K) (v.received p) in
-        let a = sum_below P (λ i. in_ p i) (λ i. length (flat_map (accepted (to_processor R i)) (v.received p))) (λ i b. ap length (law.tells i).0) in
-        let c = sum_below P (λ i. length (v.arrived_full p i)) (λ i. length (flat_map (refused (to_processor R i)) (v.received p))) (λ i b. ap length (law.tells i).1) in
+        let a = sum_below P (λ i. in_ p i) (λ i. length (flat_map (accepted (to_processor R i)) (v.received p))) (λ i b. ap length (law.tells i b).0) in
+        let c = sum_below P (λ i. length (v.arrived_full p i)) (λ i. length (flat_map (refused (to_processor R i)) (v.received p))) (λ i b. ap length (law.tells i b).1) in
         omega arith
 
     worked_are : (i : ℕ) → i < P → length (v.worked i) ≡ sum_to N (λ p. in_ p i)
@@ -176,8 +176,8 @@ module _ {K : Kinds} where
         let d = deeds L (λ j. to_link R (at j)) (to_slow R) (v.worked i) (t.worker_one i lt) in
         let z = ap length law.slow.0 in
         let y = ap length law.slow.1 in
-        let a = sum_below L (λ l. out_ i l) (λ l. length (flat_map (accepted (to_link R (at l))) (v.worked i))) (λ l b. ap length (law.tells (at l)).0) in
-        let c = sum_below L (λ l. length (v.leaving_full i (at l))) (λ l. length (flat_map (refused (to_link R (at l))) (v.worked i))) (λ l b. ap length (law.tells (at l)).1) in
+        let a = sum_below L (λ l. out_ i l) (λ l. length (flat_map (accepted (to_link R (at l))) (v.worked i))) (λ l b. ap length (law.tells (at l) (omega arith, omega arith)).0) in
+        let c = sum_below L (λ l. length (v.leaving_full i (at l))) (λ l. length (flat_map (refused (to_link R (at l))) (v.worked i))) (λ l b. ap length (law.tells (at l) (omega arith, omega arith)).1) in
         omega arith
 
     slow_are : length w.worked ≡ sum_to P (λ i. length (payloads (v.asked i)))
@@ -191,8 +191,8 @@ module _ {K : Kinds} where
         let d = deeds L (λ j. t.back (at j)) (no_side {X = Question K} {Y = Question K}) w.worked t.slow_one in
         let z = none_accepted (Question K) w.worked in
         let y = none_refused (Question K) w.worked in
-        let a = sum_below L (λ l. length (payloads (w.leaving (at l)))) (λ l. length (flat_map (accepted (t.back (at l))) w.worked)) (λ l b. ap length (t.slow_tells (at l)).0) in
-        let c = sum_below L (λ l. length (w.leaving_full (at l))) (λ l. length (flat_map (refused (t.back (at l))) w.worked)) (λ l b. ap length (t.slow_tells (at l)).1) in
+        let a = sum_below L (λ l. length (payloads (w.leaving (at l)))) (λ l. length (flat_map (accepted (t.back (at l))) w.worked)) (λ l b. ap length (t.slow_tells (at l) (omega arith, omega arith)).0) in
+        let c = sum_below L (λ l. length (w.leaving_full (at l))) (λ l. length (flat_map (refused (t.back (at l))) w.worked)) (λ l b. ap length (t.slow_tells (at l) (omega arith, omega arith)).1) in
         omega arith
 
     handed_are : (l : ℕ) → l < L → length (v.handed (at l)) + length (v.swept (at l)) ≡ sum_to P (λ i. out_ i l) + length (payloads (w.leaving (at l)))

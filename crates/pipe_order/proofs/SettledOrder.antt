@@ -124,7 +124,7 @@ module _ {K : Kinds} where
             let mine : Each (IsFed R v i p) (flat_map (accepted (to_processor R i)) (v.received p)) =
             each_map (λ y h. (h.0, below, h.1, h.2)) (flat_map (accepted (to_processor R i)) (v.received p)) (own R i p 1 (v.received p) law.numbered) in
             let all : Each (IsFed R v i p) (payloads (of_producer p (v.taken i))) =
-            subst (λ (xs : List (Arrival K)). Each (IsFed R v i p) xs) (sym (ap payloads (s.inner i p lt below) ∙ (law.tells i).0)) mine in
+            subst (λ (xs : List (Arrival K)). Each (IsFed R v i p) xs) (sym (ap payloads (s.inner i p lt below) ∙ (law.tells i lt).0)) mine in
             let each = each_out (IsFed R v i p) (λ (e : Pushed (Arrival K)). payload_of e.load) (of_producer p (v.taken i)) all in
             each_map (λ e h. subst (λ (q : ℕ). Each (IsFed R v i q) (payload_of e.load)) (sym h.0) h.1) (of_producer p (v.taken i))
             (each_both (λ (e : Pushed (Arrival K)). e.from ≡ p) (λ (e : Pushed (Arrival K)). Each (IsFed R v i p) (payload_of e.load)) (of_producer p (v.taken i)) (named p (v.taken i)) each)
@@ -218,7 +218,7 @@ module _ {K : Kinds} where
           ∙ (of_one g a (v.taken h) (each_map (λ e f. of_other e f) (v.taken h) (fed h h_in))
           ∙ (ap (λ (es : List (Pushed (Arrival K))). flat_map g es) (s.inner h a h_in la)
           ∙ (sym (flat_flat E (λ (e : Pushed (Arrival K)). payload_of e.load) (v.arrived a h))
-          ∙ (ap (λ (xs : List (Arrival K)). flat_map E xs) (((s.receivers a la).tells h).0)
+          ∙ (ap (λ (xs : List (Arrival K)). flat_map E xs) (((s.receivers a la).tells h h_in).0)
           ∙ first)))))
 
       -- what a processor makes is seen as what is expected
@@ -277,7 +277,7 @@ module _ {K : Kinds} where
       another : (i : ℕ) → i < R.processors → (i ≡ h → ⊥) → flat_map S (payloads (of_producer i (v.forwarded Q))) ≡ []
       another i lt apart =
           let law = s.workers i lt in
-          ap (λ (xs : List (Outgoing K)). flat_map S xs) (ap payloads (s.outer Q i at_link lt) ∙ (law.tells Q).0)
+          ap (λ (xs : List (Outgoing K)). flat_map S xs) (ap payloads (s.outer Q i at_link lt) ∙ (law.tells Q at_link).0)
           ∙ (flat_flat S (accepted (to_link R Q)) (v.worked i)
           ∙ flat_nothing (λ d. flat_map S (accepted (to_link R Q) d)) (v.worked i)
           (each_map (λ d f. none_accepted d (seen_right i d.item f ∙ other_mine R a l mine d.item (not_mine i apart d.item f.2))) (v.worked i) (known i lt)))
@@ -303,7 +303,7 @@ module _ {K : Kinds} where
           ∙ (of_one G h (v.forwarded Q) (by_producer (λ (e : Pushed (Outgoing K)). eqb e.from h ≡ false → G e ≡ []) (v.forwarded Q) others_none)
           ∙ (ap (λ (es : List (Pushed (Outgoing K))). flat_map G es) (s.outer Q h at_link h_in)
           ∙ (sym (flat_flat S (λ (e : Pushed (Outgoing K)). payload_of e.load) (v.leaving h Q))
-          ∙ (ap (λ (xs : List (Outgoing K)). flat_map S xs) (((s.workers h h_in).tells Q).0)
+          ∙ (ap (λ (xs : List (Outgoing K)). flat_map S xs) (((s.workers h h_in).tells Q at_link).0)
           ∙ second))))
 
       -- handed and swept together are all that was taken
@@ -322,7 +322,7 @@ module _ {K : Kinds} where
           ∙ ap (λ (xs : List (Departure K)). without (numbers (flat_map S (v.swept Q))) xs) (all_taken ∙ third_in)
 
       drops_are : dropped R v a l Q h mine ≡ (first_drops ++ second_drops) ++ numbers (flat_map S (v.swept Q))
-      drops_are = rw (((s.receivers a la).tells h).1, ((s.workers h h_in).tells Q).1) refl
+      drops_are = rw (((s.receivers a la).tells h h_in).1, ((s.workers h h_in).tells Q at_link).1) refl
 
       pub hands_in_order : HandsInOrder R v a l Q h mine
       hands_in_order =
@@ -368,7 +368,7 @@ module _ {K : Kinds} where
               let law = s.workers p lt in
               let none : flat_map G (of_producer p (v.forwarded N)) ≡ [] =
               sym (flat_flat S (λ (e : Pushed (Outgoing K)). payload_of e.load) (of_producer p (v.forwarded N)))
-              ∙ (ap (λ (xs : List (Outgoing K)). flat_map S xs) (ap payloads (s.outer N p at_other lt) ∙ (law.tells N).0)
+              ∙ (ap (λ (xs : List (Outgoing K)). flat_map S xs) (ap payloads (s.outer N p at_other lt) ∙ (law.tells N at_other).0)
               ∙ (flat_flat S (accepted (to_link R N)) (v.worked p)
               ∙ flat_nothing (λ d. flat_map S (accepted (to_link R N) d)) (v.worked p) (each_map (λ d f. none_pushed d (seen_none p d.item f)) (v.worked p) (known p lt)))) in
               each_nothing G (of_producer p (v.forwarded N)) none

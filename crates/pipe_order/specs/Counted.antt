@@ -5,7 +5,7 @@ use Rattle.pipe_order.specs.Item.{Arrival, Outgoing}
 use Rattle.pipe_order.specs.Rules.{Rules}
 use Rattle.pipe_order.specs.World.{slow_seat}
 use Rattle.pipe_order.specs.Deeds.{Pushed, payloads, of_producer, Each, Ending, Accepted, Refused, Lacked, Counted, Deed, done_items, Tells}
-use Rattle.pipe_order.specs.Settled.{Question, to_processor, to_link, to_slow, Views, Settled}
+use Rattle.pipe_order.specs.Settled.{Question, to_processor, to_link, to_slow, IsLinkPipe, Views, Settled}
 
 -- g 0 + g 1 + .., n of them
 abbrev pub sum_to : ℕ → (ℕ → ℕ) → ℕ
@@ -60,7 +60,7 @@ pub record Tallied {K : Kinds} (R : Rules K) (v : Views K) (w : SlowViews K) : T
   -- what the slow path makes for the link's pipe at place q
   pub back : ℕ → Question K → List (Outgoing K)
   pub slow_took : payloads w.taken ≡ done_items w.worked
-  pub slow_tells : (q : ℕ) → Tells (back q) w.worked (w.leaving q) (w.leaving_full q)
+  pub slow_tells : (q : ℕ) → IsLinkPipe R q → Tells (back q) w.worked (w.leaving q) (w.leaving_full q)
   pub receiver_one : (p : ℕ) → p < R.links → Each (IsOne R.processors (to_processor R) (no_side {X = Arrival K} {Y = Question K})) (v.received p)
   pub worker_one : (i : ℕ) → i < R.processors → Each (IsOne (link_pipes R) (λ j. to_link R (place_of R j)) (to_slow R)) (v.worked i)
   pub slow_one : Each (IsOne (link_pipes R) (λ j. back (place_of R j)) (no_side {X = Question K} {Y = Question K})) w.worked

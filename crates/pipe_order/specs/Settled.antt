@@ -45,6 +45,10 @@ module _ {K : Kinds} where
   abbrev pub to_slow : Rules K → Arrival K → List (Question K)
   to_slow R x = asked_of x (R.decide x)
 
+  -- the place of a link's pipe
+  abbrev pub IsLinkPipe : Rules K → ℕ → Type 0
+  IsLinkPipe R q = (slow_seat R < q) × (q < pipe_count R)
+
   -- numbered from n
   abbrev pub AreNumbered : (a n : ℕ) → List (Arrival K) → Type 0
   AreNumbered a n [] = Unit {0}
@@ -54,14 +58,14 @@ module _ {K : Kinds} where
 pub record ReceiverLaw {K : Kinds} (R : Rules K) (a : ℕ) (log : List (Deed K.Reason (Arrival K))) (offers : ℕ → List (Pushed (Arrival K))) (refusals : ℕ → List (Arrival K)) : Type 0 where
   pub numbered : AreNumbered a 1 (done_items log)
   pub just : Each (λ (d : Deed K.Reason (Arrival K)). if_counted d.end (λ c. R.inspect d.item ≡ Some c)) log
-  pub tells : (i : ℕ) → Tells (to_processor R i) log (offers i) (refusals i)
+  pub tells : (i : ℕ) → i < R.processors → Tells (to_processor R i) log (offers i) (refusals i)
 
 -- A processor: what it did with each arrival that it took, and the two lists of its end of each link's pipe and of the slow
 -- path's.
 pub record ProcessorLaw {K : Kinds} (R : Rules K) (log : List (Deed K.Reason (Arrival K))) (taken : List (Pushed (Arrival K))) (offers : ℕ → List (Pushed (Outgoing K))) (refusals : ℕ → List (Outgoing K)) (asks : List (Pushed (Question K))) (full : List (Question K)) : Type 0 where
   pub took : payloads taken ≡ done_items log
   pub just : Each (λ (d : Deed K.Reason (Arrival K)). if_counted d.end (λ c. R.decide d.item ≡ Drops c)) log
-  pub tells : (q : ℕ) → Tells (to_link R q) log (offers q) (refusals q)
+  pub tells : (q : ℕ) → IsLinkPipe R q → Tells (to_link R q) log (offers q) (refusals q)
   pub slow : Tells (to_slow R) log asks full
 
 -- A forwarder, at one pipe of its link: what it handed to its sink, and what it swept.
@@ -100,9 +104,6 @@ module _ {K : Kinds} where
   -- a receiver numbered it
   abbrev pub IsTold : Views K → Arrival K → Type 0
   IsTold v x = In x (told v x.link)
-
-  abbrev pub IsLinkPipe : Rules K → ℕ → Type 0
-  IsLinkPipe R q = (slow_seat R < q) × (q < pipe_count R)
 
 pub record Settled {K : Kinds} (R : Rules K) (v : Views K) : Type 0 where
   pub receivers : (p : ℕ) → p < R.links → ReceiverLaw R p (v.received p) (v.arrived p) (v.arrived_full p)

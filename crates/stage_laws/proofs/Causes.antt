@@ -348,7 +348,7 @@ module _ {K : Kinds} (R : Rules K) (v : Views K) (s : SlowViews K) (went : ℕ �
             let a = count-total test (counted_receiving (v.received p)) in
             let b = receiving test R (v.received p) (receiver_one p lt) in
             let c = ap (when (test Received)) (items_long (v.received p)) in
-            let g = ap (when (test (Dropped Cause.ProcessorFull))) (sum_below R.processors (λ i. length (v.arrived_full p i)) (λ i. length (flat_map (refused (to_processor R i)) (v.received p))) (λ i below. ap length (law.tells i).1)) in
+            let g = ap (when (test (Dropped Cause.ProcessorFull))) (sum_below R.processors (λ i. length (v.arrived_full p i)) (λ i. length (flat_map (refused (to_processor R i)) (v.received p))) (λ i below. ap length (law.tells i below).1)) in
             omega arith
 
     worked_all : sum_to R.processors (λ i. count test (counted_working R (v.worked i)))
@@ -369,7 +369,7 @@ module _ {K : Kinds} (R : Rules K) (v : Views K) (s : SlowViews K) (went : ℕ �
             let ample = each_both (λ (d : Deed K.Reason (Arrival K)). LacksNothing d.end) (IsOffered R) (v.worked i) (e.unlacked i lt) (e.offered i lt) in
             let whole = each_map (λ (d : Deed K.Reason (Arrival K)) h. (h.0, h.1.0, h.1.1)) (v.worked i) (each_both _ _ (v.worked i) (worker_one i lt) ample) in
             let b = working test R (v.worked i) whole in
-            let c = ap (when (test (Dropped Cause.LinkFull))) (sum_below (link_pipes R) (λ j. length (v.leaving_full i (place_of R j))) (λ j. length (flat_map (refused (to_link R (place_of R j))) (v.worked i))) (λ j below. ap length (law.tells (place_of R j)).1)) in
+            let c = ap (when (test (Dropped Cause.LinkFull))) (sum_below (link_pipes R) (λ j. length (v.leaving_full i (place_of R j))) (λ j. length (flat_map (refused (to_link R (place_of R j))) (v.worked i))) (λ j below. ap length (law.tells (place_of R j) (omega arith, omega arith)).1)) in
             let g = ap (λ (xs : List (Question K)). when (test (Dropped Cause.AnswerFull)) (length xs)) law.slow.1 in
             omega arith
 
@@ -377,7 +377,7 @@ module _ {K : Kinds} (R : Rules K) (v : Views K) (s : SlowViews K) (went : ℕ �
     answered_all =
         let a = count-total test (counted_answering s.worked) in
         let b = answering test R s.worked (each_both _ _ s.worked slow_one e.unlacked_slow) in
-        let c = ap (when (test (Dropped Cause.LinkFull))) (sum_below (link_pipes R) (λ j. length (s.leaving_full (place_of R j))) (λ j. length (flat_map (refused (to_back R (place_of R j))) s.worked)) (λ j below. ap length (e.slow.tells (place_of R j)).1)) in
+        let c = ap (when (test (Dropped Cause.LinkFull))) (sum_below (link_pipes R) (λ j. length (s.leaving_full (place_of R j))) (λ j. length (flat_map (refused (to_back R (place_of R j))) s.worked)) (λ j below. ap length (e.slow.tells (place_of R j) (omega arith, omega arith)).1)) in
         omega arith
 
     forwarded_all : sum_to R.links (λ l. count test (counted_forwarding (went l) (v.forwarded (link_pipe R false l)) (v.forwarded (link_pipe R true l))))

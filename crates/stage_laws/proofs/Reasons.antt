@@ -60,25 +60,25 @@ module _ {K : Kinds} (R : Rules K) (v : Views K) (s : SlowViews K) (went : ℕ �
       go true is = ((t, is_eqb (R.processor (R.key x)) i is), tt)
       go false is = tt
 
-  full_processor : (p i : ℕ) → p < R.links → Each (λ (x : Arrival K). IsTold v x × (R.processor (R.key x) ≡ i)) (v.arrived_full p i)
-  full_processor p i lt =
+  full_processor : (p i : ℕ) → p < R.links → i < R.processors → Each (λ (x : Arrival K). IsTold v x × (R.processor (R.key x) ≡ i)) (v.arrived_full p i)
+  full_processor p i lt lti =
       let P : Arrival K → Type 0 = λ x. IsTold v x × (R.processor (R.key x) ≡ i) in
-      subst (λ (xs : List (Arrival K)). Each P xs) (sym ((e.settled.receivers p lt).tells i).1)
+      subst (λ (xs : List (Arrival K)). Each P xs) (sym ((e.settled.receivers p lt).tells i lti).1)
       (each_in P (refused (to_processor R i)) (v.received p) (each_map (λ (d : Deed K.Reason (Arrival K)) t. each_refused P d.end (to_processor R i d.item) (for_processor i d.item t)) (v.received p) (told_each p lt)))
 
-  full_link : (i q : ℕ) → i < R.processors → Each (λ (o : Outgoing K). IsPacketOf R v o × (home R (Out o) ≡ q)) (v.leaving_full i q)
-  full_link i q lt =
+  full_link : (i q : ℕ) → i < R.processors → IsLinkPipe R q → Each (λ (o : Outgoing K). IsPacketOf R v o × (home R (Out o) ≡ q)) (v.leaving_full i q)
+  full_link i q lt at =
       let P : Outgoing K → Type 0 = IsRight R v s went closed lawful e q in
       each_map (λ o h. (h.0, h.2)) (v.leaving_full i q)
-      (subst (λ (xs : List (Outgoing K)). Each P xs) (sym ((e.settled.workers i lt).tells q).1)
+      (subst (λ (xs : List (Outgoing K)). Each P xs) (sym ((e.settled.workers i lt).tells q at).1)
       (each_in P (refused (to_link R q)) (v.worked i)
       (each_map (λ (d : Deed K.Reason (Arrival K)) k. each_refused P d.end (to_link R q d.item) (sent_right R v s went closed lawful e q d.item k.1)) (v.worked i) (known R v lawful e.settled i lt))))
 
-  full_answer : (q : ℕ) → Each (λ (o : Outgoing K). IsAnswerTo R v o × (home R (Out o) ≡ q)) (s.leaving_full q)
-  full_answer q =
+  full_answer : (q : ℕ) → IsLinkPipe R q → Each (λ (o : Outgoing K). IsAnswerTo R v o × (home R (Out o) ≡ q)) (s.leaving_full q)
+  full_answer q at =
       let P : Outgoing K → Type 0 = IsRight R v s went closed lawful e q in
       each_map (λ o h. (h.1, h.2)) (s.leaving_full q)
-      (subst (λ (xs : List (Outgoing K)). Each P xs) (sym (e.slow.tells q).1)
+      (subst (λ (xs : List (Outgoing K)). Each P xs) (sym (e.slow.tells q at).1)
       (each_in P (refused (to_back R q)) s.worked
       (each_map (λ (d : Deed K.Reason (Question K)) k. each_refused P d.end (to_back R q d.item) (replied_right R v s went closed lawful e q d.item k)) s.worked (askable R v s went closed lawful e))))
 

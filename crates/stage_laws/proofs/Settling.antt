@@ -136,12 +136,12 @@ module _ {K : Kinds} (R : Rules K) (v : Views K) (s : SlowViews K) (went : ℕ �
   right_by j lt i (inl below) b c =
       let q = place_of R j in
       let law = e.settled.workers i below in
-      subst (λ (xs : List (Outgoing K)). Each (IsRight (place_of R j)) xs) (sym (ap payloads (e.settled.outer q i (omega arith, omega arith) below) ∙ (law.tells q).0))
+      subst (λ (xs : List (Outgoing K)). Each (IsRight (place_of R j)) xs) (sym (ap payloads (e.settled.outer q i (omega arith, omega arith) below) ∙ (law.tells q (omega arith, omega arith)).0))
       (each_in (IsRight (place_of R j)) (accepted (to_link R q)) (v.worked i) (each_map (λ (d : Deed K.Reason (Arrival K)) k. each_accepted (IsRight (place_of R j)) d.end (to_link R q d.item) (sent_right q d.item k.1)) (v.worked i) (known R v lawful e.settled i below)))
   right_by j lt i (inr ge) (inl b) c =
       let q = place_of R j in
       let mine : of_producer i (v.forwarded q) ≡ s.leaving q = ap (λ (k : ℕ). of_producer k (v.forwarded q)) b ∙ e.outer_slow j lt in
-      subst (λ (xs : List (Outgoing K)). Each (IsRight (place_of R j)) xs) (sym (ap payloads mine ∙ (e.slow.tells q).0))
+      subst (λ (xs : List (Outgoing K)). Each (IsRight (place_of R j)) xs) (sym (ap payloads mine ∙ (e.slow.tells q (omega arith, omega arith)).0))
       (each_in (IsRight (place_of R j)) (accepted (to_back R q)) s.worked (each_map (λ (d : Deed K.Reason (Question K)) k. each_accepted (IsRight (place_of R j)) d.end (to_back R q d.item) (replied_right q d.item k)) s.worked askable))
   right_by j lt i (inr ge) (inr b) (inl c) =
       subst (λ (xs : List (Outgoing K)). Each (IsRight (place_of R j)) xs) (sym (ap (λ (k : ℕ). payloads (of_producer k (v.forwarded (place_of R j)))) c ∙ joined.outer_marks j lt)) tt

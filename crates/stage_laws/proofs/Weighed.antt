@@ -120,8 +120,8 @@ module _ {K : Kinds} where
         let d = deeds P (to_processor R) (no_side {X = Arrival K} {Y = Question K}) A A Q (v.received p) (kept.receivers p lt) in
         let z = none_accepted {X = Arrival K} Q (v.received p) in
         let y = none_refused {X = Arrival K} Q (v.received p) in
-        let a = sum_below P (λ i. in_ p i) (λ i. total A (flat_map (accepted (to_processor R i)) (v.received p))) (λ i b. ap (total A) (law.tells i).0) in
-        let c = sum_below P (λ i. total A (v.arrived_full p i)) (λ i. total A (flat_map (refused (to_processor R i)) (v.received p))) (λ i b. ap (total A) (law.tells i).1) in
+        let a = sum_below P (λ i. in_ p i) (λ i. total A (flat_map (accepted (to_processor R i)) (v.received p))) (λ i b. ap (total A) (law.tells i b).0) in
+        let c = sum_below P (λ i. total A (v.arrived_full p i)) (λ i. total A (flat_map (refused (to_processor R i)) (v.received p))) (λ i b. ap (total A) (law.tells i b).1) in
         omega arith
 
     worked_are : (i : ℕ) → i < P → total A (done_items (v.worked i)) ≡ sum_to N (λ p. in_ p i)
@@ -140,8 +140,8 @@ module _ {K : Kinds} where
         let d = deeds L (λ j. to_link R (at j)) (to_slow R) A O Q (v.worked i) (kept.workers i lt) in
         let z = ap (total Q) law.slow.0 in
         let y = ap (total Q) law.slow.1 in
-        let a = sum_below L (λ l. out_ i l) (λ l. total O (flat_map (accepted (to_link R (at l))) (v.worked i))) (λ l b. ap (total O) (law.tells (at l)).0) in
-        let c = sum_below L (λ l. total O (v.leaving_full i (at l))) (λ l. total O (flat_map (refused (to_link R (at l))) (v.worked i))) (λ l b. ap (total O) (law.tells (at l)).1) in
+        let a = sum_below L (λ l. out_ i l) (λ l. total O (flat_map (accepted (to_link R (at l))) (v.worked i))) (λ l b. ap (total O) (law.tells (at l) (omega arith, omega arith)).0) in
+        let c = sum_below L (λ l. total O (v.leaving_full i (at l))) (λ l. total O (flat_map (refused (to_link R (at l))) (v.worked i))) (λ l b. ap (total O) (law.tells (at l) (omega arith, omega arith)).1) in
         omega arith
 
     slow_are : total Q (done_items s.worked) ≡ sum_to P (λ i. total Q (payloads (v.asked i)))
@@ -155,8 +155,8 @@ module _ {K : Kinds} where
         let d = deeds L (λ j. back (at j)) (no_side {X = Question K} {Y = Question K}) Q O Q s.worked kept.slow in
         let z = none_accepted {X = Question K} Q s.worked in
         let y = none_refused {X = Question K} Q s.worked in
-        let a = sum_below L (λ l. total O (payloads (s.leaving (at l)))) (λ l. total O (flat_map (accepted (back (at l))) s.worked)) (λ l b. ap (total O) (t.slow_tells (at l)).0) in
-        let c = sum_below L (λ l. total O (s.leaving_full (at l))) (λ l. total O (flat_map (refused (back (at l))) s.worked)) (λ l b. ap (total O) (t.slow_tells (at l)).1) in
+        let a = sum_below L (λ l. total O (payloads (s.leaving (at l)))) (λ l. total O (flat_map (accepted (back (at l))) s.worked)) (λ l b. ap (total O) (t.slow_tells (at l) (omega arith, omega arith)).0) in
+        let c = sum_below L (λ l. total O (s.leaving_full (at l))) (λ l. total O (flat_map (refused (back (at l))) s.worked)) (λ l b. ap (total O) (t.slow_tells (at l) (omega arith, omega arith)).1) in
         omega arith
 
     forwarded_are : (l : ℕ) → l < L → total O (payloads (v.forwarded (at l))) ≡ total O (v.handed (at l)) + total O (v.swept (at l))

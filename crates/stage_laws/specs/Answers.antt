@@ -7,7 +7,7 @@ use Rattle.pipe_order.specs.Item.{Outgoing, Out}
 use Rattle.pipe_order.specs.Rules.{Rules, Reply, Replies, Withholds}
 use Rattle.pipe_order.specs.World.{home}
 use Rattle.pipe_order.specs.Deeds.{Pushed, payloads, Each, Deed, if_counted, done_items, Tells}
-use Rattle.pipe_order.specs.Settled.{Question, if_so}
+use Rattle.pipe_order.specs.Settled.{Question, if_so, IsLinkPipe}
 use Rattle.pipe_order.specs.Counted.{is_offer, place_of}
 use Rattle.stage_laws.specs.Ends.{pushes, EndTells, IsGrown}
 use Rattle.stage_laws.specs.Works.{LacksNothing}
@@ -57,4 +57,4 @@ pub record SlowLaw {K : Kinds} (R : Rules K) (log : List (Deed K.Reason (Questio
   pub took : payloads taken ≡ done_items log
   pub just : Each (IsWithheld R) log
   pub answered : Each (IsAnswered R) log
-  pub tells : (q : ℕ) → Tells (to_back R q) log (offers q) (refusals q)
+  pub tells : (q : ℕ) → IsLinkPipe R q → Tells (to_back R q) log (offers q) (refusals q)

@@ -6,7 +6,7 @@ use Rattle.pipe_order.specs.Rules.{Rules, Asks, Drops, Withholds, IsLawful}
 use Rattle.pipe_order.specs.World.{home, link_pipe}
 use Rattle.pipe_order.specs.Sent.{IsMerge}
 use Rattle.pipe_order.specs.Deeds.{Each, Deed, if_counted}
-use Rattle.pipe_order.specs.Settled.{Question, Views, IsTold}
+use Rattle.pipe_order.specs.Settled.{Question, Views, IsTold, IsLinkPipe}
 use Rattle.pipe_order.specs.Counted.{SlowViews}
 use Rattle.stage_laws.specs.Forwards.{Handed, handed_items}
 use Rattle.stage_laws.specs.Ended.{Ended, IsAnswerTo, IsPacketOf}
@@ -29,9 +29,9 @@ pub record HasReasons {K : Kinds} (R : Rules K) (v : Views K) (s : SlowViews K) 
   pub processors : (i : ℕ) → i < R.processors → Each (IsDropped R v) (v.worked i)
   pub slow : Each (IsUnanswered R v) s.worked
   -- what was refused is what the pipe was for
-  pub full_processor : (p i : ℕ) → p < R.links → Each (λ (x : Arrival K). IsTold v x × (R.processor (R.key x) ≡ i)) (v.arrived_full p i)
-  pub full_link : (i q : ℕ) → i < R.processors → Each (λ (o : Outgoing K). IsPacketOf R v o × (home R (Out o) ≡ q)) (v.leaving_full i q)
-  pub full_answer : (q : ℕ) → Each (λ (o : Outgoing K). IsAnswerTo R v o × (home R (Out o) ≡ q)) (s.leaving_full q)
+  pub full_processor : (p i : ℕ) → p < R.links → i < R.processors → Each (λ (x : Arrival K). IsTold v x × (R.processor (R.key x) ≡ i)) (v.arrived_full p i)
+  pub full_link : (i q : ℕ) → i < R.processors → IsLinkPipe R q → Each (λ (o : Outgoing K). IsPacketOf R v o × (home R (Out o) ≡ q)) (v.leaving_full i q)
+  pub full_answer : (q : ℕ) → IsLinkPipe R q → Each (λ (o : Outgoing K). IsAnswerTo R v o × (home R (Out o) ≡ q)) (s.leaving_full q)
   pub full_slow : (i : ℕ) → i < R.processors → Each (IsAskedOf R v) (v.asked_full i)
 
 abbrev pub GivesReasons : Kinds → Type 0

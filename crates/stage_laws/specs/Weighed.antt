@@ -5,7 +5,7 @@ use Rattle.pipe_order.specs.Item.{Arrival, Outgoing}
 use Rattle.pipe_order.specs.Rules.{Rules}
 use Rattle.pipe_order.specs.Counts.{total}
 use Rattle.pipe_order.specs.Deeds.{payloads, of_producer, Each, Ending, Accepted, Refused, Lacked, Counted, Deed, done_items, Tells}
-use Rattle.pipe_order.specs.Settled.{Question, to_processor, to_link, to_slow, Views, Settled}
+use Rattle.pipe_order.specs.Settled.{Question, to_processor, to_link, to_slow, IsLinkPipe, Views, Settled}
 use Rattle.pipe_order.specs.Counted.{sum_to, is_offer, SlowViews, place_of, link_pipes, no_side}
 
 module _ {C : Type 0} where
@@ -76,7 +76,7 @@ module _ {K : Kinds} (w : (link number : ℕ) → ℕ) where
 pub record Joined {K : Kinds} (R : Rules K) (v : Views K) (s : SlowViews K) (back : ℕ → Question K → List (Outgoing K)) : Type 0 where
   pub settled : Settled R v
   pub slow_took : payloads s.taken ≡ done_items s.worked
-  pub slow_tells : (q : ℕ) → Tells (back q) s.worked (s.leaving q) (s.leaving_full q)
+  pub slow_tells : (q : ℕ) → IsLinkPipe R q → Tells (back q) s.worked (s.leaving q) (s.leaving_full q)
   pub middle : (i : ℕ) → i < R.processors → of_producer i s.taken ≡ v.asked i
   pub middle_only : (i : ℕ) → R.processors ≤ i → of_producer i s.taken ≡ []
   pub outer_slow : (j : ℕ) → j < link_pipes R → of_producer R.processors (v.forwarded (place_of R j)) ≡ s.leaving (place_of R j)
