@@ -1,24 +1,15 @@
--- A forwarder's take, and who closes a link.
-use Rattle.std.proofs.Common.{◌≡◌, ◌⊎◌, inl, inr, ℕ, ◌+◌, Bool, true, false, not, eqb, ◌||◌, cond, List, [], ◌∷◌, ◌++◌, Option, Some, refl, sym, ◌∙◌, ap, subst, arith, append-nil}
+-- A forwarder's takes keep its law.
+use Rattle.std.proofs.Common.{◌≡◌, inl, inr, ℕ, ◌+◌, Bool, true, false, not, ◌||◌, cond, List, [], ◌∷◌, ◌++◌, Option, Some, refl, sym, ◌∙◌, ap, subst, arith, append-nil}
 use Rattle.std.proofs.lemmas.Grind.{flat_map-append}
 use Rattle.std.proofs.lemmas.List.{map-append}
-use Rattle.std.proofs.lemmas.Bool.{cases_eq, ne_eqb, eq-eqb}
 use Rattle.pipe_order.specs.Kinds.{Kinds}
 use Rattle.pipe_order.specs.Item.{Outgoing}
 use Rattle.pipe_order.specs.Sent.{IsMerge}
-use Rattle.pipe_order.specs.Deeds.{Load, Payload, CloseMark, EndMark, Pushed, payload_of, payloads, of_producer, closes, has_mark, before_mark}
+use Rattle.pipe_order.specs.Deeds.{Load, Payload, CloseMark, EndMark, Pushed, payload_of, payloads, closes, has_mark, before_mark}
 use Rattle.pipe_order.proofs.Turns.{before_more, shut_more}
 use Rattle.pipe_order.specs.Counts.{total}
 use Rattle.pipe_order.proofs.Sums.{count-total, total-append}
-use Rattle.stage_laws.specs.Forwards.{Handed, AddsTo, WentOn, handed_items, refusals_of, KeepsForwarder, ClosedBy}
-
-right : (x y : Bool) → (x || y) ≡ false → y ≡ false
-right true y z = absurd cc
-right false y z = z
-
-left : (x y : Bool) → (x || y) ≡ false → x ≡ false
-left true y z = absurd cc
-left false y z = refl
+use Rattle.stage_laws.specs.Forwards.{Handed, AddsTo, WentOn, handed_items, refusals_of, KeepsForwarder}
 
 module _ {K : Kinds} where
   merge_right : (b : List (Outgoing K)) → IsMerge [] b b
@@ -58,22 +49,6 @@ module _ {K : Kinds} where
       let P : List (Outgoing K) → Type 0 = λ ys. IsMerge (payloads (before_mark low)) ys (went ++ o ∷ []) in
       let Q : List (Outgoing K) → Type 0 = λ xs. IsMerge xs (payloads (before_mark high) ++ o ∷ []) (went ++ o ∷ []) in
       subst P (sym (before_one high e o unshut not_mark is)) (subst Q (append-nil (payloads (before_mark low))) (merge-append (payloads (before_mark low)) (payloads (before_mark high)) went [] (o ∷ []) w))
-
-  of_rest : (e : Pushed (Outgoing K)) (es : List (Pushed (Outgoing K))) (b : Bool) → has_mark (cond b (e ∷ es) es) ≡ false → has_mark es ≡ false
-  of_rest e es true h = right (closes e.load) (has_mark es) h
-  of_rest e es false h = h
-
-  -- Where no other producer pushes a closing mark, a mark is there where this one pushed one.
-  pub closed_by : (c : ℕ) (es : List (Pushed (Outgoing K))) → ((p : ℕ) → (p ≡ c → ⊥) → has_mark (of_producer p es) ≡ false) → ClosedBy c es
-  closed_by c [] none = refl
-  closed_by c (e ∷ es) none = go (cases_eq e.from c) (closed_by c es (λ p n. of_rest e (of_producer p es) (eqb e.from p) (none p n)))
-    where
-      go : (e.from ≡ c) ⊎ (e.from ≡ c → ⊥) → has_mark es ≡ has_mark (of_producer c es) → has_mark (e ∷ es) ≡ has_mark (of_producer c (e ∷ es))
-      go (inl q) r = rw (eq-eqb e.from c q) (ap (λ (b : Bool). closes e.load || b) r)
-      go (inr n) r =
-          let mine = none e.from n in
-          let first : closes e.load ≡ false = left (closes e.load) (has_mark (of_producer e.from es)) (subst (λ (b : Bool). has_mark (cond b (e ∷ of_producer e.from es) (of_producer e.from es)) ≡ false) (eq-eqb e.from e.from refl) mine) in
-          rw (ne_eqb e.from c n, first) r
 
 module _ {K : Kinds} where
   -- an entry that isn't for sending: a mark, or one after the closing mark

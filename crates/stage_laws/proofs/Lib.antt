@@ -10,3 +10,4 @@ pub mod Settling
 pub mod Reasons
 pub mod Places
 pub mod Causes
+pub mod Composed

@@ -1,10 +1,10 @@
--- What a forwarder took of the two pipes of its link, the law that it keeps, and who closed it.
+-- What a forwarder took of the two pipes of its link, and the law that it keeps.
 use Rattle.std.specs.Prelude.{◌≡◌, ◌+◌, ℕ, Bool, not, List, [], ◌∷◌, ◌++◌, map, Option, Some}
 use Rattle.pipe_order.specs.Kinds.{Kinds}
 use Rattle.pipe_order.specs.Item.{Outgoing}
 use Rattle.pipe_order.specs.Sent.{IsMerge}
 use Rattle.pipe_order.specs.Counts.{count}
-use Rattle.pipe_order.specs.Deeds.{Pushed, payloads, of_producer, has_mark, before_mark}
+use Rattle.pipe_order.specs.Deeds.{Pushed, payloads, has_mark, before_mark}
 
 -- what a forwarder handed to its sink, and whether that took it
 pub record Handed (K : Kinds) : Type 0 where
@@ -20,10 +20,6 @@ module _ {K : Kinds} where
   -- what went to the sink is what was taken for sending of both pipes, of each in its order
   abbrev pub WentOn : (low high : List (Pushed (Outgoing K))) → List (Outgoing K) → Type 0
   WentOn low high went = IsMerge (payloads (before_mark low)) (payloads (before_mark high)) went
-
-  -- only one producer ever pushes a closing mark
-  abbrev pub ClosedBy : ℕ → List (Pushed (Outgoing K)) → Type 0
-  ClosedBy controller es = has_mark es ≡ has_mark (of_producer controller es)
 
   abbrev pub handed_items : List (Handed K) → List (Outgoing K)
   handed_items went = map (λ (h : Handed K). h.item) went

@@ -8,6 +8,7 @@ pub mod Gathers
 pub mod Forwards
 pub mod Counting
 pub mod Ended
+pub mod Workers
 pub mod Places
 pub mod Reasons
 pub mod Causes
