@@ -39,7 +39,7 @@ module _ {X : Type 0} where
   some_same x y e = cc
 
 module _ {A B : Type 0} where
-  read_is : (f : A → List B) (xs : List A) (k : ℕ) (x : A) → slice_get xs k ≡ Some x → read_at f xs k ≡ f x
+  pub read_is : (f : A → List B) (xs : List A) (k : ℕ) (x : A) → slice_get xs k ≡ Some x → read_at f xs k ≡ f x
   read_is f [] k x at = absurd cc
   read_is f (y ∷ xs) zero x at = ap f (some_same y x at)
   read_is f (y ∷ xs) (suc k) x at = read_is f xs k x at
@@ -131,14 +131,14 @@ module _ {X : Type 0} where
   two_last (x ∷ xs) a b = ap (λ (l : List (List X)). x ∷ l) (two_last xs a b)
 
 module _ {K : Kinds} where
-  passed_low : (fs : List (Forwarder K)) (l : ℕ) (f : Forwarder K) → slice_get fs l ≡ Some f → passed_at fs (2 * l) ≡ pushes f.low.taken
+  pub passed_low : (fs : List (Forwarder K)) (l : ℕ) (f : Forwarder K) → slice_get fs l ≡ Some f → passed_at fs (2 * l) ≡ pushes f.low.taken
   passed_low [] l f at = absurd cc
   passed_low (g ∷ fs) zero f at = ap (λ (x : Forwarder K). pushes x.low.taken) (some_same g f at)
   passed_low (g ∷ fs) (suc l) f at =
       let n : 2 * suc l ≡ suc (suc (2 * l)) = omega arith in
       ap (λ (m : ℕ). passed_at (g ∷ fs) m) n ∙ passed_low fs l f at
 
-  passed_high : (fs : List (Forwarder K)) (l : ℕ) (f : Forwarder K) → slice_get fs l ≡ Some f → passed_at fs (2 * l + 1) ≡ pushes f.high.taken
+  pub passed_high : (fs : List (Forwarder K)) (l : ℕ) (f : Forwarder K) → slice_get fs l ≡ Some f → passed_at fs (2 * l + 1) ≡ pushes f.high.taken
   passed_high [] l f at = absurd cc
   passed_high (g ∷ fs) zero f at = ap (λ (x : Forwarder K). pushes x.high.taken) (some_same g f at)
   passed_high (g ∷ fs) (suc l) f at =
@@ -355,10 +355,10 @@ module _ {K : Kinds} (R : Rules K) (w : Workers K) (closed : ℕ → Bool) (h : 
   high_is : (l : ℕ) → link_pipe R true l ≡ place_of R (2 * l + 1)
   high_is l = omega arith
 
-  low_passed : (l : ℕ) → v.forwarded (link_pipe R false l) ≡ passed (2 * l)
+  pub low_passed : (l : ℕ) → v.forwarded (link_pipe R false l) ≡ passed (2 * l)
   low_passed l = ap (λ (q : ℕ). at_place R passed q) (low_is l) ∙ at_pipe R passed (2 * l)
 
-  high_passed : (l : ℕ) → v.forwarded (link_pipe R true l) ≡ passed (2 * l + 1)
+  pub high_passed : (l : ℕ) → v.forwarded (link_pipe R true l) ≡ passed (2 * l + 1)
   high_passed l = ap (λ (q : ℕ). at_place R passed q) (high_is l) ∙ at_pipe R passed (2 * l + 1)
 
   sinks : (l : ℕ) → l < R.links → WentOn (v.forwarded (link_pipe R false l)) (v.forwarded (link_pipe R true l)) (handed_items (went_at w l))

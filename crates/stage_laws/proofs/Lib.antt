@@ -11,3 +11,4 @@ pub mod Reasons
 pub mod Places
 pub mod Causes
 pub mod Composed
+pub mod Sums

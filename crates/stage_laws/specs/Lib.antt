@@ -12,3 +12,4 @@ pub mod Workers
 pub mod Places
 pub mod Reasons
 pub mod Causes
+pub mod Sums
