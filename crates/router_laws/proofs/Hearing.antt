@@ -2,6 +2,7 @@
 use Rattle.std.proofs.Common.{◌≡◌, ℕ, suc, ◌+◌, List, [], ◌∷◌, ◌++◌, length, Option, Some, slice_get, refl, sym, ap, ap₂, subst, ◌∙◌, arith, append-nil, length-append}
 use Rattle.pipe_order.specs.Item.{Arrival}
 use Rattle.pipe_order.specs.Deeds.{Deed, Ending, done_items}
+use Rattle.pipe_order.proofs.Turns.{each_more}
 use Rattle.process_packet.specs.declared.cause.Cause.{Cause}
 use Rattle.process_packet.specs.declared.config.Config.{Config}
 use Rattle.process_packet.specs.declared.underlay.Underlay.{Underlay}
@@ -42,6 +43,7 @@ module _ (c : Config) (link interface : ℕ) where
   hears_none told senders untold fresh = record {
     log = [];
     law = receives_none (rules c) link senders fresh;
+    stands = tt;
     count = refl;
     tells = λ hs e. ap (given link interface 1) (untold hs e);
     lacked = refl;
@@ -61,6 +63,7 @@ module _ (c : Config) (link interface : ℕ) where
         record {
           log = is.log ++ d ∷ [];
           law = keeps_passed (rules c) link is.log d old new refl (let k = is.count in omega arith) is.law passed;
+          stands = each_more (λ (d : Deed Cause (Arrival kinds)). d.item.datagram.interface ≡ interface) is.log d is.stands refl;
           count = ap length more ∙ long;
           tells = λ hs e.
               let a = adds hs e in
@@ -82,6 +85,7 @@ module _ (c : Config) (link interface : ℕ) where
     hears_nothing h none adds is = record {
       log = is.log;
       law = is.law;
+      stands = is.stands;
       count = is.count;
       tells = λ hs e.
           let a = adds hs e in
@@ -93,7 +97,7 @@ module _ (c : Config) (link interface : ℕ) where
 
     -- end marks were tried
     pub hears_tried : EachHasTried old new → IsReceiving c link interface number told looks old share → IsReceiving c link interface number told looks new share
-    hears_tried tried is = record { log = is.log; law = receives_tried (rules c) link is.log old new tried is.law; count = is.count; tells = is.tells; lacked = is.lacked; counts = is.counts }
+    hears_tried tried is = record { log = is.log; law = receives_tried (rules c) link is.log old new tried is.law; stands = is.stands; count = is.count; tells = is.tells; lacked = is.lacked; counts = is.counts }
 
     pub hears_posted : IsReceiving c link interface number told looks old share → IsReceiving c link interface number told looks old (emptied share)
-    hears_posted is = record { log = is.log; law = is.law; count = is.count; tells = is.tells; lacked = is.lacked; counts = counts_posted share (counted_receiving {K = kinds} is.log) is.counts }
+    hears_posted is = record { log = is.log; law = is.law; stands = is.stands; count = is.count; tells = is.tells; lacked = is.lacked; counts = counts_posted share (counted_receiving {K = kinds} is.log) is.counts }

@@ -1,3 +1,4 @@
 pub mod Shares
 pub mod Hearing
 pub mod Keeping
+pub mod Totals

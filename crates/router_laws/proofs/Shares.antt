@@ -56,7 +56,7 @@ sum_at a b long (suc (suc (suc k))) = add_at a.dropped b.dropped k long
 pub sum_long : (a b : Totals) → length a.dropped ≡ length b.dropped → length (plus a b).dropped ≡ length a.dropped
 sum_long a b long = add_long a.dropped b.dropped long
 
-number_small : (why : Cause) → (1 ≤ number_of why) × (number_of why ≤ 18)
+pub number_small : (why : Cause) → (1 ≤ number_of why) × (number_of why ≤ 18)
 number_small cause.Short = (omega arith, omega arith)
 number_small cause.Version = (omega arith, omega arith)
 number_small cause.PathType = (omega arith, omega arith)
@@ -137,7 +137,7 @@ counts_all share raised (k ∷ ks) is = subst (λ xs. Counts (raise_all ks (rais
 pub counts_same : (share : Held) (raised others : List (Count kinds)) → ((i : ℕ) → times i others ≡ times i raised) → Counts share raised → Counts share others
 counts_same share raised others same is = record { each = λ i. is.each i ∙ sym (same i); held = is.held; booked = is.booked }
 
-nothing_at : (i : ℕ) → count_at i nothing ≡ zero
+pub nothing_at : (i : ℕ) → count_at i nothing ≡ zero
 nothing_at zero = refl
 nothing_at (suc zero) = refl
 nothing_at (suc (suc zero)) = refl

@@ -1,7 +1,7 @@
 -- The laws that the workers of a router keep, each with its log first.
 use Rattle.std.specs.Prelude.{◌≡◌, ℕ, Bool, List, length, Option}
 use Rattle.pipe_order.specs.Item.{Arrival, Outgoing}
-use Rattle.pipe_order.specs.Deeds.{Deed, done_items}
+use Rattle.pipe_order.specs.Deeds.{Each, Deed, done_items}
 use Rattle.pipe_order.specs.Settled.{Question}
 use Rattle.process_packet.specs.declared.cause.Cause.{Cause}
 use Rattle.process_packet.specs.declared.config.Config.{Config}
@@ -22,6 +22,7 @@ use Rattle.router_laws.specs.Shares.{Counts}
 pub record IsReceiving (c : Config) (link interface number : ℕ) (told : Option (List Heard)) (looks : List ℕ) (senders : List (Sender (Arrival kinds))) (share : Held) : Type 0 where
   pub log : List (Deed Cause (Arrival kinds))
   pub law : KeepsReceiver (rules c) link log senders
+  pub stands : Each (λ (d : Deed Cause (Arrival kinds)). d.item.datagram.interface ≡ interface) log
   pub count : length (done_items log) ≡ number
   pub tells : TellsOf link interface told (done_items log)
   pub lacked : lacks log ≡ length looks

@@ -1,3 +1,4 @@
 pub mod Heard
 pub mod Shares
+pub mod Totals
 pub mod Keeping

@@ -21,7 +21,7 @@ sum_first zero g = omega arith
 sum_first (suc n) g = let r = sum_first n g in omega arith
 
 -- a sum over a list, and over its indices
-over : {X : Type 0} (g : X → ℕ) (xs : List X) (f : ℕ → ℕ) → ((k : ℕ) (x : X) → slice_get xs k ≡ Some x → f k ≡ g x) → total g xs ≡ sum_to (length xs) f
+pub over : {X : Type 0} (g : X → ℕ) (xs : List X) (f : ℕ → ℕ) → ((k : ℕ) (x : X) → slice_get xs k ≡ Some x → f k ≡ g x) → total g xs ≡ sum_to (length xs) f
 over g [] f each = refl
 over g (x ∷ xs) f each =
     let r = over g xs (λ k. f (suc k)) (λ k y at. each (suc k) y at) in

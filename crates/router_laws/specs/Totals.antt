@@ -1,0 +1,51 @@
+-- The third pass: what the book's totals are, when the workers have ended.
+use Rattle.std.specs.Prelude.{◌≡◌, ◌+◌, ◌==◌, ℕ, Bool, true, List, [], ◌∷◌}
+use Rattle.pipe_order.specs.Counts.{total}
+use Rattle.pipe_order.specs.Settled.{Views}
+use Rattle.pipe_order.specs.Counted.{SlowViews, full_processors, full_links, full_slow}
+use Rattle.process_packet.specs.Cause.{number_of}
+use Rattle.process_packet.specs.Totals.{dropped_for}
+use Rattle.process_packet.specs.declared.cause.Cause.{Cause}
+use Rattle.process_packet.specs.declared.cause.Cause.TheVariants as cause
+use Rattle.process_packet.specs.declared.config.Config.{Config}
+use Rattle.process_packet.specs.declared.totals.Totals.{Totals}
+use Rattle.packet_ledger.specs.Amounts.{plus}
+use Rattle.packet_ledger.specs.Share.{Held, posted_by, counts_of}
+use Rattle.router_rules.specs.Laws.{is_ruled}
+use Rattle.router_rules.specs.Rules.{kinds, rules}
+use Rattle.stage_laws.specs.Forwards.{Handed}
+use Rattle.stage_laws.specs.Counting.{Count}
+use Rattle.stage_laws.specs.Causes.{was_sent, was_replied, was_refused, received_count, ruled_count, no_buffer_count, went_count, swept_count}
+use Rattle.router_laws.specs.Shares.{Counts}
+
+-- share by share
+abbrev pub AreCounted : List Held → List (List (Count kinds)) → Type 0
+AreCounted [] [] = Unit {0}
+AreCounted (s ∷ shares) (ks ∷ raised) = Counts s ks × AreCounted shares raised
+AreCounted _ _ = ⊥
+
+-- what all shares ever counted, posted or not
+abbrev pub totals_of : List Held → Totals
+totals_of shares = plus (posted_by shares) (counts_of shares)
+
+abbrev pub same_cause : Cause → Cause → Bool
+same_cause a b = number_of a == number_of b
+
+-- Each count of the totals.
+pub record HasTotals (c : Config) (v : Views kinds) (s : SlowViews kinds) (went : ℕ → List (Handed kinds)) (t : Totals) : Type 0 where
+  pub received : t.received ≡ received_count (rules c) v
+  pub sent : t.sent ≡ went_count (rules c) went was_sent
+  pub answered : t.answered ≡ went_count (rules c) went was_replied
+  -- dropped by the decision, or with the answer withheld
+  pub ruled : (why : Cause) → is_ruled why ≡ true → dropped_for t why ≡ ruled_count (rules c) v s (λ b. same_cause b why)
+  -- refused at a processor's pipe, a link's, the slow path's
+  pub processor_full : dropped_for t cause.ProcessorFull ≡ full_processors (rules c) v
+  pub link_full : dropped_for t cause.LinkFull ≡ full_links (rules c) v s
+  pub answer_full : dropped_for t cause.AnswerFull ≡ full_slow (rules c) v
+  pub no_memory : dropped_for t cause.NoMemory ≡ 0
+  -- taken after a closing mark, refused by a sink, received without a buffer for the next
+  pub closed : dropped_for t cause.Closed ≡ swept_count (rules c) v
+  pub send_failed : dropped_for t cause.SendFailed ≡ went_count (rules c) went was_refused
+  pub no_buffer : dropped_for t cause.NoBuffer ≡ no_buffer_count (rules c) v
+  -- and these are all
+  pub balance : t.received ≡ t.sent + t.answered + total (λ n. n) t.dropped
