@@ -5,3 +5,6 @@ pub mod TableLemmas
 pub mod AnswerLemmas
 pub mod GoodLemmas
 pub mod ReplyLemmas
+pub mod BackStands
+pub mod ReturnLemmas
+pub mod LawfulWalk

@@ -3,3 +3,5 @@ pub mod Message
 pub mod WayBack
 pub mod Reply
 pub mod Outcome
+pub mod Returns
+pub mod Walked

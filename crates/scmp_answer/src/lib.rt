@@ -6,10 +6,15 @@ mod answer_header;
 mod answering;
 mod arriving;
 mod checksum;
+mod laws;
 mod message;
 mod outcome;
 mod way_back;
 mod writing;
 
 pub use answering::{LONGEST_ANSWER, answer, answer_into};
+pub use laws::{
+    answers_come_back, answers_stand_too, lawful_starts_are_walked, requests_are_walked,
+    routers_answer_from_home,
+};
 pub use outcome::{AnswerLen, Answered};

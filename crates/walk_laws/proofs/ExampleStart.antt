@@ -13,13 +13,10 @@ use Rattle.walk_laws.specs.ExampleHops.{example_packet, example_path, example_st
 use Rattle.walk_laws.specs.PathSegments.{AreUnexpired, IsBeaconed, IsPathOver, met, part, stretch_of}
 use Rattle.walk_laws.specs.Examples.{moment}
 use Rattle.walk_laws.specs.Hosts.{IsReachedAt}
-use Rattle.walk_laws.specs.LawfulStart.{IsIpHost, IsKnown, IsWalked, LawfulStart}
+use Rattle.walk_laws.specs.LawfulStart.{IsIpHost, IsKnown, LawfulStart}
 use Rattle.process_packet.specs.Net.{Router}
 use Rattle.walk_laws.specs.Domain.{Domain}
 use Rattle.walk_laws.proofs.ExampleHops.{along_is}
-use Rattle.walk_laws.proofs.ExampleNet.{net_agrees}
-use Rattle.walk_laws.proofs.LawfulLemmas.{unasked}
-use Rattle.walk_laws.proofs.LawfulWalk.{starts_walked}
 
 number_is : (d e : Domain) → d ≡ e → d.autonomous_system ≡ e.autonomous_system
 number_is d e same = ap (λ (x : Domain). x.autonomous_system) same
@@ -161,7 +158,3 @@ start_is = record {
   };
   quiet = inr refl;
 }
-
--- so it is delivered, and answers to it come back
-pub is_walked : IsWalked example_net moment example_start
-is_walked = starts_walked example_net example_path moment example_start net_agrees start_is.sets_out (unasked example_net example_path moment example_start net_agrees start_is.sets_out start_is.quiet)

@@ -85,7 +85,7 @@ module _ (net : Net) (w : Route) (from : Place) (moment : ℕ) (agrees : Agrees 
       }
 
   -- by its own link
-  goes_by_link : (m : ℕ) → m ≤ 2 * hop_number w.segments u.path.place + 1 → r ≡ w.left_by u.path.place → asks_exit u ≡ false → GoesOn net w r x m (ends_as s decision_table) (Stands net w from)
+  goes_by_link : (m : ℕ) → m ≤ 2 * hop_number w.segments u.path.place + 1 → r ≡ w.left_by u.path.place → asks_exit u ≡ false → GoesOn net w r x m (is_for_us s) (ends_as s decision_table) (Stands net w from)
   goes_by_link m far mine still =
       let at = u.path.place in
       let ss = u.path.segments in
@@ -110,6 +110,7 @@ module _ (net : Net) (w : Route) (from : Place) (moment : ℕ) (agrees : Agrees 
       let kept : IsKept (packet u) (packet_at u (after at) vs) = out_kept (packet u) (is_along u) (chained_id u) (after at) fits (omega arith) (omega arith) e.way.lawful in
       let next : PacketAt = record { router = w.entered_by (after at); link = way_in w (after at); source = c.out.local; packet = packet_at u (after at) vs } in
       record {
+        others = e.others;
         out = way_out w at;
         to = None;
         after = next;
@@ -139,7 +140,7 @@ module _ (net : Net) (w : Route) (from : Place) (moment : ℕ) (agrees : Agrees 
       }
 
   pub exits_by_link : (m : ℕ) → m ≤ 2 * hop_number w.segments u.path.place + 1 → r ≡ w.left_by u.path.place
-      → GoesOn net w r x m (ends_as s decision_table) (Stands net w from) ⊎ IsAsked w u.header.next_header u.payload (ends_as s decision_table)
+      → GoesOn net w r x m (is_for_us s) (ends_as s decision_table) (Stands net w from) ⊎ IsAsked w u.header.next_header u.payload (ends_as s decision_table)
   exits_by_link m far mine =
       let at = u.path.place in
       let c : Crosses net w at (after at) = route.crosses at e.more in
@@ -152,7 +153,7 @@ module _ (net : Net) (w : Route) (from : Place) (moment : ℕ) (agrees : Agrees 
   -- to the router of the AS that has the link
   pub exits_to_sibling : (m : ℕ) → m ≤ 2 * hop_number w.segments u.path.place → (r ≡ w.left_by u.path.place → ⊥) → r ≡ w.entered_by (entry_place w.segments u.path.place) → is_first_of_path u.path.place ≡ false
       → (own : Link) → own_link x.network (way_in w (entry_place w.segments u.path.place)) ≡ Some own
-      → GoesOn net w r x m (ends_as s decision_table) (Stands net w from)
+      → GoesOn net w r x m (is_for_us s) (ends_as s decision_table) (Stands net w from)
   exits_to_sibling m far other taken later own own_is =
       let at = u.path.place in
       let ss = u.path.segments in
@@ -164,6 +165,7 @@ module _ (net : Net) (w : Route) (from : Place) (moment : ℕ) (agrees : Agrees 
       let pair = pair_right None (Some listed.entry) none entry (ap (λ (k : LinkKind). Some k) (listed.kind ∙ c.out_kind)) in
       let next : PacketAt = record { router = w.left_by at; link = 0; source = x.internal; packet = packet u } in
       record {
+        others = e.others;
         out = 0;
         to = Some c.near.internal;
         after = next;

@@ -1,5 +1,5 @@
 -- What a net that agrees says of two joined ends, and of the interfaces of one AS.
-use Rattle.std.proofs.Common.{◌≡◌, ◌≢◌, ◌<◌, ◌⊎◌, ◌==◌, if◌then◌else◌, ℕ, zero, suc, Bool, true, false, List, [], ◌∷◌, length, find, slice_index_or, Contains, Option, Some, None, refl, sym, ap, ap₂, subst, ◌∙◌, arith, inl, inr}
+use Rattle.std.proofs.Common.{◌≡◌, ◌≢◌, ◌⊎◌, ◌==◌, if◌then◌else◌, ℕ, suc, Bool, true, false, List, [], ◌∷◌, find, Contains, Some, None, refl, sym, ap, ◌∙◌, arith, inl, inr}
 use Rattle.std.specs.List.{slice_get}
 use Rattle.std.proofs.lemmas.Bool.{cases_eq, eqb-true}
 use Rattle.std.proofs.lemmas.Option.{slice_get-get_or}
@@ -9,7 +9,7 @@ use Rattle.process_packet.specs.declared.neighbours.Link.{Link}
 use Rattle.process_packet.specs.declared.neighbours.Sibling.{Sibling}
 use Rattle.process_packet.specs.declared.net.End.{End}
 use Rattle.process_packet.specs.declared.net.Wire.{Wire}
-use Rattle.process_packet.specs.Net.{Agrees, AreApart, AreOfOneAS, IsWire, Joined, Lists, Net, Router, opposite, router_at}
+use Rattle.process_packet.specs.Net.{Agrees, AreApart, IsWire, Joined, Lists, Net, Router, opposite, router_at}
 use Rattle.process_packet.specs.Network.{own_link, sibling}
 
 -- ---- joined ends

@@ -203,7 +203,7 @@ module _ (net : Net) (w : Route) (from : Place) (moment : ℕ) (a : PacketAt) (a
   own_at p same = ap (λ (q : Place). own_link o.here.network (way_in w q)) same ∙ ap (own_link o.here.network) (sym o.link) ∙ o.own_is
 
   leaves_outside : asks_entry (standing o.here.network a moment bytes) ≡ false → is_last_of_path w.segments (place_of a) ≡ false
-      → GoesOn net w a.router o.here (progress w a) (ends_as (standing o.here.network a moment bytes) decision_table) (Stands net w from)
+      → GoesOn net w a.router o.here (progress w a) (is_for_us (standing o.here.network a moment bytes)) (ends_as (standing o.here.network a moment bytes) decision_table) (Stands net w from)
       ⊎ IsAsked w a.packet.header.next_header a.packet.payload (ends_as (standing o.here.network a moment bytes) decision_table)
   leaves_outside quiet more =
       let x : Router = o.here in
@@ -249,7 +249,7 @@ module _ (net : Net) (w : Route) (from : Place) (moment : ℕ) (a : PacketAt) (a
       ]
 
   pub goes_on_outside : is_last_of_path w.segments (place_of a) ≡ false
-      → GoesOn net w a.router o.here (progress w a) (ends_as (standing o.here.network a moment bytes) decision_table) (Stands net w from)
+      → GoesOn net w a.router o.here (progress w a) (is_for_us (standing o.here.network a moment bytes)) (ends_as (standing o.here.network a moment bytes) decision_table) (Stands net w from)
       ⊎ IsAsked w a.packet.header.next_header a.packet.payload (ends_as (standing o.here.network a moment bytes) decision_table)
   goes_on_outside more = elim (cases_Bool (asks_entry (standing o.here.network a moment bytes))) [
     | inl asks ↦ inr (asked_in asks)
@@ -263,7 +263,7 @@ module _ (net : Net) (w : Route) (from : Place) (moment : ℕ) (a : PacketAt) (a
   abbrev text : List ℕ
   text = spelling a.packet
 
-  pub goes_on_inside : GoesOn net w a.router i.here (progress w a) (ends_as (standing i.here.network a moment text) decision_table) (Stands net w from)
+  pub goes_on_inside : GoesOn net w a.router i.here (progress w a) (is_for_us (standing i.here.network a moment text)) (ends_as (standing i.here.network a moment text) decision_table) (Stands net w from)
       ⊎ IsAsked w a.packet.header.next_header a.packet.payload (ends_as (standing i.here.network a moment text) decision_table)
   goes_on_inside =
       let x : Router = i.here in
@@ -326,11 +326,11 @@ ends net w from moment a x agrees route stands here last =
 
 pub goes_on : (net : Net) (w : Route) (from : Place) (moment : ℕ) (a : PacketAt) (x : Router)
     → Agrees net → IsRoute net w moment → Stands net w from a → router_at net a.router ≡ Some x → is_last_of_path w.segments (place_of a) ≡ false
-    → GoesOn net w a.router x (progress w a) (verdict_at x a moment) (Stands net w from)
+    → GoesOn net w a.router x (progress w a) (is_for_us (standing x.network a moment (spelling a.packet))) (verdict_at x a moment) (Stands net w from)
     ⊎ IsAsked w a.packet.header.next_header a.packet.payload (verdict_at x a moment)
 goes_on net w from moment a x agrees route stands here more =
     let bytes = spelling a.packet in
-    let told = λ (v : Verdict) (y : Router). GoesOn net w a.router y (progress w a) v (Stands net w from) ⊎ IsAsked w a.packet.header.next_header a.packet.payload v in
+    let told = λ (v : Verdict) (y : Router). GoesOn net w a.router y (progress w a) (is_for_us (standing y.network a moment (spelling a.packet))) v (Stands net w from) ⊎ IsAsked w a.packet.header.next_header a.packet.payload v in
     subst (λ (v : Verdict). told v x) (sym (decides x.network a moment stands.way.lawful)) (elim stands.there [
       | inl o ↦ subst (λ (y : Router). told (ends_as (standing y.network a moment bytes) decision_table) y) (same_here net a.router o.here x o.here_is here) (goes_on_outside net w from moment a agrees route stands.way o more)
       | inr i ↦ subst (λ (y : Router). told (ends_as (standing y.network a moment bytes) decision_table) y) (same_here net a.router i.here x i.here_is here) (goes_on_inside net w from moment a agrees route stands.way i)

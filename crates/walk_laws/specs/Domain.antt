@@ -11,3 +11,7 @@ pub record Domain : Type 0 where
 pub record IsOf (x : Router) (d : Domain) : Type 0 where
   pub isd : x.network.isd ≡ d.isd
   pub autonomous_system : x.network.autonomous_system ≡ d.autonomous_system
+
+-- the AS of a router
+abbrev pub domain_of : Router → Domain
+domain_of x = record { isd = x.network.isd; autonomous_system = x.network.autonomous_system }

@@ -4,18 +4,17 @@ use Rattle.walk_laws.specs.Example.{example_net}
 use Rattle.walk_laws.specs.ExampleHops.{example_against, example_path, example_start}
 use Rattle.walk_laws.specs.ExampleTurn.{family, turn}
 use Rattle.walk_laws.specs.PathSegments.{IsBeaconed, IsPathOver}
-use Rattle.walk_laws.specs.LawfulStart.{IsWalked, LawfulStart}
+use Rattle.walk_laws.specs.LawfulStart.{LawfulStart}
 use Rattle.process_packet.specs.Net.{Agrees}
 
 -- a quarter of an hour after the segments were made
 abbrev pub moment : ℕ
 moment = 1694499816
 
--- The example's packet sets out lawfully, so it is walked; the segment is one too where it is travelled against, and so is the
+-- The example's packet sets out lawfully; the segment is one too where it is travelled against, and so is the
 -- path up and down.
 pub record ExamplesAreLawful : Type 0 where
   pub agrees : Agrees example_net
   pub starts : LawfulStart example_net example_path moment example_start
-  pub walked : IsWalked example_net moment example_start
   pub against : IsBeaconed example_net example_against
   pub turns : IsPathOver family turn

@@ -1,26 +1,22 @@
 -- A lawful start: a packet that sets out on a path over beaconed segments, and what becomes of it.
-use Rattle.std.specs.Prelude.{◌≡◌, ◌≤◌, ◌<◌, ◌⊎◌, ◌-◌, ℕ, suc, false, List, length, Option, Some, None, if◌then◌else◌}
+use Rattle.std.specs.Prelude.{◌≡◌, ◌≤◌, ◌<◌, ◌⊎◌, ◌-◌, ℕ, suc, false, List, length, Option, Some, if◌then◌else◌}
 use Rattle.scion_packet.specs.Header.{HostAddress, host_code}
 use Rattle.scion_packet.specs.Packet.{IsPacket, Packet, spelling}
 use Rattle.scion_packet.specs.Path.{Place, count_hops, place_at}
-use Rattle.process_packet.specs.declared.decision.Problem.{Problem}
 use Rattle.process_packet.specs.declared.underlay.Underlay.{Underlay}
 use Rattle.process_packet.specs.Request.{is_request}
 use Rattle.process_packet.specs.Rows.{Sent}
-use Rattle.scmp_answer.specs.Outcome.{IfSent, IsGood}
-use Rattle.scmp_answer.specs.Reply.{is_left_unanswered, reply}
-use Rattle.scmp_answer.specs.Reply as answers
-use Rattle.scmp_answer.specs.WayBack.{is_external}
 use Rattle.walk_laws.specs.Stretch.{beta_met}
 use Rattle.walk_laws.specs.PathSegments.{AreUnexpired, PathSegment, IsMet, IsPathOver, met, part, route_over, segments_of, stretch_of}
 use Rattle.walk_laws.specs.Hosts.{IsReachedAt}
 use Rattle.process_packet.specs.Net.{Agrees, Net, Router, router_at}
 use Rattle.walk_laws.specs.Domain.{IsOf}
-use Rattle.walk_laws.specs.Reply.{domain_of}
+use Rattle.walk_laws.specs.Domain.{domain_of}
 use Rattle.walk_laws.specs.Route.{IsRoute}
 use Rattle.walk_laws.specs.Start.{outset}
 use Rattle.walk_laws.specs.Stands.{PacketAt, IsHostOf}
-use Rattle.walk_laws.specs.Stop.{IsAsked, IsCarried, verdict_at}
+use Rattle.walk_laws.specs.Shown.{is_for_us}
+use Rattle.walk_laws.specs.Stop.{IsCarried, standing, verdict_at}
 use Rattle.walk_laws.specs.Walk.{Walks}
 
 -- ---- the hosts
@@ -87,47 +83,11 @@ pub record ReachesHost (net : Net) (moment n : ℕ) (a : PacketAt) (host : HostA
   pub header : sent.header ≡ a.packet.header
   pub payload : sent.payload ≡ a.packet.payload
 
--- The answer is sent the way by which the packet came, comes to a router there, and from there to this host.
-pub record IsCarriedBack (net : Net) (moment : ℕ) (b : PacketAt) (x : Router) (here : HostAddress) (problem : Problem) (host : HostAddress) : Type 0 where
-  pub answer : Packet
-  pub sent : reply here b.link b.source (spelling b.packet) problem ≡ answers.Sent b.link (if is_external b.link then None else Some b.source) answer
-  pub first : PacketAt
-  pub carried : IsCarried net b.router x b.link (if is_external b.link then None else Some b.source) first
-  pub packet : first.packet ≡ answer
-  pub reaches : ReachesHost net moment 127 first host
-
--- From the first stop the answer goes straight to where the packet came from, from a later one to its source host.
-pub data IsAnswered (net : Net) (moment : ℕ) (start : PacketAt) (x : Router) (here : HostAddress) (problem : Problem) : PacketAt → Type 0 where
-  straight : (answer : Packet) → answer.header.destination ≡ start.packet.header.source
-      → reply here start.link start.source (spelling start.packet) problem ≡ answers.Sent 0 (Some start.source) answer
-      → IsAnswered net moment start x here problem start
-  back : {b : PacketAt} → IsCarriedBack net moment b x here problem start.packet.header.source → IsAnswered net moment start x here problem b
-
--- At this stop, for each problem, if it may be answered at all: `good` is what `answer` promises of each answer that it writes.
-abbrev pub IsAnswerable : Net → ℕ → PacketAt → PacketAt → Type 0
-IsAnswerable net moment start b =
-    (x : Router) (here : HostAddress) (problem : Problem) → router_at net b.router ≡ Some x → IsHostOf here (domain_of x)
-    → is_left_unanswered b.packet problem ≡ false → IfSent (reply here b.link b.source (spelling b.packet) problem) IsGood
-    → IsAnswered net moment start x here problem b
-
--- a walk each of whose stops is such
+-- a walk each of whose stops is such; what goes on isn't for the router's own AS
 pub data WalksBy (net : Net) (moment : ℕ) (such : PacketAt → Type 0) : ℕ → PacketAt → PacketAt → Type 0 where
   is_there : {n : ℕ} {a : PacketAt} → such a → WalksBy net moment such n a a
   goes : {n : ℕ} {a b z : PacketAt} (x : Router) (out : ℕ) (to : Option Underlay) → such a → router_at net a.router ≡ Some x
-      → verdict_at x a moment ≡ Sent out to b.packet → IsCarried net a.router x out to b → WalksBy net moment such n b z → WalksBy net moment such (suc n) a z
-
--- In at most 128 stops the packet is delivered to its destination, and an answer to it from any of them comes back.
-pub record IsWalked (net : Net) (moment : ℕ) (a : PacketAt) : Type 0 where
-  pub reaches : ReachesHost net moment 127 a a.packet.header.destination
-  pub stops : WalksBy net moment (IsAnswerable net moment a) 127 a reaches.end
-
--- Or it is a request, and the last stop's router answers it.
-pub record IsAskedOnTheWay (net : Net) (ss : List PathSegment) (moment : ℕ) (a : PacketAt) : Type 0 where
-  pub end : PacketAt
-  pub stops : WalksBy net moment (IsAnswerable net moment a) 127 a end
-  pub here : Router
-  pub here_is : router_at net end.router ≡ Some here
-  pub asked : IsAsked (route_over ss) a.packet.header.next_header a.packet.payload (verdict_at here end moment)
+      → is_for_us (standing x.network a moment (spelling a.packet)) ≡ false → verdict_at x a moment ≡ Sent out to b.packet → IsCarried net a.router x out to b → WalksBy net moment such n b z → WalksBy net moment such (suc n) a z
 
 -- ---- the laws
 
@@ -136,11 +96,3 @@ abbrev pub HopsMakeRoutes : Type 0
 HopsMakeRoutes =
     (net : Net) (ss : List PathSegment) (moment : ℕ) → Agrees net → IsPathOver net ss → ((k : ℕ) → k < length ss → AreUnexpired (part ss k) moment)
     → count_hops (segments_of ss) ≤ 64 → IsRoute net (route_over ss) moment
-
-abbrev pub LawfulStartsAreWalked : Type 0
-LawfulStartsAreWalked = (net : Net) (ss : List PathSegment) (moment : ℕ) (a : PacketAt) → Agrees net → LawfulStart net ss moment a → IsWalked net moment a
-
-abbrev pub RequestsAreWalked : Type 0
-RequestsAreWalked =
-    (net : Net) (ss : List PathSegment) (moment : ℕ) (a : PacketAt) → Agrees net → SetsOutOn net ss moment a
-    → IsWalked net moment a ⊎ IsAskedOnTheWay net ss moment a

@@ -3,7 +3,6 @@ pub mod Domain
 pub mod Route
 pub mod Stands
 pub mod Stop
-pub mod Reply
 pub mod Walk
 pub mod Start
 pub mod Stretch

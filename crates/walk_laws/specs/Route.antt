@@ -140,3 +140,7 @@ reversed_route w =
       kind_in = λ at. w.kind_out (there at);
       kind_out = λ at. w.kind_in (there at);
     }
+
+-- what was travelled back is a route
+abbrev pub RoutesTurn : Type 0
+RoutesTurn = (net : Net) (w : Route) (moment : ℕ) → IsRoute net w moment → IsRoute net (reversed_route w) moment

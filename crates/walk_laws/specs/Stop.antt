@@ -1,5 +1,5 @@
 -- One stop of a packet on a route: what the router there does with it, and where it stands then.
-use Rattle.std.specs.Prelude.{◌⊎◌, ◌≡◌, ◌<◌, ◌+◌, ◌*◌, ◌==◌, if◌then◌else◌, ℕ, true, false, List, Option, Some, None}
+use Rattle.std.specs.Prelude.{◌⊎◌, ◌≡◌, ◌<◌, ◌+◌, ◌*◌, ◌==◌, if◌then◌else◌, ℕ, Bool, true, false, List, Option, Some, None}
 use Rattle.scion_packet.specs.Packet.{spelling}
 use Rattle.scion_packet.specs.Path.{Place, hop_number}
 use Rattle.scion_packet.specs.Places.{is_last_of_path}
@@ -12,7 +12,7 @@ use Rattle.process_packet.specs.Request.{is_request}
 use Rattle.process_packet.specs.Standing.{Standing, packet}
 use Rattle.process_packet.specs.Net.{Agrees, AreOfOneAS, Joined, Net, Router, end_at, router_at}
 use Rattle.walk_laws.specs.Route.{IsOn, IsRoute, Route, hop_of}
-use Rattle.walk_laws.specs.Shown.{turned}
+use Rattle.walk_laws.specs.Shown.{is_for_us, turned}
 use Rattle.walk_laws.specs.Stands.{PacketAt, Stands, place_of}
 
 -- a packet that comes so, as the rows of the decision see it
@@ -41,8 +41,9 @@ pub data IsCarried (net : Net) (r : ℕ) (x : Router) : ℕ → Option Underlay 
 abbrev pub progress : Route → PacketAt → ℕ
 progress w a = 2 * hop_number w.segments (place_of a) + (if a.link == 0 then 1 else 0)
 
--- It is sent on, farther than it came so far, and stands on the route where it comes to.
-pub record GoesOn (net : Net) (w : Route) (r : ℕ) (x : Router) (so_far : ℕ) (v : Verdict) (next : PacketAt → Type 0) : Type 0 where
+-- It isn't for this router's AS, is sent on, farther than it came so far, and stands on the route where it comes to.
+pub record GoesOn (net : Net) (w : Route) (r : ℕ) (x : Router) (so_far : ℕ) (for_us : Bool) (v : Verdict) (next : PacketAt → Type 0) : Type 0 where
+  pub others : for_us ≡ false
   pub out : ℕ
   pub to : Option Underlay
   pub after : PacketAt
@@ -76,7 +77,7 @@ pub record OneStop : Type 0 where
       ⊎ IsAsked w a.packet.header.next_header a.packet.payload (verdict_at x a moment)
   pub goes_on : (net : Net) (w : Route) (from : Place) (moment : ℕ) (a : PacketAt) (x : Router)
       → Agrees net → IsRoute net w moment → Stands net w from a → router_at net a.router ≡ Some x → is_last_of_path w.segments (place_of a) ≡ false
-      → GoesOn net w a.router x (progress w a) (verdict_at x a moment) (Stands net w from)
+      → GoesOn net w a.router x (progress w a) (is_for_us (standing x.network a moment (spelling a.packet))) (verdict_at x a moment) (Stands net w from)
       ⊎ IsAsked w a.packet.header.next_header a.packet.payload (verdict_at x a moment)
 
 -- In a net that agrees a packet that is sent comes to one router only, the same way.

@@ -1,4 +1,4 @@
-use Rattle.std.proofs.Common.{◌≡◌, true, false, ap, sym, ◌∙◌}
+use Rattle.std.proofs.Common.{ap, sym, ◌∙◌}
 use Rattle.scion_packet.specs.Path.{path_fault}
 use Rattle.scion_packet.proofs.PacketLaws.{pass_both}
 use Rattle.scion_packet.proofs.Parts.{path_between}

@@ -21,10 +21,11 @@ use Rattle.walk_laws.specs.Domain.{Domain, IsOf}
 use Rattle.walk_laws.specs.Route.{IsOn, IsRoute, Route, after, end_of, hop_of, reversed_route}
 use Rattle.walk_laws.specs.Route as route_words
 use Rattle.walk_laws.specs.Stands.{PacketAt, IsHostOf, IsOnItsWay, IsUnasked, Stands, StandsInside, StandsOutside, place_of}
-use Rattle.walk_laws.specs.Reply.{ComesBack, IsUnderWay, ReturnsOn, domain_of, turning_point}
+use Rattle.walk_laws.specs.Domain.{domain_of}
+use Rattle.scmp_answer.specs.Returns.{ComesBack, IsUnderWay, ReturnsOn, turning_point}
 use Rattle.walk_laws.proofs.IdLemmas.{size_is}
 use Rattle.walk_laws.proofs.BackLemmas.{back, back_hop, back_len, back_size}
-use Rattle.walk_laws.proofs.BackStands.{TurnsInside, stands_back, turns}
+use Rattle.scmp_answer.proofs.BackStands.{TurnsInside, stands_back, turns}
 use Rattle.walk_laws.proofs.LeavesLemmas.{same_router}
 use Rattle.walk_laws.proofs.RouteBack.{route_back}
 use Rattle.walk_laws.proofs.WalkLemmas.{walked}

@@ -6,12 +6,14 @@ use Rattle.scion_packet.specs.Packet.{Packet, spelling}
 use Rattle.scion_packet.specs.Path.{Place, place_at}
 use Rattle.scion_packet.specs.Places.{mirrored}
 use Rattle.scmp_answer.specs.Outcome.{IfSent, IsGood}
-use Rattle.scmp_answer.specs.Reply.{Sent, is_left_unanswered, reply}
+use Rattle.process_packet.specs.declared.config.Config.{Config}
+use Rattle.process_packet.specs.Net.{router_of}
+use Rattle.scmp_answer.specs.Reply.{local_address, Sent, is_left_unanswered, reply}
 use Rattle.scmp_answer.specs.WayBack.{is_external, way_back}
 use Rattle.process_packet.specs.declared.decision.Problem.{Problem}
 use Rattle.process_packet.specs.Standing.{is_first_of_path}
 use Rattle.process_packet.specs.Net.{Agrees, Net, Router, router_at}
-use Rattle.walk_laws.specs.Domain.{Domain}
+use Rattle.walk_laws.specs.Domain.{domain_of}
 use Rattle.walk_laws.specs.Route.{IsRoute, Route, reversed_route}
 use Rattle.walk_laws.specs.Stands.{PacketAt, IsHostOf, IsOnItsWay, Stands, place_of}
 use Rattle.walk_laws.specs.Stop.{IsCarried}
@@ -41,9 +43,6 @@ AnswersStandToo =
 
 -- ---- the answer of a router
 
-abbrev pub domain_of : Router → Domain
-domain_of x = record { isd = x.network.isd; autonomous_system = x.network.autonomous_system }
-
 -- The router's answer is sent, stands on the way back, and is delivered there.
 pub record ComesBack (net : Net) (w : Route) (moment : ℕ) (a : PacketAt) (x : Router) (here : HostAddress) (problem : Problem) : Type 0 where
   pub answer : Packet
@@ -61,6 +60,8 @@ AnswersComeBack =
     → is_left_unanswered a.packet problem ≡ false → IfSent (reply here a.link a.source (spelling a.packet) problem) IsGood
     → ComesBack net w moment a x here problem
 
--- and what was travelled back is a route
-abbrev pub RoutesTurn : Type 0
-RoutesTurn = (net : Net) (w : Route) (moment : ℕ) → IsRoute net w moment → IsRoute net (reversed_route w) moment
+-- ---- who answers
+
+-- the address from which a router answers is of its AS
+abbrev pub RoutersAnswerFromHome : Type 0
+RoutersAnswerFromHome = (c : Config) → IsHostOf (local_address c) (domain_of (router_of c))

@@ -16,10 +16,12 @@ use Rattle.scmp_answer.specs.Reply as answers
 use Rattle.scmp_answer.specs.WayBack.{has_no_way_back, is_external, is_first_of_segment, way_back}
 use Rattle.walk_laws.specs.PathSegments.{PathSegment, route_over}
 use Rattle.walk_laws.specs.Hosts.{IsReachedAt}
-use Rattle.walk_laws.specs.LawfulStart.{IsAnswerable, IsAnswered, IsAskedOnTheWay, IsCarriedBack, IsIpHost, IsKnown, IsWalked, ReachesHost, SetsOutOn, WalksBy}
+use Rattle.walk_laws.specs.LawfulStart.{IsIpHost, IsKnown, ReachesHost, SetsOutOn, WalksBy}
+use Rattle.scmp_answer.specs.Walked.{IsAnswerable, IsAnswered, IsAskedOnTheWay, IsCarriedBack, IsWalked}
 use Rattle.process_packet.specs.Net.{Agrees, Net, Router, router_at}
 use Rattle.walk_laws.specs.Domain.{IsOf}
-use Rattle.walk_laws.specs.Reply.{ComesBack, domain_of}
+use Rattle.walk_laws.specs.Domain.{domain_of}
+use Rattle.scmp_answer.specs.Returns.{ComesBack}
 use Rattle.walk_laws.specs.Route.{IsOn, IsRoute, Route, end_of}
 use Rattle.walk_laws.specs.Shown.{turned}
 use Rattle.walk_laws.specs.Stands.{PacketAt, IsHostOf, IsUnasked, Stands, place_of}
@@ -29,7 +31,7 @@ use Rattle.walk_laws.specs.Walk.{IsDelivered, Walks}
 use Rattle.walk_laws.proofs.HostLemmas.{is_reached}
 use Rattle.walk_laws.proofs.LeavesLemmas.{same_router}
 use Rattle.walk_laws.proofs.LawfulLemmas.{end_is, its_route, sets_out}
-use Rattle.walk_laws.proofs.ReplyLemmas.{comes_back}
+use Rattle.scmp_answer.proofs.ReturnLemmas.{comes_back}
 use Rattle.walk_laws.proofs.StartLemmas.{stands_at_outset}
 use Rattle.walk_laws.proofs.StopLemmas.{ends, goes_on}
 use Rattle.walk_laws.proofs.WalkLemmas.{far_at_most, on_route, one_at_most, router_of, same_packet}
@@ -191,7 +193,7 @@ walks net w moment start agrees route (suc n) a passed far false more =
           let e : EndsBy net w moment start n g.after = walks net w moment start agrees route n g.after next (omega arith) (is_last_of_path w.segments (place_of g.after)) refl in
           record {
             end = e.end;
-            walk = WalksBy.goes x.here g.out g.to passed x.here_is g.verdict g.carried e.walk;
+            walk = WalksBy.goes x.here g.out g.to passed x.here_is g.others g.verdict g.carried e.walk;
             passed = e.passed;
             here = e.here;
             here_is = e.here_is;
@@ -203,11 +205,11 @@ walks net w moment start agrees route (suc n) a passed far false more =
 -- a walk whose stops are such, as a walk, and as one whose stops are what follows
 plain : {net : Net} {moment : ℕ} {such : PacketAt → Type 0} {n : ℕ} {a z : PacketAt} → WalksBy net moment such n a z → Walks net moment n a z
 plain (WalksBy.is_there is) = Walks.is_there
-plain (WalksBy.goes x out to is here verdict carried rest) = Walks.goes x out to here verdict carried (plain rest)
+plain (WalksBy.goes x out to is here others verdict carried rest) = Walks.goes x out to here verdict carried (plain rest)
 
 each : {net : Net} {moment : ℕ} {such so : PacketAt → Type 0} {n : ℕ} {a z : PacketAt} → ((b : PacketAt) → such b → so b) → WalksBy net moment such n a z → WalksBy net moment so n a z
 each {a = a} f (WalksBy.is_there is) = WalksBy.is_there (f a is)
-each {a = a} f (WalksBy.goes x out to is here verdict carried rest) = WalksBy.goes x out to (f a is) here verdict carried (each f rest)
+each {a = a} f (WalksBy.goes x out to is here others verdict carried rest) = WalksBy.goes x out to (f a is) here others verdict carried (each f rest)
 
 -- ---- the laws
 

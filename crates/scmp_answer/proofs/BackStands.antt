@@ -16,7 +16,7 @@ use Rattle.walk_laws.specs.Route.{IsBefore, Crosses, IsOn, IsRoute, Joins, Route
 use Rattle.walk_laws.specs.Route as route_words
 use Rattle.walk_laws.specs.Stands.{PacketAt, IdsStand, IsFromEntry, IsOnItsWay, Stands, StandsInside, StandsOutside, place_of}
 use Rattle.walk_laws.specs.Stop.{IsCarried}
-use Rattle.walk_laws.specs.Reply.{IsUnderWay, ReturnsOn, turning_point}
+use Rattle.scmp_answer.specs.Returns.{IsUnderWay, ReturnsOn, turning_point}
 use Rattle.walk_laws.proofs.IdLemmas.{size_is}
 use Rattle.walk_laws.proofs.BackLemmas.{back, back_len, back_size}
 use Rattle.walk_laws.proofs.BackIds.{ids_back, ids_under}
