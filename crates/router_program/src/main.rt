@@ -2,13 +2,11 @@
 //! datagrams, one a line in hex; `router replay --config FILE` makes steps of the pipeline, one a line.
 #![tactic(auto)]
 
-mod fault;
-
-use crate::fault::Fault;
 use command_words::{Order, WordsFault, read_words};
 use process_packet::{Config, Underlay};
 use router_config::read_config;
 use router_engine::{LinesFault, replay_lines, route_lines};
+use router_faults::Fault;
 use router_lines::{Arriving, usual_source};
 use std::io::BufReader;
 use std::process::ExitCode;

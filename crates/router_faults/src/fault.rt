@@ -3,7 +3,7 @@
 ghost use Rattle.std.specs.Prelude.{◌≡◌, ◌≢◌};
 ghost use Rattle.std.specs.IoError.{error_kind};
 ghost use Rattle.std.specs.declared.io.ErrorKind.TheVariants as kind;
-ghost use Rattle.router_program.specs.declared.fault.Fault.TheVariants as fault;
+ghost use Rattle.router_faults.specs.declared.fault.Fault.TheVariants as fault;
 
 use command_words::WordsFault;
 use router_config::ConfigFault;
