@@ -1,9 +1,9 @@
 -- The bytes written so far, and the lines that are left.
-use Rattle.std.proofs.Common.{◌≡◌, ◌≢◌, ℕ, suc, ◌+◌, eqb, List, [], ◌∷◌, ◌++◌, length, take, drop, map, Option, Some, None, refl, sym, ap, ◌∙◌, add-one, append_assoc, arith, inl, inr}
+use Rattle.std.proofs.Common.{◌≡◌, ◌≢◌, ℕ, suc, ◌+◌, eqb, List, [], ◌∷◌, ◌++◌, length, take, drop, map, Option, Some, None, refl, sym, ap, ◌∙◌, add-one, append_assoc, inl, inr}
 use Rattle.std.specs.Prelude.{⊤, IfSome}
 use Rattle.std.specs.Io.KnownBytes.{Appends, Keeps}
 use Rattle.std.specs.Io.BufRead.{take_through, drop_through, strip_last, first_piece}
-use Rattle.std.proofs.lemmas.List.{append-nil, drop-take, take-append-drop, take-take, take_at}
+use Rattle.std.proofs.lemmas.List.{append-nil, take-append-drop, take_at}
 use Rattle.std.proofs.lemmas.Bool.{cases_Bool}
 use Rattle.router_engine.specs.Lines.{onto_first, pieces_of, lines_of}
 use Rattle.router_engine.specs.Route.{answer_then, bad_or, answers_to, bad_line}

@@ -1,4 +1,4 @@
-use Rattle.std.proofs.Common.{◌≡◌, List, [], ◌∷◌, sym, subst, ◌∙◌}
+use Rattle.std.proofs.Common.{List, [], ◌∷◌, sym, subst, ◌∙◌}
 use Rattle.process_packet.specs.Departure.{Departs, Tells}
 use Rattle.process_packet.specs.Rows.{Row, Verdict, delivery, egress_request, leave, switch, unknown_egress, wrong_pair}
 use Rattle.process_packet.specs.Standing.{past_switch}
