@@ -1,9 +1,12 @@
 -- What some steps led to keeps what the headline says.
+use Rattle.std.proofs.Common.{◌≡◌, inl, inr, Bool, true, false, get_or, refl, sym, subst}
+use Rattle.std.proofs.lemmas.Bool.{false≢true}
+use Rattle.pipe_order.specs.ByRules.{IsCaused, IsCauseOf, IsReasonOf}
 use Rattle.pipe_order.specs.Item.{Arrival}
 use Rattle.pipe_order.specs.Kinds.{Kinds}
 use Rattle.pipe_order.specs.Rules.{IsLawful, Rules}
 use Rattle.pipe_order.specs.Start.{HasArrival, IsLawfulFor}
-use Rattle.pipe_order.specs.World.{World}
+use Rattle.pipe_order.specs.World.{Cause, Fate, World}
 use Rattle.pipe_order.proofs.ByRules.{keeps_rules}
 use Rattle.pipe_order.proofs.Close.{keeps_close}
 use Rattle.pipe_order.proofs.Full.{keeps_full_law}
@@ -12,10 +15,12 @@ use Rattle.pipe_order.proofs.Order.{keeps_order}
 use Rattle.pipe_order.proofs.Place.{keeps_place}
 use Rattle.pipe_order.proofs.Sent.{keeps_sent}
 use Rattle.pipe_order.proofs.Totals.{keeps_totals}
+use Rattle.process_packet.specs.declared.cause.Cause.{Cause as Why}
+use Rattle.process_packet.specs.declared.cause.Cause.TheVariants as cause
 use Rattle.process_packet.specs.declared.config.Config.{Config}
-use Rattle.router_rules.specs.Laws.{AreLawful}
+use Rattle.router_rules.specs.Laws.{AreLawful, CausesAreApart, is_decided, is_withheld}
 use Rattle.router_rules.specs.Rules.{Arrives, kinds, rules}
-use Rattle.pipe_model.specs.Headline.{IsHeadline, IsReached, IsWayGood}
+use Rattle.pipe_model.specs.Headline.{IsHeadline, IsReached, IsSaid, IsToldBy, IsWayGood}
 
 -- rules that are lawful for what may arrive are so for what does
 pub lawful_for_fewer : {K : Kinds} (R : Rules K) (A B : Arrival K → Type 0) → ((x : Arrival K) → B x → A x) → IsLawful R A → IsLawful R B
@@ -41,11 +46,43 @@ headline lawful c w r =
       totals = keeps_totals kinds (rules c) w r.way h;
     }
 
-pub way_good : AreLawful → (c : Config) (w : World kinds) (r : IsReached c w) → IsWayGood c w r
-way_good lawful c w r =
+-- ---- causes
+
+apart : (why : Why) → is_decided why ≡ true → is_withheld why ≡ false
+apart cause.Short is = refl
+apart cause.Version is = refl
+apart cause.PathType is = refl
+apart cause.Header is = refl
+apart cause.Path is = refl
+apart cause.Peering is = refl
+apart cause.UnderlaySource is = refl
+apart cause.PathEnd is = refl
+apart cause.NoAnswer is = absurd (false≢true is)
+apart cause.NoWayBack is = absurd (false≢true is)
+apart cause.TooLong is = refl
+apart cause.ProcessorFull is = absurd (false≢true is)
+apart cause.LinkFull is = absurd (false≢true is)
+apart cause.AnswerFull is = absurd (false≢true is)
+apart cause.NoMemory is = absurd (false≢true is)
+apart cause.Closed is = absurd (false≢true is)
+apart cause.SendFailed is = absurd (false≢true is)
+apart cause.NoBuffer is = absurd (false≢true is)
+
+said : CausesAreApart → (c : Config) (x : Arrival kinds) (why : Why) → IsReasonOf (rules c) x why → IsSaid (is_withheld why) c x why
+said causes c x why (inl drops) = subst (λ (b : Bool). IsSaid b c x why) (sym (apart why ((causes c).decision x.datagram why drops))) drops
+said causes c x why (inr withheld) = subst (λ (b : Bool). IsSaid b c x why) (sym ((causes c).reply x.datagram withheld.0 why withheld.2)) withheld
+
+told_by : CausesAreApart → (c : Config) (s : World kinds) (f : Fate kinds) → IsCaused (rules c) s f → IsToldBy c s f
+told_by causes c s f caused why is =
+    let of : IsCauseOf (rules c) s f (Cause.Ruled why) = subst (IsCauseOf (rules c) s f) is caused in
+    (of.0, of.1, of.2, of.3, said causes c of.0 why of.4)
+
+pub way_good : AreLawful → CausesAreApart → (c : Config) (w : World kinds) (r : IsReached c w) → IsWayGood c w r
+way_good lawful causes c w r =
     let h = lawful_there lawful c w r in
     record {
       made = keeps_rules kinds (rules c) w r.way h;
+      causes = λ k d there. told_by causes c r.way.start (get_or w.fates k d) ((keeps_rules kinds (rules c) w r.way h).fates k d there);
       full = keeps_full_law kinds (rules c) w r.way h;
       close = keeps_close kinds (rules c) w r.way h;
       sent = λ l i. keeps_sent kinds (rules c) w r.way h l i;

@@ -1,6 +1,7 @@
--- What holds of a pipeline after any list of steps: packets of a flow keep their order, each packet is at one place, each is
--- counted once, a drop at a full pipe met it full, and nothing behind a closing mark is sent.
-use Rattle.std.specs.Prelude.{◌≡◌, ◌<◌, ◌+◌, ℕ, true, List}
+-- What holds of a pipeline after any list of steps: packets of a flow keep their order, each packet is at one place, the
+-- counts add up, a drop at a full pipe met it full, and nothing behind a closing mark is sent.
+use Rattle.std.specs.Prelude.{◌≡◌, ◌<◌, ◌+◌, ℕ, Bool, true, false, List}
+use Rattle.std.specs.List.{All}
 use Rattle.pipe_order.specs.ByRules.{IsByRules}
 use Rattle.pipe_order.specs.Close.{IsClosing}
 use Rattle.pipe_order.specs.Full.{IsFull}
@@ -11,8 +12,12 @@ use Rattle.pipe_order.specs.Place.{IsPlaced}
 use Rattle.pipe_order.specs.Sent.{IsSent}
 use Rattle.pipe_order.specs.Start.{HasArrival, Reached}
 use Rattle.pipe_order.specs.Totals.{answered_count, dropped_count, received_count, sent_count, waiting_count}
-use Rattle.pipe_order.specs.World.{World}
+use Rattle.pipe_order.specs.Rules.{Asks, Drops, Withholds}
+use Rattle.pipe_order.specs.World.{Cause, Fate, World}
+use Rattle.process_packet.specs.declared.cause.Cause.{Cause as Why}
 use Rattle.process_packet.specs.declared.config.Config.{Config}
+use Rattle.process_packet.specs.declared.decision.Problem.{Problem}
+use Rattle.router_rules.specs.Laws.{is_withheld}
 use Rattle.router_rules.specs.Rules.{Arrives, kinds, rules}
 use Rattle.pipe_model.specs.Begun.{arriving, start_of}
 use Rattle.pipe_model.specs.Pipeline.{Pipeline, ran}
@@ -37,10 +42,23 @@ pub record IsHeadline (c : Config) (w : World kinds) : Type 0 where
   pub once : IsOnce (rules c) w
   pub totals : received_count (rules c) w ≡ sent_count w + answered_count w + waiting_count (rules c) w + dropped_count (λ c. true) w
 
--- And by whatever steps the world was reached: every item and every cause comes from an arrival by the rules; a drop at a full
+-- why the arrival was dropped by the rules: for a cause of the reply's the answer to its problem was withheld, for any other
+-- the decision dropped it, which drops for the same cause what the inspection refuses
+abbrev pub IsSaid : Bool → Config → Arrival kinds → Why → Type 0
+IsSaid true c x why = (p : Problem) × ((rules c).decide x ≡ Asks p) × ((rules c).reply x p ≡ Withholds why)
+IsSaid false c x why = (rules c).decide x ≡ Drops why
+
+abbrev pub IsSaidOf : Config → World kinds → Fate kinds → Why → Type 0
+IsSaidOf c s f why = (x : Arrival kinds) × HasArrival s x × (f.link ≡ x.link) × (f.number ≡ x.number) × IsSaid (is_withheld why) c x why
+
+abbrev pub IsToldBy : Config → World kinds → Fate kinds → Type 0
+IsToldBy c s f = (why : Why) → f.cause ≡ Cause.Ruled why → IsSaidOf c s f why
+
+-- And by whatever steps the world was reached: every item and every cause comes from an arrival by the rules, and each cause from its own; a drop at a full
 -- pipe met it full; nothing behind a closing mark was taken for sending; what was sent is what was taken for sending.
 pub record IsWayGood (c : Config) (w : World kinds) (r : IsReached c w) : Type 0 where
   pub made : IsByRules (rules c) r.way.start w
+  pub causes : All (IsToldBy c r.way.start) w.fates
   pub full : IsFull (rules c) r.way.start w
   pub close : IsClosing (rules c) r.way.start w r.way.steps
   pub sent : (l : ℕ) → l < (rules c).links → IsSent (rules c) r.way.start w r.way.steps l

@@ -12,7 +12,7 @@ use crate::state::{State, sources};
 use crate::step::{Step, StepFault};
 use pipe_parts::Bytes;
 use process_packet::{Arrival, Config, NoMemory, Totals};
-use router_rules::{Outgoing, link_count, link_index, rules_are_lawful};
+use router_rules::{Outgoing, causes_are_apart, link_count, link_index, rules_are_lawful};
 use std::alloc::Global;
 use std::marker::Model;
 use thiserror::Error;
@@ -73,6 +73,7 @@ impl World {
     {
         let _ = &self.config;
         rules_are_lawful();
+        causes_are_apart();
     }
 
     /// Makes a step, if it is possible.

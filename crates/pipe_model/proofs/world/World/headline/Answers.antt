@@ -10,4 +10,4 @@ returns-clause-headline c =
     subst P c.self.view_is (headline c.rules_are_lawful.ensures _ _ c.self.invariant)
 
 pub returns-clause-way : goal.returns-clause-way
-returns-clause-way c r = way_good c.rules_are_lawful.ensures _ _ r
+returns-clause-way c r = way_good c.rules_are_lawful.ensures c.causes_are_apart.ensures _ _ r
