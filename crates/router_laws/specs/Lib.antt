@@ -2,3 +2,4 @@ pub mod Heard
 pub mod Shares
 pub mod Totals
 pub mod Keeping
+pub mod Returned

@@ -9,14 +9,14 @@ use Rattle.process_packet.specs.declared.cause.Cause.{Cause}
 use Rattle.process_packet.specs.declared.cause.Cause.TheVariants as cause
 use Rattle.process_packet.specs.declared.config.Config.{Config}
 use Rattle.process_packet.specs.declared.totals.Totals.{Totals}
-use Rattle.packet_ledger.specs.Amounts.{plus}
+use Rattle.packet_ledger.specs.Amounts.{count_at, plus}
 use Rattle.packet_ledger.specs.Share.{Held, posted_by, counts_of}
 use Rattle.router_rules.specs.Laws.{is_ruled}
 use Rattle.router_rules.specs.Rules.{kinds, rules}
 use Rattle.stage_laws.specs.Forwards.{Handed}
 use Rattle.stage_laws.specs.Counting.{Count}
 use Rattle.stage_laws.specs.Causes.{was_sent, was_replied, was_refused, received_count, ruled_count, no_buffer_count, went_count, swept_count}
-use Rattle.router_laws.specs.Shares.{Counts}
+use Rattle.router_laws.specs.Shares.{times, Counts}
 
 -- share by share
 abbrev pub AreCounted : List Held → List (List (Count kinds)) → Type 0
@@ -27,6 +27,9 @@ AreCounted _ _ = ⊥
 -- what all shares ever counted, posted or not
 abbrev pub totals_of : List Held → Totals
 totals_of shares = plus (posted_by shares) (counts_of shares)
+
+abbrev pub SharesAddUp : Type 0
+SharesAddUp = (shares : List Held) (raised : List (List (Count kinds))) → AreCounted shares raised → (i : ℕ) → count_at i (totals_of shares) ≡ total (times i) raised
 
 abbrev pub same_cause : Cause → Cause → Bool
 same_cause a b = number_of a == number_of b

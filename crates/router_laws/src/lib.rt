@@ -1,2 +1,7 @@
-//! The laws of workers at the router's own rules: what its sources tell, and what its book counts.
+//! The laws of workers at the router's own rules: what its sources tell, what its book counts, and what its threads did, once
+//! they have ended. Nothing here runs.
 #![tactic(auto)]
+
+mod laws;
+
+pub use laws::{runs_as_told, shares_add_up};
