@@ -94,13 +94,13 @@ module _ (c : Config) where
 pushes_more : (es : List (Entry (Outgoing kinds))) (e : Entry (Outgoing kinds)) → pushes (es ++ e ∷ []) ≡ pushes es ++ pushed_in e ∷ []
 pushes_more es e = map-append pushed_in es (e ∷ [])
 
-pub forwards_first : (low high : Taker (Outgoing kinds)) (told : Option (List (Handed kinds))) (began : ℕ) → low.taken ≡ [] → high.taken ≡ [] → ToldNothing told → IsForwarding low high false false told began began new_share
-forwards_first low high told began no_low no_high untold = record {
+pub forwards_first : {T : Type 0} (shows : Handed kinds → T) (low high : Taker (Outgoing kinds)) (told : Option (List T)) (began : ℕ) → low.taken ≡ [] → high.taken ≡ [] → ToldNothing told → IsForwarding shows low high false false told began began new_share
+forwards_first shows low high told began no_low no_high untold = record {
   went = [];
   law =
-      let P : List (Entry (Outgoing kinds)) → Type 0 = λ es. KeepsForwarder [] (pushes es) (pushes high.taken) false false told began began in
-      let Q : List (Entry (Outgoing kinds)) → Type 0 = λ es. KeepsForwarder [] [] (pushes es) false false told began began in
-      subst P (sym no_low) (subst Q (sym no_high) (forwards_none told began untold));
+      let P : List (Entry (Outgoing kinds)) → Type 0 = λ es. KeepsForwarder shows [] (pushes es) (pushes high.taken) false false told began began in
+      let Q : List (Entry (Outgoing kinds)) → Type 0 = λ es. KeepsForwarder shows [] [] (pushes es) false false told began began in
+      subst P (sym no_low) (subst Q (sym no_high) (forwards_none shows told began untold));
   counts =
       let P : List (Entry (Outgoing kinds)) → Type 0 = λ es. Counts new_share (counted_forwarding [] (pushes es) (pushes high.taken)) in
       let Q : List (Entry (Outgoing kinds)) → Type 0 = λ es. Counts new_share (counted_forwarding [] [] (pushes es)) in
@@ -118,87 +118,87 @@ open_load (Payload x) o p = refl
 open_load CloseMark o p = absurd cc
 open_load EndMark o p = absurd cc
 
-module _ (low high : Taker (Outgoing kinds)) (low_shut high_shut : Bool) (began failed : ℕ) (share : Held) (e : Entry (Outgoing kinds)) where
+module _ {T : Type 0} (shows : Handed kinds → T) (low high : Taker (Outgoing kinds)) (low_shut high_shut : Bool) (began failed : ℕ) (share : Held) (e : Entry (Outgoing kinds)) where
   abbrev lows : List (Pushed (Outgoing kinds))
   lows = pushes low.taken
 
   abbrev highs : List (Pushed (Outgoing kinds))
   highs = pushes high.taken
 
-  module _ (told told' : Option (List (Handed kinds))) (failed' : ℕ) (h : Handed kinds) where
+  module _ (told told' : Option (List T)) (failed' : ℕ) (h : Handed kinds) where
     -- one is handed to the sink
-    pub hands_low : payload_of (load_in e.load) ≡ h.item ∷ [] → low_shut ≡ false → AddsTo told h told' → failed' ≡ failed + cond h.took 0 1
-        → IsForwarding low high low_shut high_shut told began failed share → IsForwarding (took low e) high false high_shut told' began failed' (raise (handed_count h) share)
+    pub hands_low : payload_of (load_in e.load) ≡ h.item ∷ [] → low_shut ≡ false → AddsTo told (shows h) told' → failed' ≡ failed + cond h.took 0 1
+        → IsForwarding shows low high low_shut high_shut told began failed share → IsForwarding shows (took low e) high false high_shut told' began failed' (raise (handed_count h) share)
     hands_low is unshut adds fails k = record {
       went = k.went ++ h ∷ [];
-      law = subst (λ (es : List (Pushed (Outgoing kinds))). KeepsForwarder (k.went ++ h ∷ []) es highs false high_shut told' began failed') (sym (pushes_more low.taken e))
-          (forwards_low k.went lows highs (pushed_in e) low_shut high_shut told told' began failed failed' h is unshut adds fails k.law);
+      law = subst (λ (es : List (Pushed (Outgoing kinds))). KeepsForwarder shows (k.went ++ h ∷ []) es highs false high_shut told' began failed') (sym (pushes_more low.taken e))
+          (forwards_low shows k.went lows highs (pushed_in e) low_shut high_shut told told' began failed failed' h is unshut adds fails k.law);
       counts = raised_once share (counted_forwarding k.went lows highs) (counted_forwarding (k.went ++ h ∷ []) (pushes (low.taken ++ e ∷ [])) highs) (handed_count h)
           (λ i. ap (λ (es : List (Pushed (Outgoing kinds))). times i (counted_forwarding (k.went ++ h ∷ []) es highs)) (pushes_more low.taken e)
           ∙ forwarding_low (counts_at i) k.went lows highs (pushed_in e) h (sym k.law.low_mark ∙ unshut) (open_load (load_in e.load) h.item is)) k.counts;
     }
 
-    pub hands_high : payload_of (load_in e.load) ≡ h.item ∷ [] → high_shut ≡ false → AddsTo told h told' → failed' ≡ failed + cond h.took 0 1
-        → IsForwarding low high low_shut high_shut told began failed share → IsForwarding low (took high e) low_shut false told' began failed' (raise (handed_count h) share)
+    pub hands_high : payload_of (load_in e.load) ≡ h.item ∷ [] → high_shut ≡ false → AddsTo told (shows h) told' → failed' ≡ failed + cond h.took 0 1
+        → IsForwarding shows low high low_shut high_shut told began failed share → IsForwarding shows low (took high e) low_shut false told' began failed' (raise (handed_count h) share)
     hands_high is unshut adds fails k = record {
       went = k.went ++ h ∷ [];
-      law = subst (λ (es : List (Pushed (Outgoing kinds))). KeepsForwarder (k.went ++ h ∷ []) lows es low_shut false told' began failed') (sym (pushes_more high.taken e))
-          (forwards_high k.went lows highs (pushed_in e) low_shut high_shut told told' began failed failed' h is unshut adds fails k.law);
+      law = subst (λ (es : List (Pushed (Outgoing kinds))). KeepsForwarder shows (k.went ++ h ∷ []) lows es low_shut false told' began failed') (sym (pushes_more high.taken e))
+          (forwards_high shows k.went lows highs (pushed_in e) low_shut high_shut told told' began failed failed' h is unshut adds fails k.law);
       counts = raised_once share (counted_forwarding k.went lows highs) (counted_forwarding (k.went ++ h ∷ []) lows (pushes (high.taken ++ e ∷ []))) (handed_count h)
           (λ i. ap (λ (es : List (Pushed (Outgoing kinds))). times i (counted_forwarding (k.went ++ h ∷ []) lows es)) (pushes_more high.taken e)
           ∙ forwarding_high (counts_at i) k.went lows highs (pushed_in e) h (sym k.law.high_mark ∙ unshut) (open_load (load_in e.load) h.item is)) k.counts;
     }
 
-  module _ (told : Option (List (Handed kinds))) where
+  module _ (told : Option (List T)) where
     -- one is swept
     pub swept_low : (o : Outgoing kinds) → payload_of (load_in e.load) ≡ o ∷ [] → low_shut ≡ true
-        → IsForwarding low high low_shut high_shut told began failed share → IsForwarding (took low e) high true high_shut told began failed (raise (Dropped Ended.Closed) share)
+        → IsForwarding shows low high low_shut high_shut told began failed share → IsForwarding shows (took low e) high true high_shut told began failed (raise (Dropped Ended.Closed) share)
     swept_low o is shut k = record {
       went = k.went;
-      law = subst (λ (es : List (Pushed (Outgoing kinds))). KeepsForwarder k.went es highs true high_shut told began failed) (sym (pushes_more low.taken e))
-          (sweeps_low k.went lows highs (pushed_in e) low_shut high_shut told began failed shut k.law);
+      law = subst (λ (es : List (Pushed (Outgoing kinds))). KeepsForwarder shows k.went es highs true high_shut told began failed) (sym (pushes_more low.taken e))
+          (sweeps_low shows k.went lows highs (pushed_in e) low_shut high_shut told began failed shut k.law);
       counts = raised_once share (counted_forwarding k.went lows highs) (counted_forwarding k.went (pushes (low.taken ++ e ∷ [])) highs) (Dropped Ended.Closed)
           (λ i. ap (λ (es : List (Pushed (Outgoing kinds))). times i (counted_forwarding k.went es highs)) (pushes_more low.taken e)
           ∙ sweeping_low (counts_at i) k.went lows highs (pushed_in e) o (sym k.law.low_mark ∙ shut) is) k.counts;
     }
 
     pub swept_high : (o : Outgoing kinds) → payload_of (load_in e.load) ≡ o ∷ [] → high_shut ≡ true
-        → IsForwarding low high low_shut high_shut told began failed share → IsForwarding low (took high e) low_shut true told began failed (raise (Dropped Ended.Closed) share)
+        → IsForwarding shows low high low_shut high_shut told began failed share → IsForwarding shows low (took high e) low_shut true told began failed (raise (Dropped Ended.Closed) share)
     swept_high o is shut k = record {
       went = k.went;
-      law = subst (λ (es : List (Pushed (Outgoing kinds))). KeepsForwarder k.went lows es low_shut true told began failed) (sym (pushes_more high.taken e))
-          (sweeps_high k.went lows highs (pushed_in e) low_shut high_shut told began failed shut k.law);
+      law = subst (λ (es : List (Pushed (Outgoing kinds))). KeepsForwarder shows k.went lows es low_shut true told began failed) (sym (pushes_more high.taken e))
+          (sweeps_high shows k.went lows highs (pushed_in e) low_shut high_shut told began failed shut k.law);
       counts = raised_once share (counted_forwarding k.went lows highs) (counted_forwarding k.went lows (pushes (high.taken ++ e ∷ []))) (Dropped Ended.Closed)
           (λ i. ap (λ (es : List (Pushed (Outgoing kinds))). times i (counted_forwarding k.went lows es)) (pushes_more high.taken e)
           ∙ sweeping_high (counts_at i) k.went lows highs (pushed_in e) o (sym k.law.high_mark ∙ shut) is) k.counts;
     }
 
     -- a mark is taken
-    pub mark_low : payload_of (load_in e.load) ≡ [] → IsForwarding low high low_shut high_shut told began failed share → IsForwarding (took low e) high (low_shut || closes (load_in e.load)) high_shut told began failed share
+    pub mark_low : payload_of (load_in e.load) ≡ [] → IsForwarding shows low high low_shut high_shut told began failed share → IsForwarding shows (took low e) high (low_shut || closes (load_in e.load)) high_shut told began failed share
     mark_low none k = record {
       went = k.went;
-      law = subst (λ (es : List (Pushed (Outgoing kinds))). KeepsForwarder k.went es highs (low_shut || closes (load_in e.load)) high_shut told began failed) (sym (pushes_more low.taken e))
-          (marks_low k.went lows highs (pushed_in e) low_shut high_shut told began failed none k.law);
+      law = subst (λ (es : List (Pushed (Outgoing kinds))). KeepsForwarder shows k.went es highs (low_shut || closes (load_in e.load)) high_shut told began failed) (sym (pushes_more low.taken e))
+          (marks_low shows k.went lows highs (pushed_in e) low_shut high_shut told began failed none k.law);
       counts = counts_same share (counted_forwarding k.went lows highs) (counted_forwarding k.went (pushes (low.taken ++ e ∷ [])) highs)
           (λ i. ap (λ (es : List (Pushed (Outgoing kinds))). times i (counted_forwarding k.went es highs)) (pushes_more low.taken e) ∙ marking_low (counts_at i) k.went lows highs (pushed_in e) none) k.counts;
     }
 
-    pub mark_high : payload_of (load_in e.load) ≡ [] → IsForwarding low high low_shut high_shut told began failed share → IsForwarding low (took high e) low_shut (high_shut || closes (load_in e.load)) told began failed share
+    pub mark_high : payload_of (load_in e.load) ≡ [] → IsForwarding shows low high low_shut high_shut told began failed share → IsForwarding shows low (took high e) low_shut (high_shut || closes (load_in e.load)) told began failed share
     mark_high none k = record {
       went = k.went;
-      law = subst (λ (es : List (Pushed (Outgoing kinds))). KeepsForwarder k.went lows es low_shut (high_shut || closes (load_in e.load)) told began failed) (sym (pushes_more high.taken e))
-          (marks_high k.went lows highs (pushed_in e) low_shut high_shut told began failed none k.law);
+      law = subst (λ (es : List (Pushed (Outgoing kinds))). KeepsForwarder shows k.went lows es low_shut (high_shut || closes (load_in e.load)) told began failed) (sym (pushes_more high.taken e))
+          (marks_high shows k.went lows highs (pushed_in e) low_shut high_shut told began failed none k.law);
       counts = counts_same share (counted_forwarding k.went lows highs) (counted_forwarding k.went lows (pushes (high.taken ++ e ∷ [])))
           (λ i. ap (λ (es : List (Pushed (Outgoing kinds))). times i (counted_forwarding k.went lows es)) (pushes_more high.taken e) ∙ marking_high (counts_at i) k.went lows highs (pushed_in e) none) k.counts;
     }
 
-module _ (low high : Taker (Outgoing kinds)) (low_shut high_shut : Bool) (told : Option (List (Handed kinds))) (began failed : ℕ) (share : Held) where
+module _ {T : Type 0} (shows : Handed kinds → T) (low high : Taker (Outgoing kinds)) (low_shut high_shut : Bool) (told : Option (List T)) (began failed : ℕ) (share : Held) where
   -- a look that found nothing
-  pub looked_low : IsForwarding low high low_shut high_shut told began failed share → IsForwarding (looked low) high low_shut high_shut told began failed share
+  pub looked_low : IsForwarding shows low high low_shut high_shut told began failed share → IsForwarding shows (looked low) high low_shut high_shut told began failed share
   looked_low k = record { went = k.went; law = k.law; counts = k.counts }
 
-  pub looked_high : IsForwarding low high low_shut high_shut told began failed share → IsForwarding low (looked high) low_shut high_shut told began failed share
+  pub looked_high : IsForwarding shows low high low_shut high_shut told began failed share → IsForwarding shows low (looked high) low_shut high_shut told began failed share
   looked_high k = record { went = k.went; law = k.law; counts = k.counts }
 
-  pub forwards_posted : IsForwarding low high low_shut high_shut told began failed share → IsForwarding low high low_shut high_shut told began failed (emptied share)
+  pub forwards_posted : IsForwarding shows low high low_shut high_shut told began failed share → IsForwarding shows low high low_shut high_shut told began failed (emptied share)
   forwards_posted k = record { went = k.went; law = k.law; counts = counts_posted share (counted_forwarding k.went (pushes low.taken) (pushes high.taken)) k.counts }

@@ -50,8 +50,8 @@ processor_of c i p is = (
   record { taker = refl; links = refl; slow = refl; law = (is.0.law, is.1); counts = is.0.counts },
 )
 
-forwarder_of : (c : Config) (l : ℕ) (f : ForwarderBack) → IsBackForwarder c l f → (x : Forwarder kinds) × IsForwarderOf c l x f
-forwarder_of c l f is = (
+forwarder_of : {T : Type 0} (shows : Handed kinds → T) (l : ℕ) (f : ForwarderBack T) → IsBackForwarder shows l f → (x : Forwarder kinds) × IsForwarderOf shows l x f
+forwarder_of shows l f is = (
   record { went = is.went; low = f.low; high = f.high },
   record { low = refl; high = refl; law = is.law; counts = is.counts },
 )
@@ -116,9 +116,9 @@ forwarded_is share went low high is =
 
 -- ---- one worker's log beside the next
 
-module _ (c : Config) (b : Returned) (closed : ℕ → Bool) (h : HaveReturned c b closed) (xs : List (Receiver kinds)) (ps : List (Processor kinds)) (sl : SlowPath kinds) (fs : List (Forwarder kinds)) (
+module _ {T : Type 0} (shows : Handed kinds → T) (c : Config) (b : Returned T) (closed : ℕ → Bool) (h : HaveReturned shows c b closed) (xs : List (Receiver kinds)) (ps : List (Processor kinds)) (sl : SlowPath kinds) (fs : List (Forwarder kinds)) (
     rs : Pairs (IsReceiverOf c) 0 xs b.receivers
-    ) (pr : Pairs (IsProcessorOf c) 0 ps b.processors) (so : IsSlowOf c sl b.slow) (fo : Pairs (IsForwarderOf c) 0 fs b.forwarders) where
+    ) (pr : Pairs (IsProcessorOf c) 0 ps b.processors) (so : IsSlowOf c sl b.slow) (fo : Pairs (IsForwarderOf shows) 0 fs b.forwarders) where
   abbrev R : Rules kinds
   R = rules c
 
@@ -146,12 +146,12 @@ module _ (c : Config) (b : Returned) (closed : ℕ → Bool) (h : HaveReturned c
       by : (l : ℕ) → l < link_count c → (j ≡ 2 * l) ⊎ (j ≡ 2 * l + 1) → (row : List (Sender (Outgoing kinds))) × IsColumn j (link_ends w) row × TookAll row (passed_at fs j)
       by l below (inl e) =
           let f = there b.forwarders l (let n = h.forwarder_count in omega arith) in
-          let x = right (IsForwarderOf c) fs b.forwarders fo l f.0 f.1 in
+          let x = right (IsForwarderOf shows) fs b.forwarders fo l f.0 f.1 in
           let taken : passed_at fs (2 * l) ≡ pushes f.0.low.taken = passed_low fs l x.0 x.1.0 ∙ ap (λ (t : Taker (Outgoing kinds)). pushes t.taken) x.1.1.low in
           subst (λ (i : ℕ). (row : List (Sender (Outgoing kinds))) × IsColumn i (link_ends w) row × TookAll row (passed_at fs i)) (sym e) (row_of (2 * l) (pushes f.0.low.taken) (passed_at fs (2 * l)) taken (h.low l f.0 f.1))
       by l below (inr e) =
           let f = there b.forwarders l (let n = h.forwarder_count in omega arith) in
-          let x = right (IsForwarderOf c) fs b.forwarders fo l f.0 f.1 in
+          let x = right (IsForwarderOf shows) fs b.forwarders fo l f.0 f.1 in
           let taken : passed_at fs (2 * l + 1) ≡ pushes f.0.high.taken = passed_high fs l x.0 x.1.0 ∙ ap (λ (t : Taker (Outgoing kinds)). pushes t.taken) x.1.1.high in
           subst (λ (i : ℕ). (row : List (Sender (Outgoing kinds))) × IsColumn i (link_ends w) row × TookAll row (passed_at fs i)) (sym e) (row_of (2 * l + 1) (pushes f.0.high.taken) (passed_at fs (2 * l + 1)) taken (h.high l f.0 f.1))
 
@@ -172,11 +172,11 @@ module _ (c : Config) (b : Returned) (closed : ℕ → Bool) (h : HaveReturned c
   have_ended = record {
     receiver_count = pairs_long (IsReceiverOf c) 0 xs b.receivers rs ∙ h.receiver_count;
     processor_count = pairs_long (IsProcessorOf c) 0 ps b.processors pr ∙ h.processor_count;
-    forwarder_count = pairs_long (IsForwarderOf c) 0 fs b.forwarders fo ∙ h.forwarder_count;
+    forwarder_count = pairs_long (IsForwarderOf shows) 0 fs b.forwarders fo ∙ h.forwarder_count;
     receivers = λ p r at. (left (IsReceiverOf c) xs b.receivers rs p r at).1.1.law;
     processors = λ i p at. (left (IsProcessorOf c) ps b.processors pr i p at).1.1.law;
     slow = so.law;
-    forwarders = λ l f at. (left (IsForwarderOf c) fs b.forwarders fo l f at).1.1.law.order;
+    forwarders = λ l f at. (left (IsForwarderOf shows) fs b.forwarders fo l f at).1.1.law.order;
     inner = inner;
     middle = middle;
     outer = outer;
@@ -188,7 +188,7 @@ module _ (c : Config) (b : Returned) (closed : ℕ → Bool) (h : HaveReturned c
     slow_closes_none = λ j s got. h.slow_closes_none j s (ap (λ (l : List (Sender (Outgoing kinds))). slice_get l j) (sym so.links) ∙ got);
   }
 
-  theirs : AreWorkersOf c w b
+  theirs : AreWorkersOf shows c w b
   theirs = record { receivers = rs; processors = pr; slow = so; forwarders = fo; controller = refl }
 
   -- ---- what arrives stands on its link
@@ -237,17 +237,17 @@ module _ (c : Config) (b : Returned) (closed : ℕ → Bool) (h : HaveReturned c
   counted =
       counted_front (λ (r : ReceiverBack). r.share) (λ (r : Receiver kinds). counted_receiving {K = kinds} r.log) (IsReceiverOf c) (λ n x r is. is.counts) 0 xs b.receivers rs _ _
       (counted_front (λ (p : ProcessorBack). p.share) (λ (p : Processor kinds). counted_working R p.log) (IsProcessorOf c) (λ n x p is. is.counts) 0 ps b.processors pr _ _
-      (so.counts, counted_last (λ (f : ForwarderBack). f.share) (λ (f : Forwarder kinds). counted_forwarding f.went (pushes f.low.taken) (pushes f.high.taken)) (IsForwarderOf c) (λ n x f is. is.counts) 0 fs b.forwarders fo))
+      (so.counts, counted_last (λ (f : ForwarderBack T). f.share) (λ (f : Forwarder kinds). counted_forwarding f.went (pushes f.low.taken) (pushes f.high.taken)) (IsForwarderOf shows) (λ n x f is. is.counts) 0 fs b.forwarders fo))
 
   -- ---- all of it
 
-  went_is : (l : ℕ) (f : ForwarderBack) → slice_get b.forwarders l ≡ Some f → (x : Forwarder kinds) × ((went_at w l ≡ x.went) × IsForwarderOf c l x f)
-  went_is l f at = let x = right (IsForwarderOf c) fs b.forwarders fo l f at in (x.0, (read_is (λ (f : Forwarder kinds). f.went) fs l x.0 x.1.0, x.1.1))
+  went_is : (l : ℕ) (f : ForwarderBack T) → slice_get b.forwarders l ≡ Some f → (x : Forwarder kinds) × ((went_at w l ≡ x.went) × IsForwarderOf shows l x f)
+  went_is l f at = let x = right (IsForwarderOf shows) fs b.forwarders fo l f at in (x.0, (read_is (λ (f : Forwarder kinds). f.went) fs l x.0 x.1.0, x.1.1))
 
   received_is : (a : ℕ) (r : ReceiverBack) → slice_get b.receivers a ≡ Some r → (x : Receiver kinds) × (((views_of R w).received a ≡ x.log) × IsReceiverOf c a x r)
   received_is a r at = let x = right (IsReceiverOf c) xs b.receivers rs a r at in (x.0, (read_is (λ (r : Receiver kinds). r.log) xs a x.0 x.1.0, x.1.1))
 
-  pub has_run : AreLawful → LinksStandInOrder → OnlyRuledCauses → HasRun c b closed
+  pub has_run : AreLawful → LinksStandInOrder → OnlyRuledCauses → HasRun shows c b closed
   has_run rules_are links only =
       let v = views_of R w in
       let s = slow_views R w in
@@ -264,16 +264,16 @@ module _ (c : Config) (b : Returned) (closed : ℕ → Bool) (h : HaveReturned c
         bands = merges_bands kinds R v s went closed lawful e;
         totals = has_totals c v s only reasons went (counts_each_cause kinds R v s went closed lawful e) (shares_of b) (all_raised R w) counted (adds_up kinds R w closed have_ended);
         sources = λ a r at hs is. let x = received_is a r at in x.1.1.tells hs is ∙ ap (λ (l : List (Deed Cause (Arrival kinds))). done_items l) (sym x.1.0);
-        sinks = λ l f at ts is. let x = went_is l f at in x.1.1.law.tells ts is ∙ sym x.1.0;
+        sinks = λ l f at ts is. let x = went_is l f at in x.1.1.law.tells ts is ∙ ap (λ (hs : List (Handed kinds)). map shows hs) (sym x.1.0);
         failed = λ l f at. let x = went_is l f at in x.1.1.law.failures ∙ ap (λ (hs : List (Handed kinds)). f.began + refusals_of hs) (sym x.1.0);
         sent = λ l f at. let x = went_is l f at in forwarded_is f.share x.0.went (pushes x.0.low.taken) (pushes x.0.high.taken) x.1.1.counts ∙ ap (λ (hs : List (Handed kinds)). count (λ (h : Handed kinds). h.took) hs) (sym x.1.0);
         looks = λ a r at. let x = received_is a r at in ap (λ (l : List (Deed Cause (Arrival kinds))). lacks l) x.1.0 ∙ x.1.1.lacked;
       }
 
-pub runs_as_told : AreLawful → LinksStandInOrder → OnlyRuledCauses → RunsAsTold
-runs_as_told rules_are links only c b closed h =
+pub runs_as_told : {T : Type 0} → AreLawful → LinksStandInOrder → OnlyRuledCauses → RunsAsTold T
+runs_as_told rules_are links only shows c b closed h =
     let rs = choose (IsReceiverOf c) (IsBackReceiver c) (receiver_of c) 0 b.receivers h.receivers in
     let ps = choose (IsProcessorOf c) (IsBackProcessor c) (processor_of c) 0 b.processors h.processors in
-    let fs = choose (IsForwarderOf c) (IsBackForwarder c) (forwarder_of c) 0 b.forwarders h.forwarders in
+    let fs = choose (IsForwarderOf shows) (IsBackForwarder shows) (forwarder_of shows) 0 b.forwarders h.forwarders in
     let sl : SlowPath kinds = record { log = h.slow.0.log; taker = b.slow.taker; links = b.slow.links } in
-    has_run c b closed h rs.0 ps.0 sl fs.0 rs.1 ps.1 (record { taker = refl; links = refl; law = (h.slow.0.law, h.slow.1); counts = h.slow.0.counts }) fs.1 rules_are links only
+    has_run shows c b closed h rs.0 ps.0 sl fs.0 rs.1 ps.1 (record { taker = refl; links = refl; law = (h.slow.0.law, h.slow.1); counts = h.slow.0.counts }) fs.1 rules_are links only

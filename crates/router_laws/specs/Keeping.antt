@@ -38,8 +38,8 @@ pub record IsAnswering (c : Config) (taker : Taker (Question kinds)) (senders : 
   pub law : KeepsAnswers (rules c) log taker senders
   pub counts : Counts share (counted_answering {K = kinds} log)
 
--- A forwarder, which began with so many failures of its sink.
-pub record IsForwarding (low high : Taker (Outgoing kinds)) (low_shut high_shut : Bool) (told : Option (List (Handed kinds))) (began failed : ℕ) (share : Held) : Type 0 where
+-- A forwarder, which began with so many failures of its sink; what it hands over its sink shows in its own way.
+pub record IsForwarding {T : Type 0} (shows : Handed kinds → T) (low high : Taker (Outgoing kinds)) (low_shut high_shut : Bool) (told : Option (List T)) (began failed : ℕ) (share : Held) : Type 0 where
   pub went : List (Handed kinds)
-  pub law : KeepsForwarder went (pushes low.taken) (pushes high.taken) low_shut high_shut told began failed
+  pub law : KeepsForwarder shows went (pushes low.taken) (pushes high.taken) low_shut high_shut told began failed
   pub counts : Counts share (counted_forwarding went (pushes low.taken) (pushes high.taken))

@@ -47,21 +47,21 @@ pub record SlowBack : Type 0 where
   pub links : List (Sender (Outgoing kinds))
   pub share : Held
 
-pub record ForwarderBack : Type 0 where
+pub record ForwarderBack (T : Type 0) : Type 0 where
   pub low : Taker (Outgoing kinds)
   pub high : Taker (Outgoing kinds)
   pub low_shut : Bool
   pub high_shut : Bool
-  pub told : Option (List (Handed kinds))
+  pub told : Option (List T)
   pub began : ℕ
   pub failed : ℕ
   pub share : Held
 
-pub record Returned : Type 0 where
+pub record Returned (T : Type 0) : Type 0 where
   pub receivers : List ReceiverBack
   pub processors : List ProcessorBack
   pub slow : SlowBack
-  pub forwarders : List ForwarderBack
+  pub forwarders : List (ForwarderBack T)
   pub controller : List (Sender (Outgoing kinds))
 
 -- one after another, from number n on
@@ -75,22 +75,22 @@ IsBackReceiver c a r = IsReceiving c a (interface_at c a) r.number r.told r.look
 abbrev pub IsBackProcessor : Config → ℕ → ProcessorBack → Type 0
 IsBackProcessor c i p = IsWorking c p.taker None p.links p.slow p.share × (length p.links ≡ 2 * link_count c)
 
-abbrev pub IsBackForwarder : Config → ℕ → ForwarderBack → Type 0
-IsBackForwarder c l f = IsForwarding f.low f.high f.low_shut f.high_shut f.told f.began f.failed f.share
+abbrev pub IsBackForwarder : {T : Type 0} → (Handed kinds → T) → ℕ → ForwarderBack T → Type 0
+IsBackForwarder shows l f = IsForwarding shows f.low f.high f.low_shut f.high_shut f.told f.began f.failed f.share
 
-abbrev pub link_rows : Returned → List (List (Sender (Outgoing kinds)))
+abbrev pub link_rows : {T : Type 0} → Returned T → List (List (Sender (Outgoing kinds)))
 link_rows b = map (λ (p : ProcessorBack). p.links) b.processors ++ (b.slow.links ∷ b.controller ∷ [])
 
 -- in the order in which the book closes them
-abbrev pub shares_of : Returned → List Held
-shares_of b = map (λ (r : ReceiverBack). r.share) b.receivers ++ (map (λ (p : ProcessorBack). p.share) b.processors ++ (b.slow.share ∷ map (λ (f : ForwarderBack). f.share) b.forwarders))
+abbrev pub shares_of : {T : Type 0} → Returned T → List Held
+shares_of b = map (λ (r : ReceiverBack). r.share) b.receivers ++ (map (λ (p : ProcessorBack). p.share) b.processors ++ (b.slow.share ∷ map (λ f. f.share) b.forwarders))
 
 -- What workers, pipes and the controller give.
-pub record HaveReturned (c : Config) (b : Returned) (closed : ℕ → Bool) : Type 0 where
+pub record HaveReturned {T : Type 0} (shows : Handed kinds → T) (c : Config) (b : Returned T) (closed : ℕ → Bool) : Type 0 where
   pub receivers : AllAt (IsBackReceiver c) 0 b.receivers
   pub processors : AllAt (IsBackProcessor c) 0 b.processors
   pub slow : IsAnswering c b.slow.taker b.slow.links b.slow.share × (length b.slow.links ≡ 2 * link_count c)
-  pub forwarders : AllAt (IsBackForwarder c) 0 b.forwarders
+  pub forwarders : AllAt (IsBackForwarder shows) 0 b.forwarders
   pub receiver_count : length b.receivers ≡ link_count c
   pub processor_count : length b.processors ≡ c.processors
   pub forwarder_count : length b.forwarders ≡ link_count c
@@ -98,8 +98,8 @@ pub record HaveReturned (c : Config) (b : Returned) (closed : ℕ → Bool) : Ty
   -- what was taken of each pipe is what its producers had accepted
   pub inner : (i : ℕ) (p : ProcessorBack) → slice_get b.processors i ≡ Some p → (row : List (Sender (Arrival kinds))) × IsColumn i (map (λ (r : ReceiverBack). r.senders) b.receivers) row × TookAll row (pushes p.taker.taken)
   pub middle : TookAll (map (λ (p : ProcessorBack). p.slow) b.processors) (pushes b.slow.taker.taken)
-  pub low : (l : ℕ) (f : ForwarderBack) → slice_get b.forwarders l ≡ Some f → (row : List (Sender (Outgoing kinds))) × IsColumn (2 * l) (link_rows b) row × TookAll row (pushes f.low.taken)
-  pub high : (l : ℕ) (f : ForwarderBack) → slice_get b.forwarders l ≡ Some f → (row : List (Sender (Outgoing kinds))) × IsColumn (2 * l + 1) (link_rows b) row × TookAll row (pushes f.high.taken)
+  pub low : (l : ℕ) (f : ForwarderBack T) → slice_get b.forwarders l ≡ Some f → (row : List (Sender (Outgoing kinds))) × IsColumn (2 * l) (link_rows b) row × TookAll row (pushes f.low.taken)
+  pub high : (l : ℕ) (f : ForwarderBack T) → slice_get b.forwarders l ≡ Some f → (row : List (Sender (Outgoing kinds))) × IsColumn (2 * l + 1) (link_rows b) row × TookAll row (pushes f.high.taken)
   -- the controller pushes only marks, and it alone pushes closing marks
   pub marks : (j : ℕ) (s : Sender (Outgoing kinds)) → slice_get b.controller j ≡ Some s → payloads (pushes s.offers) ≡ []
   pub low_closed : (l : ℕ) (s : Sender (Outgoing kinds)) → slice_get b.controller (2 * l) ≡ Some s → has_mark (pushes s.offers) ≡ closed l
@@ -131,10 +131,10 @@ pub record IsSlowOf (c : Config) (x : SlowPath kinds) (s : SlowBack) : Type 0 wh
   pub law : KeepsAnswers (rules c) x.log x.taker x.links × (length x.links ≡ 2 * link_count c)
   pub counts : Counts s.share (counted_answering {K = kinds} x.log)
 
-pub record IsForwarderOf (c : Config) (l : ℕ) (x : Forwarder kinds) (f : ForwarderBack) : Type 0 where
+pub record IsForwarderOf {T : Type 0} (shows : Handed kinds → T) (l : ℕ) (x : Forwarder kinds) (f : ForwarderBack T) : Type 0 where
   pub low : x.low ≡ f.low
   pub high : x.high ≡ f.high
-  pub law : KeepsForwarder x.went (pushes x.low.taken) (pushes x.high.taken) f.low_shut f.high_shut f.told f.began f.failed
+  pub law : KeepsForwarder shows x.went (pushes x.low.taken) (pushes x.high.taken) f.low_shut f.high_shut f.told f.began f.failed
   pub counts : Counts f.share (counted_forwarding x.went (pushes x.low.taken) (pushes x.high.taken))
 
 abbrev pub Pairs : {X Y : Type 0} → (ℕ → X → Y → Type 0) → ℕ → List X → List Y → Type 0
@@ -143,30 +143,30 @@ Pairs P n (x ∷ xs) (y ∷ ys) = P n x y × Pairs P (n + 1) xs ys
 Pairs P n _ _ = ⊥
 
 -- Workers with their logs, which have the ends that came back.
-pub record AreWorkersOf (c : Config) (w : Workers kinds) (b : Returned) : Type 0 where
+pub record AreWorkersOf {T : Type 0} (shows : Handed kinds → T) (c : Config) (w : Workers kinds) (b : Returned T) : Type 0 where
   pub receivers : Pairs (IsReceiverOf c) 0 w.receivers b.receivers
   pub processors : Pairs (IsProcessorOf c) 0 w.processors b.processors
   pub slow : IsSlowOf c w.slow b.slow
-  pub forwarders : Pairs (IsForwarderOf c) 0 w.forwarders b.forwarders
+  pub forwarders : Pairs (IsForwarderOf shows) 0 w.forwarders b.forwarders
   pub controller : w.controller ≡ b.controller
 
 -- What the threads did, once they have ended and were gathered.
-pub record HasRun (c : Config) (b : Returned) (closed : ℕ → Bool) : Type 0 where
+pub record HasRun {T : Type 0} (shows : Handed kinds → T) (c : Config) (b : Returned T) (closed : ℕ → Bool) : Type 0 where
   pub workers : Workers kinds
-  pub theirs : AreWorkersOf c workers b
+  pub theirs : AreWorkersOf shows c workers b
   pub ended : HasEnded (rules c) (views_of (rules c) workers) (slow_views (rules c) workers) (went_at workers) closed
   pub once : (a n : ℕ) → StandsOnce (rules c) (views_of (rules c) workers) (slow_views (rules c) workers) a n
   pub reasons : HasReasons (rules c) (views_of (rules c) workers) (slow_views (rules c) workers)
   pub bands : (l : ℕ) → l < link_count c → HasMerged (rules c) (views_of (rules c) workers) (went_at workers) l
   pub totals : HasTotals c (views_of (rules c) workers) (slow_views (rules c) workers) (went_at workers) (totals_of (shares_of b))
-  -- what each source told is what its receiver numbered, and each sink tells what it was handed
+  -- what each source told is what its receiver numbered, and each sink shows what it was handed
   pub sources : (a : ℕ) (r : ReceiverBack) → slice_get b.receivers a ≡ Some r → TellsOf a (interface_at c a) r.told (told (views_of (rules c) workers) a)
-  pub sinks : (l : ℕ) (f : ForwarderBack) → slice_get b.forwarders l ≡ Some f → (ts : List (Handed kinds)) → f.told ≡ Some ts → ts ≡ went_at workers l
+  pub sinks : (l : ℕ) (f : ForwarderBack T) → slice_get b.forwarders l ≡ Some f → (ts : List T) → f.told ≡ Some ts → ts ≡ map shows (went_at workers l)
   -- its failures rose by its refusals; its share counts what it took
-  pub failed : (l : ℕ) (f : ForwarderBack) → slice_get b.forwarders l ≡ Some f → f.failed ≡ f.began + refusals_of (went_at workers l)
-  pub sent : (l : ℕ) (f : ForwarderBack) → slice_get b.forwarders l ≡ Some f → forwarded f.share ≡ count (λ (h : Handed kinds). h.took) (went_at workers l)
+  pub failed : (l : ℕ) (f : ForwarderBack T) → slice_get b.forwarders l ≡ Some f → f.failed ≡ f.began + refusals_of (went_at workers l)
+  pub sent : (l : ℕ) (f : ForwarderBack T) → slice_get b.forwarders l ≡ Some f → forwarded f.share ≡ count (λ (h : Handed kinds). h.took) (went_at workers l)
   -- a receiver dropped for want of a buffer as often as it looked for one in vain
   pub looks : (a : ℕ) (r : ReceiverBack) → slice_get b.receivers a ≡ Some r → lacks ((views_of (rules c) workers).received a) ≡ length r.looks
 
-abbrev pub RunsAsTold : Type 0
-RunsAsTold = (c : Config) (b : Returned) (closed : ℕ → Bool) → HaveReturned c b closed → HasRun c b closed
+abbrev pub RunsAsTold : Type 0 → Type 0
+RunsAsTold T = (shows : Handed kinds → T) (c : Config) (b : Returned T) (closed : ℕ → Bool) → HaveReturned shows c b closed → HasRun shows c b closed

@@ -14,8 +14,8 @@ pub fn shares_add_up()
 /// what was handed to the sink is what the sequential router sends of what was received, in order and byte for byte, less what
 /// was dropped; each packet stands at one place; each drop has its reason; nothing is swept of a link that wasn't closed; what
 /// sources told was received, and sinks tell what they were handed; the totals are exact, cause by cause.
-pub fn runs_as_told()
-    ensures { RunsAsTold }
+pub fn runs_as_told<T>()
+    ensures { RunsAsTold T }
 {
     rules_are_lawful();
     links_stand_in_order();

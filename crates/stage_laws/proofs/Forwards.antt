@@ -1,5 +1,5 @@
 -- A forwarder's takes keep its law.
-use Rattle.std.proofs.Common.{◌≡◌, inl, inr, ℕ, ◌+◌, Bool, true, false, not, ◌||◌, cond, List, [], ◌∷◌, ◌++◌, Option, Some, refl, sym, ◌∙◌, ap, subst, arith, append-nil}
+use Rattle.std.proofs.Common.{◌≡◌, inl, inr, ℕ, ◌+◌, Bool, true, false, not, ◌||◌, cond, List, [], ◌∷◌, ◌++◌, map, Option, Some, refl, sym, ◌∙◌, ap, subst, arith, append-nil}
 use Rattle.std.proofs.lemmas.Grind.{flat_map-append}
 use Rattle.std.proofs.lemmas.List.{map-append}
 use Rattle.pipe_order.specs.Kinds.{Kinds}
@@ -95,8 +95,9 @@ module _ {K : Kinds} where
   items_one : (went : List (Handed K)) (h : Handed K) → handed_items (went ++ h ∷ []) ≡ handed_items went ++ h.item ∷ []
   items_one went h = map-append (λ (h : Handed K). h.item) went (h ∷ [])
 
-  told_one : (told told' : Option (List (Handed K))) (went : List (Handed K)) (h : Handed K) → AddsTo told h told' → ((ts : List (Handed K)) → told ≡ Some ts → ts ≡ went) → (ts : List (Handed K)) → told' ≡ Some ts → ts ≡ went ++ h ∷ []
-  told_one told told' went h adds tells ts is = let a = adds ts is in a.2 ∙ ap (λ (xs : List (Handed K)). xs ++ h ∷ []) (tells a.0 a.1)
+  told_one : {T : Type 0} (shows : Handed K → T) (told told' : Option (List T)) (went : List (Handed K)) (h : Handed K) → AddsTo told (shows h) told' → ((ts : List T) → told ≡ Some ts → ts ≡ map shows went)
+      → (ts : List T) → told' ≡ Some ts → ts ≡ map shows (went ++ h ∷ [])
+  told_one {T = T} shows told told' went h adds tells ts is = let a = adds ts is in a.2 ∙ ap (λ (xs : List T). xs ++ shows h ∷ []) (tells a.0 a.1) ∙ sym (map-append shows went (h ∷ []))
 
   refusals_one : (went : List (Handed K)) (h : Handed K) → refusals_of (went ++ h ∷ []) ≡ refusals_of went + cond h.took 0 1
   refusals_one went h =
@@ -108,51 +109,51 @@ module _ {K : Kinds} where
       go m n false e = omega arith
 
   -- nothing was taken yet
-  pub forwards_none : (told : Option (List (Handed K))) (began : ℕ) → ((ts : List (Handed K)) → told ≡ Some ts → ts ≡ []) → KeepsForwarder [] [] [] false false told began began
-  forwards_none told began untold = record { order = (refl, refl); low_mark = refl; high_mark = refl; tells = untold; failures = omega arith }
+  pub forwards_none : {T : Type 0} (shows : Handed K → T) (told : Option (List T)) (began : ℕ) → ((ts : List T) → told ≡ Some ts → ts ≡ []) → KeepsForwarder shows [] [] [] false false told began began
+  forwards_none shows told began untold = record { order = (refl, refl); low_mark = refl; high_mark = refl; tells = untold; failures = omega arith }
 
-  module _ (went : List (Handed K)) (low high : List (Pushed (Outgoing K))) (e : Pushed (Outgoing K)) (low_shut high_shut : Bool) (told told' : Option (List (Handed K))) (began failed failed' : ℕ) where
+  module _ {T : Type 0} (shows : Handed K → T) (went : List (Handed K)) (low high : List (Pushed (Outgoing K))) (e : Pushed (Outgoing K)) (low_shut high_shut : Bool) (told told' : Option (List T)) (began failed failed' : ℕ) where
     -- one is taken of the low pipe, and handed to the sink
-    pub forwards_low : (h : Handed K) → payload_of e.load ≡ h.item ∷ [] → low_shut ≡ false → AddsTo told h told' → failed' ≡ failed + cond h.took 0 1 → KeepsForwarder went low high low_shut high_shut told began failed
-        → KeepsForwarder (went ++ h ∷ []) (low ++ e ∷ []) high false high_shut told' began failed'
+    pub forwards_low : (h : Handed K) → payload_of e.load ≡ h.item ∷ [] → low_shut ≡ false → AddsTo told (shows h) told' → failed' ≡ failed + cond h.took 0 1 → KeepsForwarder shows went low high low_shut high_shut told began failed
+        → KeepsForwarder shows (went ++ h ∷ []) (low ++ e ∷ []) high false high_shut told' began failed'
     forwards_low h is unshut adds fails k =
         let none = sym k.low_mark ∙ unshut in
         record {
           order = subst (λ (xs : List (Outgoing K)). WentOn (low ++ e ∷ []) high xs) (sym (items_one went h)) (went_low low high (handed_items went) e h.item none (no_close e h.item is) is k.order);
           low_mark = open_more low e none (no_close e h.item is);
           high_mark = k.high_mark;
-          tells = told_one told told' went h adds k.tells;
+          tells = told_one shows told told' went h adds k.tells;
           failures = let a = k.failures in let b = refusals_one went h in omega arith;
         }
 
     -- one is taken of the high pipe, and handed to the sink
-    pub forwards_high : (h : Handed K) → payload_of e.load ≡ h.item ∷ [] → high_shut ≡ false → AddsTo told h told' → failed' ≡ failed + cond h.took 0 1 → KeepsForwarder went low high low_shut high_shut told began failed
-        → KeepsForwarder (went ++ h ∷ []) low (high ++ e ∷ []) low_shut false told' began failed'
+    pub forwards_high : (h : Handed K) → payload_of e.load ≡ h.item ∷ [] → high_shut ≡ false → AddsTo told (shows h) told' → failed' ≡ failed + cond h.took 0 1 → KeepsForwarder shows went low high low_shut high_shut told began failed
+        → KeepsForwarder shows (went ++ h ∷ []) low (high ++ e ∷ []) low_shut false told' began failed'
     forwards_high h is unshut adds fails k =
         let none = sym k.high_mark ∙ unshut in
         record {
           order = subst (λ (xs : List (Outgoing K)). WentOn low (high ++ e ∷ []) xs) (sym (items_one went h)) (went_high low high (handed_items went) e h.item none (no_close e h.item is) is k.order);
           low_mark = k.low_mark;
           high_mark = open_more high e none (no_close e h.item is);
-          tells = told_one told told' went h adds k.tells;
+          tells = told_one shows told told' went h adds k.tells;
           failures = let a = k.failures in let b = refusals_one went h in omega arith;
         }
 
-  module _ (went : List (Handed K)) (low high : List (Pushed (Outgoing K))) (e : Pushed (Outgoing K)) (low_shut high_shut : Bool) (told : Option (List (Handed K))) (began failed : ℕ) where
+  module _ {T : Type 0} (shows : Handed K → T) (went : List (Handed K)) (low high : List (Pushed (Outgoing K))) (e : Pushed (Outgoing K)) (low_shut high_shut : Bool) (told : Option (List T)) (began failed : ℕ) where
     -- one is swept of the low pipe
-    pub sweeps_low : low_shut ≡ true → KeepsForwarder went low high low_shut high_shut told began failed → KeepsForwarder went (low ++ e ∷ []) high true high_shut told began failed
+    pub sweeps_low : low_shut ≡ true → KeepsForwarder shows went low high low_shut high_shut told began failed → KeepsForwarder shows went (low ++ e ∷ []) high true high_shut told began failed
     sweeps_low shut k =
         let is = sym k.low_mark ∙ shut in
         record { order = low_silent low high (handed_items went) e (silent_after low e is) k.order; low_mark = shut_after low e is; high_mark = k.high_mark; tells = k.tells; failures = k.failures }
 
     -- one is swept of the high pipe
-    pub sweeps_high : high_shut ≡ true → KeepsForwarder went low high low_shut high_shut told began failed → KeepsForwarder went low (high ++ e ∷ []) low_shut true told began failed
+    pub sweeps_high : high_shut ≡ true → KeepsForwarder shows went low high low_shut high_shut told began failed → KeepsForwarder shows went low (high ++ e ∷ []) low_shut true told began failed
     sweeps_high shut k =
         let is = sym k.high_mark ∙ shut in
         record { order = high_silent low high (handed_items went) e (silent_after high e is) k.order; low_mark = k.low_mark; high_mark = shut_after high e is; tells = k.tells; failures = k.failures }
 
     -- a mark is taken of the low pipe
-    pub marks_low : payload_of e.load ≡ [] → KeepsForwarder went low high low_shut high_shut told began failed → KeepsForwarder went (low ++ e ∷ []) high (low_shut || closes e.load) high_shut told began failed
+    pub marks_low : payload_of e.load ≡ [] → KeepsForwarder shows went low high low_shut high_shut told began failed → KeepsForwarder shows went (low ++ e ∷ []) high (low_shut || closes e.load) high_shut told began failed
     marks_low none k =
         record {
           order = low_silent low high (handed_items went) e (silent_mark low e none) k.order;
@@ -163,7 +164,7 @@ module _ {K : Kinds} where
         }
 
     -- a mark is taken of the high pipe
-    pub marks_high : payload_of e.load ≡ [] → KeepsForwarder went low high low_shut high_shut told began failed → KeepsForwarder went low (high ++ e ∷ []) low_shut (high_shut || closes e.load) told began failed
+    pub marks_high : payload_of e.load ≡ [] → KeepsForwarder shows went low high low_shut high_shut told began failed → KeepsForwarder shows went low (high ++ e ∷ []) low_shut (high_shut || closes e.load) told began failed
     marks_high none k =
         record {
           order = high_silent low high (handed_items went) e (silent_mark high e none) k.order;

@@ -27,11 +27,11 @@ module _ {K : Kinds} where
   abbrev pub refusals_of : List (Handed K) → ℕ
   refusals_of went = count (λ (h : Handed K). not h.took) went
 
--- What a forwarder handed to its sink is what it took of both pipes before their closing marks, and what its sink tells,
--- where it tells.
-pub record KeepsForwarder {K : Kinds} (went : List (Handed K)) (low high : List (Pushed (Outgoing K))) (low_shut high_shut : Bool) (told : Option (List (Handed K))) (began failed : ℕ) : Type 0 where
+-- What a forwarder handed to its sink is what it took of both pipes before their closing marks; its sink, where it tells,
+-- shows just that.
+pub record KeepsForwarder {K : Kinds} {T : Type 0} (shows : Handed K → T) (went : List (Handed K)) (low high : List (Pushed (Outgoing K))) (low_shut high_shut : Bool) (told : Option (List T)) (began failed : ℕ) : Type 0 where
   pub order : WentOn low high (handed_items went)
   pub low_mark : low_shut ≡ has_mark low
   pub high_mark : high_shut ≡ has_mark high
-  pub tells : (ts : List (Handed K)) → told ≡ Some ts → ts ≡ went
+  pub tells : (ts : List T) → told ≡ Some ts → ts ≡ map shows went
   pub failures : failed ≡ began + refusals_of went
