@@ -8,3 +8,5 @@ pub mod ReplyLemmas
 pub mod BackStands
 pub mod ReturnLemmas
 pub mod LawfulWalk
+pub mod StopsLemmas
+pub mod CarriedLemmas

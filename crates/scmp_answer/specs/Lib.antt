@@ -5,3 +5,5 @@ pub mod Reply
 pub mod Outcome
 pub mod Returns
 pub mod Walked
+pub mod Stops
+pub mod Coming

@@ -5,10 +5,13 @@
 mod answer_header;
 mod answering;
 mod arriving;
+mod carrying;
 mod checksum;
 mod laws;
 mod message;
 mod outcome;
+mod stop;
+mod walking;
 mod way_back;
 mod writing;
 
@@ -18,3 +21,5 @@ pub use laws::{
     routers_answer_from_home,
 };
 pub use outcome::{AnswerLen, Answered};
+pub use stop::Stop;
+pub use walking::walk;

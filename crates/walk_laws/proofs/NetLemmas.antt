@@ -128,9 +128,9 @@ pub record ListsAt (x y : Router) (id : ℕ) (l : Link) : Type 0 where
   pub kind : entry.kind ≡ l.kind
 
 -- what is found is in the list, and passes
-record IsFound {X : Type 0} (p : X → Bool) (xs : List X) (x : X) : Type 0 where
-  there : Contains xs x
-  passes : p x ≡ true
+pub record IsFound {X : Type 0} (p : X → Bool) (xs : List X) (x : X) : Type 0 where
+  pub there : Contains xs x
+  pub passes : p x ≡ true
 
 found_in : {X : Type 0} (p : X → Bool) (y : X) (ys : List X) (x : X) → ((find p ys ≡ Some x) → IsFound p ys x) → (b : Bool) → p y ≡ b
     → (if b then Some y else find p ys) ≡ Some x → IsFound p (y ∷ ys) x
@@ -139,7 +139,7 @@ found_in p y ys x rest false is found =
     let r = rest found in
     record { there = (suc r.there.0, (let below = r.there.1 in omega arith), r.there.2); passes = r.passes }
 
-found : {X : Type 0} (p : X → Bool) (xs : List X) (x : X) → find p xs ≡ Some x → IsFound p xs x
+pub found : {X : Type 0} (p : X → Bool) (xs : List X) (x : X) → find p xs ≡ Some x → IsFound p xs x
 found p [] x is = absurd cc
 found p (y ∷ ys) x is = found_in p y ys x (found p ys x) (p y) refl is
 

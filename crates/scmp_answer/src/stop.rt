@@ -1,0 +1,12 @@
+//! A stop of a packet on its way.
+
+use process_packet::{Arrival, Routed};
+
+/// A packet at a router of a net, and what is done with it there.
+#[derive(Debug, Drop)]
+pub struct Stop {
+    /// The router, by its place among the net's configurations.
+    pub router: usize,
+    pub arrival: Arrival,
+    pub routed: Routed,
+}
