@@ -1,3 +1,4 @@
 pub mod Marks
 pub mod Telling
 pub mod Sending
+pub mod EndLemmas

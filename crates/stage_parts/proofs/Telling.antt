@@ -1,7 +1,7 @@
 -- What a source over a list tells, one answer more.
 use Rattle.std.proofs.Common.{◌≡◌, ◌⊎◌, inl, inr, ℕ, zero, suc, ◌+◌, ◌<◌, ◌≤◌, List, [], ◌∷◌, ◌++◌, map, length, take, get_or, Some, refl, sym, ap, ◌∙◌, arith, append-nil}
 use Rattle.stage_laws.specs.Forwards.{AddsTo}
-use Rattle.stage_parts.specs.Heard.{Heard}
+use Rattle.router_laws.specs.Heard.{Heard}
 use Rattle.stage_parts.specs.ListSource.{heard_of, gone}
 use Rattle.stage_parts.specs.declared.list_source.Next.{Next}
 

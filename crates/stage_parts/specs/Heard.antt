@@ -1,15 +1,8 @@
 -- What a source tells.
 use Rattle.std.specs.Prelude.{◌≤◌, ℕ, List, take}
-use Rattle.process_packet.specs.declared.underlay.Underlay.{Underlay}
+use Rattle.router_laws.specs.Heard.{Heard, Gave, WasQuiet, HadFailed, WasAtEnd}
 use Rattle.stage_parts.specs.declared.source.NextLen.{NextLen}
 use Rattle.stage_parts.specs.declared.source.NextLen.TheVariants as next
-
--- one answer of a source: a datagram, with its underlay source, the time and its bytes
-pub data Heard : Type 0 where
-  Gave : Underlay → ℕ → List ℕ → Heard
-  WasQuiet : Heard
-  HadFailed : Heard
-  WasAtEnd : Heard
 
 -- an answer, whose bytes stand at the front of a buffer
 abbrev pub heard : List ℕ → NextLen → Heard

@@ -4,6 +4,7 @@ use Rattle.pipe_order.specs.Item.{Arrival, Outgoing}
 use Rattle.pipe_order.specs.Settled.{Question}
 use Rattle.process_packet.specs.declared.config.Config.{Config}
 use Rattle.process_packet.specs.declared.underlay.Underlay.{Underlay}
+use Rattle.router_laws.specs.Heard.{arrival}
 use Rattle.router_rules.specs.Datagram.{Parcel}
 use Rattle.router_rules.specs.Links.{link_count, link_index}
 use Rattle.router_rules.specs.Rules.{kinds}
@@ -12,9 +13,6 @@ use Rattle.router_rules.specs.Rules.{kinds}
 abbrev pub StandsIn : Option Config → (link interface : ℕ) → Type 0
 StandsIn None link interface = ⊥
 StandsIn (Some c) link interface = (link_index c interface ≡ link) × (link < link_count c)
-
-abbrev pub arrival : (link interface number : ℕ) → Underlay → ℕ → List ℕ → Arrival kinds
-arrival link interface number source now bytes = record { link = link; number = number; datagram = record { interface = interface; source = source; moment = now; bytes = bytes } }
 
 -- the same packet with other bytes
 abbrev pub with_bytes : List ℕ → Arrival kinds → Arrival kinds

@@ -5,3 +5,4 @@ pub mod Items
 pub mod Told
 pub mod ListSink
 pub mod Replying
+pub mod Outlets

@@ -1,6 +1,6 @@
 -- What contracts see of a source over a list.
 use Rattle.std.specs.Prelude.{◌≡◌, ◌==◌, ◌-◌, ◌^◌, ℕ, List, [], ◌∷◌, ◌++◌, map, take, drop, replicate, Option, Some, None, if◌then◌else◌}
-use Rattle.stage_parts.specs.Heard.{Heard, Gave, WasQuiet, HadFailed, WasAtEnd}
+use Rattle.router_laws.specs.Heard.{Heard, Gave, WasQuiet, HadFailed, WasAtEnd}
 use Rattle.stage_parts.specs.declared.list_source.Next.{Next}
 use Rattle.stage_parts.specs.declared.list_source.Next.TheVariants as next
 

@@ -6,7 +6,8 @@ ghost use Rattle.process_packet.specs.Network.{network};
 ghost use Rattle.process_packet.specs.declared.decision.Problem.{Problem as Told};
 ghost use Rattle.router_rules.specs.Rules.{by_decision, decided};
 ghost use Rattle.scion_packet.specs.Packet.{first_fault};
-ghost use Rattle.stage_parts.specs.Items.{StandsIn, arrival, asking, leaving, with_bytes};
+ghost use Rattle.router_laws.specs.Heard.{arrival};
+ghost use Rattle.stage_parts.specs.Items.{StandsIn, asking, leaving, with_bytes};
 
 use crate::buffer::Buffer;
 use crate::parcel::Parcel;
@@ -32,7 +33,8 @@ impl<N: Router> Model for Packet<N> {
     ghost use Rattle.std.specs.Prelude.{◌≡◌, ◌≤◌, length, take};
     ghost use Rattle.pipe_order.specs.Item.{Arrival};
     ghost use Rattle.router_rules.specs.Rules.{kinds};
-    ghost use Rattle.stage_parts.specs.Items.{StandsIn, arrival};
+    ghost use Rattle.router_laws.specs.Heard.{arrival};
+    ghost use Rattle.stage_parts.specs.Items.{StandsIn};
 
     ghost Value = { Arrival kinds };
 

@@ -2,7 +2,8 @@
 
 ghost use Rattle.std.specs.Prelude.{◌≡◌, ◌+◌, ◌-◌, ◌^◌, ◌<◌, ◌≤◌, ℕ, List, Option, length};
 ghost use Rattle.stage_laws.specs.Forwards.{AddsTo};
-ghost use Rattle.stage_parts.specs.Heard.{Heard, failures_of, fits, heard};
+ghost use Rattle.router_laws.specs.Heard.{Heard};
+ghost use Rattle.stage_parts.specs.Heard.{failures_of, fits, heard};
 
 use process_packet::Underlay;
 
@@ -27,7 +28,7 @@ pub enum NextLen {
 /// A source of datagrams.
 pub trait Source {
     ghost use Rattle.std.specs.Prelude.{ℕ, List, Option};
-    ghost use Rattle.stage_parts.specs.Heard.{Heard};
+    ghost use Rattle.router_laws.specs.Heard.{Heard};
 
     /// All its answers so far, where it tells them.
     ghost told: { Self → Option (List Heard) };

@@ -1,5 +1,5 @@
 use Rattle.std.proofs.Common.{◌≡◌, ◌⊎◌, inl, inr, ◌≤◌, List, ℕ, take, length, sym, ap, subst, ◌∙◌, arith}
-use Rattle.stage_parts.specs.Heard.{Gave}
+use Rattle.router_laws.specs.Heard.{Gave}
 use Rattle.stage_parts.specs.ListSource.{heard_of}
 use Rattle.stage_parts.proofs.Telling.{cut_front}
 use Rattle.stage_parts.proofs.list_source.give.Goals as goal

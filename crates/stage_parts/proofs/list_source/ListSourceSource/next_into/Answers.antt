@@ -1,6 +1,7 @@
 use Rattle.std.proofs.Common.{◌≡◌, ◌<◌, ◌+◌, arith, length, sym, subst}
 use Rattle.stage_laws.specs.Forwards.{AddsTo}
-use Rattle.stage_parts.specs.Heard.{Heard, heard}
+use Rattle.router_laws.specs.Heard.{Heard}
+use Rattle.stage_parts.specs.Heard.{heard}
 use Rattle.stage_parts.specs.ListSource.{Listed, gone}
 use Rattle.stage_parts.proofs.Telling.{told_more}
 use Rattle.stage_parts.proofs.list_source.ListSourceSource.next_into.Goals as goal

@@ -1,0 +1,4 @@
+pub mod PoolLemmas
+pub mod Passing
+pub mod RoomLemmas
+pub mod ReceivingLemmas
