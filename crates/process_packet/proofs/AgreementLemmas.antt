@@ -63,9 +63,10 @@ later f x y ys (suc k) other below is = (k, omega arith, is)
 some_of : {X : Type 0} (f : X → Bool) (x y : X) (ys : List X) (b : Bool) → Decides b (x ≡ y) → Decides (list_any f ys) (Contains ys x)
     → Decides (b || list_any f ys) (Contains (y ∷ ys) x)
 some_of f x y ys true one others = (λ e. (0, omega arith, sym (one.0 refl)), λ there. refl)
-some_of f x y ys false one others =
-    (λ e. let there = others.0 e in (suc there.0, (let below = there.1 in omega arith), there.2),
-    λ there. others.1 (later f x y ys there.0 (λ same. let never : false ≡ true = one.1 same in absurd cc) there.1 there.2))
+some_of f x y ys false one others = (
+  λ e. let there = others.0 e in (suc there.0, (let below = there.1 in omega arith), there.2),
+  λ there. others.1 (later f x y ys there.0 (λ same. let never : false ≡ true = one.1 same in absurd cc) there.1 there.2),
+)
 
 -- some element of a list passes
 some : {X : Type 0} (f : X → Bool) (x : X) → ((y : X) → Decides (f y) (x ≡ y)) → (ys : List X) → Decides (list_any f ys) (Contains ys x)
@@ -117,7 +118,7 @@ ip_decides (V4 a) (V6 b) = (λ e. absurd cc, λ is. absurd cc)
 ip_decides (V6 a) (V4 b) = (λ e. absurd cc, λ is. absurd cc)
 ip_decides (V6 a) (V6 b) = by_way (bytes_eq a b) (ap V6) (λ is. cc) (bytes_eq-Decides a b)
 
-underlay_decides : (a b : Underlay) → Decides (same_underlay a b) (a ≡ b)
+pub underlay_decides : (a b : Underlay) → Decides (same_underlay a b) (a ≡ b)
 underlay_decides a b =
     by_way (same_underlay a b)
     (λ h. ap₂ (λ (i : Ip) (p : ℕ). let u : Underlay = record { ip = i; port = p } in u) h.1 h.0)
@@ -131,7 +132,7 @@ service_decides a b =
     (λ is. (ap (λ (s : Service). s.number) is, ap (λ (s : Service). s.at) is))
     (both (a.number == b.number) (same_underlay a.at b.at) (Decides-eqb a.number b.number) (underlay_decides a.at b.at))
 
-end_decides : (a b : End) → Decides (agreement.same_end a b) (a ≡ b)
+pub end_decides : (a b : End) → Decides (agreement.same_end a b) (a ≡ b)
 end_decides a b =
     by_way (agreement.same_end a b)
     (λ h. ap₂ (λ (r l : ℕ). let e : End = record { router = r; link = l } in e) h.0 h.1)
@@ -140,7 +141,7 @@ end_decides a b =
 
 -- ---- routers of one AS
 
-as_decides : (x y : Router) → Decides (agreement.are_of_one_as x.network y.network) (AreOfOneAS x y)
+pub as_decides : (x y : Router) → Decides (agreement.are_of_one_as x.network y.network) (AreOfOneAS x y)
 as_decides x y =
     let m = x.network in
     let n = y.network in
@@ -266,14 +267,14 @@ joined_decides (Some out) (Some into) =
     by_way (a && b && c)
     (λ h. record { out = out; into = into; out_is = refl; into_is = refl; remote = h.0.0; remote_back = h.0.1; kinds = h.1 })
     (λ j.
-        let one = j.out_is in
-        let two = j.into_is in
-        let out_same : j.out ≡ out = cc in
-        let into_same : j.into ≡ into = cc in
-        let remote : out.remote ≡ into.local = sym (ap (λ (l : Link). l.remote) out_same) ∙ j.remote ∙ ap (λ (l : Link). l.local) into_same in
-        let back : into.remote ≡ out.local = sym (ap (λ (l : Link). l.remote) into_same) ∙ j.remote_back ∙ ap (λ (l : Link). l.local) out_same in
-        let kinds : into.kind ≡ opposite out.kind = sym (ap (λ (l : Link). l.kind) into_same) ∙ j.kinds ∙ ap (λ (l : Link). opposite l.kind) out_same in
-        ((remote, back), kinds))
+    let one = j.out_is in
+    let two = j.into_is in
+    let out_same : j.out ≡ out = cc in
+    let into_same : j.into ≡ into = cc in
+    let remote : out.remote ≡ into.local = sym (ap (λ (l : Link). l.remote) out_same) ∙ j.remote ∙ ap (λ (l : Link). l.local) into_same in
+    let back : into.remote ≡ out.local = sym (ap (λ (l : Link). l.remote) into_same) ∙ j.remote_back ∙ ap (λ (l : Link). l.local) out_same in
+    let kinds : into.kind ≡ opposite out.kind = sym (ap (λ (l : Link). l.kind) into_same) ∙ j.kinds ∙ ap (λ (l : Link). opposite l.kind) out_same in
+    ((remote, back), kinds))
     (both (a && b) c (both a b (underlay_decides out.remote into.local) (underlay_decides into.remote out.local)) (opposite_decides out.kind into.kind))
 
 wire_decides : (net : Net) (w : Wire) → Decides (agreement.is_wire net.routers w) (IsWire net w)
@@ -282,34 +283,35 @@ wire_decides net w =
     let i = agreement.link_at net.routers w.other in
     by_way (agreement.is_wire net.routers w)
     (λ h.
-        let j = h.0 in
-        let one = has_link net.routers w.one j.out (slice_get net.routers w.one.router) refl j.out_is in
-        let other = has_link net.routers w.other j.into (slice_get net.routers w.other.router) refl j.into_is in
-        record {
-          one = one.router;
-          other = other.router;
-          one_is = one.router_is;
-          other_is = other.router_is;
-          out = j.out;
-          into = j.into;
-          out_is = one.link_is;
-          into_is = other.link_is;
-          remote = j.remote;
-          remote_back = j.remote_back;
-          kinds = j.kinds;
-          different = h.1;
-        })
+    let j = h.0 in
+    let one = has_link net.routers w.one j.out (slice_get net.routers w.one.router) refl j.out_is in
+    let other = has_link net.routers w.other j.into (slice_get net.routers w.other.router) refl j.into_is in
+    record {
+      one = one.router;
+      other = other.router;
+      one_is = one.router_is;
+      other_is = other.router_is;
+      out = j.out;
+      into = j.into;
+      out_is = one.link_is;
+      into_is = other.link_is;
+      remote = j.remote;
+      remote_back = j.remote_back;
+      kinds = j.kinds;
+      different = h.1;
+    })
     (λ is. (
-        record {
-          out = is.out;
-          into = is.into;
-          out_is = link_found net.routers w.one is.out is.one is.one_is is.out_is;
-          into_is = link_found net.routers w.other is.into is.other is.other_is is.into_is;
-          remote = is.remote;
-          remote_back = is.remote_back;
-          kinds = is.kinds;
-        },
-        is.different))
+      record {
+        out = is.out;
+        into = is.into;
+        out_is = link_found net.routers w.one is.out is.one is.one_is is.out_is;
+        into_is = link_found net.routers w.other is.into is.other is.other_is is.into_is;
+        remote = is.remote;
+        remote_back = is.remote_back;
+        kinds = is.kinds;
+      },
+      is.different,
+    ))
     (both (agreement.are_joined o i) (not (agreement.same_end w.one w.other)) (joined_decides o i)
     (Decides-not (agreement.same_end w.one w.other) (end_decides w.one w.other)))
 

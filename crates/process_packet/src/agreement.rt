@@ -74,10 +74,8 @@ fn lists_router(config: &Config, other: &Config) -> bool
 fn has_service(config: &Config, service: &Service) -> bool
     ensures { result ≡ agreement.has_service config.now.services.items service.now }
 {
-    config
-        .services
-        .iter()
-        .any(|other| service.number == other.number && service.at.is_same(&other.at))
+    config.services.iter().any(|other| service.number == other.number
+        && service.at.is_same(&other.at))
 }
 
 /// Whether the other router is told of each service of this one.
@@ -169,10 +167,8 @@ fn are_apart(one: &Wire, other: &Wire) -> bool
 fn is_apart(wires: &[Wire], place: usize, wire: &Wire) -> bool
     ensures { result ≡ agreement.is_apart wires.now place wire.now }
 {
-    wires
-        .iter()
-        .enumerate()
-        .all(|(other_place, other)| place == other_place || are_apart(wire, other))
+    wires.iter().enumerate().all(|(other_place, other)| place == other_place
+        || are_apart(wire, other))
 }
 
 /// Whether no two wires have an end in common.

@@ -1,6 +1,6 @@
 -- Where a stop's packet is carried to: in a net that agrees a router of the net.
-use Rattle.std.proofs.Common.{◌≡◌, ◌<◌, ◌+◌, ◌&&◌, ◌||◌, ℕ, zero, suc, Bool, true, false, List, [], ◌∷◌, length, get_or, find, position, option_map, Option, Some, None, Contains, refl, sym, ap, subst, ◌∙◌, arith, if◌then◌else◌}
-use Rattle.std.specs.List.{position_from, slice_get}
+use Rattle.std.proofs.Common.{◌≡◌, ◌<◌, ℕ, Bool, true, false, List, [], length, find, option_map, Option, Some, None, Contains, refl, subst, ◌∙◌, if◌then◌else◌}
+use Rattle.std.specs.List.{position_from}
 use Rattle.std.proofs.lemmas.Iterator.Adapters.{position_from-zero}
 use Rattle.std.proofs.lemmas.List.Quantifiers.{position-Some}
 use Rattle.std.proofs.lemmas.Option.{slice_get_within}
@@ -14,8 +14,8 @@ use Rattle.process_packet.specs.declared.neighbours.Link.{Link}
 use Rattle.process_packet.specs.declared.net.End.{End}
 use Rattle.process_packet.specs.declared.net.Wire.{Wire}
 use Rattle.process_packet.specs.declared.underlay.Underlay.{Underlay}
-use Rattle.scmp_answer.specs.Stops.{Came, arrives_over, arrives_within, carried_on, far_end, has_address, has_end, is_for_host, next_from, next_stop, other_end, over_wire, sent_from, within}
-use Rattle.walk_laws.proofs.NetLemmas.{IsFound, found}
+use Rattle.scmp_answer.specs.Stops.{Came, arrives_over, arrives_within, carried_on, has_address, has_end, is_for_host, next_from, next_stop, other_end, over_wire, sent_from}
+use Rattle.walk_laws.proofs.NetLemmas.{found}
 
 -- ---- a router of the net
 

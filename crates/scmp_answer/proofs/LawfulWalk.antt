@@ -1,6 +1,6 @@
 -- What sets out lawfully is delivered, and answers to it come back.
 use Rattle.std.proofs.Common.{◌≡◌, ◌≤◌, ◌<◌, ◌⊎◌, ◌+◌, ◌-◌, ◌*◌, ◌==◌, ◌&&◌, not, ℕ, zero, suc, Bool, true, false, List, length, Some, None, refl, sym, ap, ap₂, subst, ◌∙◌, arith, inl, inr, if◌then◌else◌}
-use Rattle.std.proofs.lemmas.Bool.{cond-false, eq-eqb, eqb-true, ltb-false}
+use Rattle.std.proofs.lemmas.Bool.{cond-false, eq-eqb, eqb-true, ltb-false, ne_eqb}
 use Rattle.process_packet.specs.Rows.{delivered}
 use Rattle.process_packet.specs.Standing.{is_first_of_path, packet}
 use Rattle.process_packet.specs.declared.decision.Problem.{Problem}
@@ -17,13 +17,13 @@ use Rattle.scmp_answer.specs.WayBack.{has_no_way_back, is_external, is_first_of_
 use Rattle.walk_laws.specs.PathSegments.{PathSegment, route_over}
 use Rattle.walk_laws.specs.Hosts.{IsReachedAt}
 use Rattle.walk_laws.specs.LawfulStart.{IsIpHost, IsKnown, ReachesHost, SetsOutOn, WalksBy}
-use Rattle.scmp_answer.specs.Walked.{IsAnswerable, IsAnswered, IsAskedOnTheWay, IsCarriedBack, IsWalked}
+use Rattle.scmp_answer.specs.Walked.{IsAnswerable, IsLawfulStop, IsAnswered, IsAskedOnTheWay, IsCarriedBack, IsWalked}
 use Rattle.process_packet.specs.Net.{Agrees, Net, Router, router_at}
 use Rattle.walk_laws.specs.Domain.{IsOf}
 use Rattle.walk_laws.specs.Domain.{domain_of}
 use Rattle.scmp_answer.specs.Returns.{ComesBack}
 use Rattle.walk_laws.specs.Route.{IsOn, IsRoute, Route, end_of}
-use Rattle.walk_laws.specs.Shown.{turned}
+use Rattle.walk_laws.specs.Shown.{is_for_us, turned}
 use Rattle.walk_laws.specs.Stands.{PacketAt, IsHostOf, IsUnasked, Stands, place_of}
 use Rattle.walk_laws.specs.Start.{outset}
 use Rattle.walk_laws.specs.Stop.{IsAsked, progress, standing, verdict_at}
@@ -73,6 +73,24 @@ at_home net w from b x host stands there last same =
     let here : IsOf x (w.home (end_of w)) = subst (λ (p : Place). IsOf x (w.home p)) (at_end w (place_of b) (on_route net w from b stands) last) (of_its_as net w from b x stands there) in
     subst (λ (h : HostAddress). IsHostOf h (domain_of x)) same (record { isd = d.isd ∙ sym here.isd; autonomous_system = d.autonomous_system ∙ sym here.autonomous_system })
 
+-- and the packet came from outside
+from_outside : (net : Net) (w : Route) (from : Place) (b : PacketAt) → Stands net w from b → is_last_of_path w.segments (place_of b) ≡ true → 1 ≤ b.link
+from_outside net w from b stands last = elim stands.there [
+  | inl o ↦ o.external
+  | inr i ↦
+      let at = place_of b in
+      let two = both (at.position + 1 == hops_in w.segments at.segment) (not (is_followed w.segments at)) last in
+      let is : at.position + 1 ≡ hops_in w.segments at.segment = eqb-true _ _ two.0 in
+      let more = i.more.position in
+      absurd (omega arith)
+]
+
+for_its_as : (b : PacketAt) (x : Router) (moment : ℕ) → 1 ≤ b.link → IsHostOf b.packet.header.destination (domain_of x)
+    → is_for_us (standing x.network b moment (spelling b.packet)) ≡ true
+for_its_as b x moment outside home =
+    ap₂ (λ (p q : Bool). not p && q) (ne_eqb b.link 0 (λ none. absurd (omega arith)))
+    (ap₂ (λ (p q : Bool). p && q) (eq-eqb _ _ home.isd) (eq-eqb _ _ home.autonomous_system))
+
 -- ---- delivered to a host
 
 -- an IPv4 or IPv6 host is known everywhere
@@ -90,6 +108,9 @@ reaches net w from moment n a host d same known =
       here = d.here;
       here_is = d.here_is;
       home = at_home net w from d.end d.here host d.stands d.here_is d.last (ap (λ (h : HeaderFields). h.destination) d.header ∙ same);
+      lawful = d.stands.way.lawful;
+      for_us = for_its_as d.end d.here moment (from_outside net w from d.end d.stands d.last)
+          (at_home net w from d.end d.here d.end.packet.header.destination d.stands d.here_is d.last refl);
       to = known.at;
       address = known.reached;
       sent = p;
@@ -236,6 +257,9 @@ module _ (net : Net) (ss : List PathSegment) (moment : ℕ) (a : PacketAt) (agre
             IsAnswered.back (carried_back net w moment b x here problem a.packet.header.source c (ap (λ (h : HeaderFields). h.source) passed.header) s.from_host)
       ]
 
+  lawful_stop : (b : PacketAt) → Passed net w a b → IsLawfulStop net moment a b
+  lawful_stop b passed = record { lawful = passed.stands.way.lawful; answers = answerable b passed }
+
   start_passed : Passed net w a a
   start_passed =
       let at_first : hop_number w.segments (place_of a) ≡ 0 = ap (hop_number w.segments) s.cursor in
@@ -258,6 +282,9 @@ module _ (net : Net) (ss : List PathSegment) (moment : ℕ) (a : PacketAt) (agre
         here = e.here;
         here_is = e.here_is;
         home = at_home net w outset e.end e.here a.packet.header.destination e.passed.stands e.here_is last (ap (λ (h : HeaderFields). h.destination) e.passed.header);
+        lawful = e.passed.stands.way.lawful;
+        for_us = for_its_as e.end e.here moment (from_outside net w outset e.end e.passed.stands last)
+            (at_home net w outset e.end e.here e.end.packet.header.destination e.passed.stands e.here_is last refl);
         to = known.at;
         address = known.reached;
         sent = p;
@@ -265,7 +292,7 @@ module _ (net : Net) (ss : List PathSegment) (moment : ℕ) (a : PacketAt) (agre
         header = e.passed.header;
         payload = e.passed.payload;
       } in
-      record { reaches = reached; stops = each answerable e.walk }
+      record { reaches = reached; stops = each lawful_stop e.walk }
 
   at_last : (e : EndsBy net w moment a 127 a) → is_last_of_path w.segments (place_of e.end) ≡ true → IsOf e.here (w.home (end_of w))
   at_last e last =
@@ -283,7 +310,7 @@ module _ (net : Net) (ss : List PathSegment) (moment : ℕ) (a : PacketAt) (agre
       let e : EndsBy net w moment a 127 a = walked_by in
       elim e.how [
         | inl last ↦ inl (ended e last.1 last.0 (at_last e last.0))
-        | inr asked ↦ inr (record { end = e.end; stops = each answerable e.walk; here = e.here; here_is = e.here_is; asked = asked_here e asked })
+        | inr asked ↦ inr (record { end = e.end; stops = each lawful_stop e.walk; here = e.here; here_is = e.here_is; asked = asked_here e asked })
       ]
 
   pub starts_walked : IsUnasked w a.packet → IsWalked net moment a

@@ -10,3 +10,4 @@ pub mod ReturnLemmas
 pub mod LawfulWalk
 pub mod StopsLemmas
 pub mod CarriedLemmas
+pub mod WalkStops

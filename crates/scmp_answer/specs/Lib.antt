@@ -7,3 +7,4 @@ pub mod Returns
 pub mod Walked
 pub mod Stops
 pub mod Coming
+pub mod Visits

@@ -1,7 +1,7 @@
 -- What becomes of a packet that sets out lawfully, and of the answers to it.
 use Rattle.std.specs.Prelude.{◌≡◌, ◌⊎◌, ℕ, false, List, Some, None, if◌then◌else◌}
 use Rattle.scion_packet.specs.Header.{HostAddress}
-use Rattle.scion_packet.specs.Packet.{Packet, spelling}
+use Rattle.scion_packet.specs.Packet.{IsPacket, Packet, spelling}
 use Rattle.process_packet.specs.declared.decision.Problem.{Problem}
 use Rattle.scmp_answer.specs.Outcome.{IfSent, IsGood}
 use Rattle.scmp_answer.specs.Reply.{is_left_unanswered, reply}
@@ -41,15 +41,20 @@ IsAnswerable net moment start b =
 
 -- ---- walks
 
+-- the packet is lawful, and may be answered there
+pub record IsLawfulStop (net : Net) (moment : ℕ) (start b : PacketAt) : Type 0 where
+  pub lawful : IsPacket b.packet
+  pub answers : IsAnswerable net moment start b
+
 -- In at most 128 stops the packet is delivered to its destination, and an answer to it from any of them comes back.
 pub record IsWalked (net : Net) (moment : ℕ) (a : PacketAt) : Type 0 where
   pub reaches : ReachesHost net moment 127 a a.packet.header.destination
-  pub stops : WalksBy net moment (IsAnswerable net moment a) 127 a reaches.end
+  pub stops : WalksBy net moment (IsLawfulStop net moment a) 127 a reaches.end
 
 -- Or it is a request, and the last stop's router answers it.
 pub record IsAskedOnTheWay (net : Net) (ss : List PathSegment) (moment : ℕ) (a : PacketAt) : Type 0 where
   pub end : PacketAt
-  pub stops : WalksBy net moment (IsAnswerable net moment a) 127 a end
+  pub stops : WalksBy net moment (IsLawfulStop net moment a) 127 a end
   pub here : Router
   pub here_is : router_at net end.router ≡ Some here
   pub asked : IsAsked (route_over ss) a.packet.header.next_header a.packet.payload (verdict_at here end moment)

@@ -44,7 +44,12 @@ fn own_link(config: &Config, id: u16) -> Option<&Link>
 }
 
 /// By the wire of a link: to its other end, from the link's local address.
-pub(crate) fn over_wire(net: &Net, router: usize, config: &Config, out: u16) -> Option<(End, Underlay)>
+pub(crate) fn over_wire(
+    net: &Net,
+    router: usize,
+    config: &Config,
+    out: u16,
+) -> Option<(End, Underlay)>
     ensures { (bytes : List ℕ) → option_map (stops.came_so bytes) result
         ≡ stops.over_wire net.now.wires.items router out bytes (own_link (network config.now) out) }
 {
@@ -90,7 +95,12 @@ fn is_for_host(config: &Config, link: u16, bytes: &[u8]) -> bool
 }
 
 /// Within the AS: to the router with the address, from this one's own.
-pub(crate) fn within(net: &Net, config: &Config, arrival: &Arrival, to: &Underlay) -> Option<(End, Underlay)>
+pub(crate) fn within(
+    net: &Net,
+    config: &Config,
+    arrival: &Arrival,
+    to: &Underlay,
+) -> Option<(End, Underlay)>
     ensures { (router : ℕ) (bytes : List ℕ) → option_map (stops.came_so bytes) result
         ≡ stops.within (map router_of net.now.configs.items) (router_of config.now) (stops.came_to router arrival.entry.now) to.now bytes }
 {

@@ -4,6 +4,10 @@ ghost use Rattle.std.specs.Prelude.{All, ◌≡◌, ◌<◌, ◌++◌, ◌∷◌
 ghost use Rattle.process_packet.specs.Net.{Agrees, net_of, router_at};
 ghost use Rattle.scmp_answer.specs.Stops.{IsStop, came_by, came_so, came_to, most_stops, sent_from, next_stop, stops_from};
 ghost use Rattle.scmp_answer.specs.Coming as way;
+ghost use Rattle.scmp_answer.specs.Visits.{IsDeliveredBy, starts_at};
+ghost use Rattle.scion_packet.specs.Packet.{Packet, spelling};
+ghost use Rattle.walk_laws.specs.LawfulStart.{LawfulStart};
+ghost use Rattle.walk_laws.specs.PathSegments.{PathSegment};
 
 use crate::carrying::{over_wire, within};
 use crate::stop::Stop;
@@ -141,6 +145,11 @@ pub fn walk(
     ensures stops { IfOk result (λ stops. map came_by stops.items
         ≡ stops_from (net_of net.now) arrival.entry.now.now most_stops (Some (came_to router arrival.entry.now))) }
     ensures routed { IfOk result (λ stops. All (IsStop (net_of net.now) arrival.entry.now.now) stops.items) }
+    // from a lawful start the last stop is delivery, and answers come back from each
+    ensures delivered { let here = arrival.entry.now in
+        (ss : List PathSegment) (p : Packet) → here.bytes.items ≡ spelling p
+        → LawfulStart (net_of net.now) ss here.now (starts_at router here p)
+        → IfOk result (λ stops. IsDeliveredBy (net_of net.now) here.now (starts_at router here p) (map came_by stops.items)) }
 {
     let mut stops = Vec::new(alloc);
     let mut coming = first(alloc, router, arrival)?;

@@ -19,10 +19,10 @@ same_stop b c router link source packet =
 same_link : (l m : Link) (o : Option Link) → o ≡ Some l → o ≡ Some m → l ≡ m
 same_link l m o one other = let is : Some l ≡ Some m = sym one ∙ other in cc
 
-of_one : (x y z : Router) → AreOfOneAS x y → AreOfOneAS x z → AreOfOneAS y z
+pub of_one : (x y z : Router) → AreOfOneAS x y → AreOfOneAS x z → AreOfOneAS y z
 of_one x y z one other = record { isd = sym one.isd ∙ other.isd; autonomous_system = sym one.autonomous_system ∙ other.autonomous_system }
 
-same_number : (net : Net) (r q : ℕ) (y z : Router) → Agrees net → router_at net r ≡ Some y → router_at net q ≡ Some z → AreOfOneAS y z → y.internal ≡ z.internal → r ≡ q
+pub same_number : (net : Net) (r q : ℕ) (y z : Router) → Agrees net → router_at net r ≡ Some y → router_at net q ≡ Some z → AreOfOneAS y z → y.internal ≡ z.internal → r ≡ q
 same_number net r q y z agrees at-r at-q one same =
     elim (cases_eq r q) [ inl is ↦ is | inr other ↦ absurd ((agrees.within r q y z at-r at-q one).internal other same) ]
 

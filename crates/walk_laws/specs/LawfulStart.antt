@@ -1,5 +1,5 @@
 -- A lawful start: a packet that sets out on a path over beaconed segments, and what becomes of it.
-use Rattle.std.specs.Prelude.{◌≡◌, ◌≤◌, ◌<◌, ◌⊎◌, ◌-◌, ℕ, suc, false, List, length, Option, Some, if◌then◌else◌}
+use Rattle.std.specs.Prelude.{true, ◌≡◌, ◌≤◌, ◌<◌, ◌⊎◌, ◌-◌, ℕ, suc, false, List, length, Option, Some, if◌then◌else◌}
 use Rattle.scion_packet.specs.Header.{HostAddress, host_code}
 use Rattle.scion_packet.specs.Packet.{IsPacket, Packet, spelling}
 use Rattle.scion_packet.specs.Path.{Place, count_hops, place_at}
@@ -68,14 +68,16 @@ pub record LawfulStart (net : Net) (ss : List PathSegment) (moment : ℕ) (a : P
 
 -- ---- what becomes of it
 
--- The walk ends in delivery: a router of the host's AS sends the packet, on link 0, to the host's address, with the header and
--- the payload that it had.
+-- The walk ends in delivery: the packet comes from outside to a router of the host's AS, which sends it, on link 0, to the
+-- host's address, with the header and the payload that it had.
 pub record ReachesHost (net : Net) (moment n : ℕ) (a : PacketAt) (host : HostAddress) : Type 0 where
   pub end : PacketAt
   pub walk : Walks net moment n a end
   pub here : Router
   pub here_is : router_at net end.router ≡ Some here
   pub home : IsHostOf host (domain_of here)
+  pub lawful : IsPacket end.packet
+  pub for_us : is_for_us (standing here.network end moment (spelling end.packet)) ≡ true
   pub to : Underlay
   pub address : IsReachedAt here.network host to
   pub sent : Packet

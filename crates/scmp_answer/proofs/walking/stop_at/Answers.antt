@@ -1,5 +1,4 @@
-use Rattle.std.proofs.Common.{Some, refl, sym}
-use Rattle.std.proofs.lemmas.List.{get_or_read}
+use Rattle.std.proofs.Common.{Some, refl}
 use Rattle.process_packet.specs.Net.{router_of}
 use Rattle.scmp_answer.proofs.StopsLemmas.{at_router, looked_up}
 use Rattle.scmp_answer.proofs.walking.stop_at.Goals as goal

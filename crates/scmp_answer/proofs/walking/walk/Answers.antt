@@ -1,4 +1,4 @@
-use Rattle.std.proofs.Common.{All, IfSome, ◌≡◌, ◌<◌, ◌++◌, ◌-◌, ◌+◌, ℕ, List, None, Option, Some, length, map, option_map, ap, sym, subst, ◌∙◌, arith}
+use Rattle.std.proofs.Common.{append-nil, All, IfSome, ◌≡◌, ◌<◌, ◌++◌, ◌-◌, ◌+◌, ℕ, None, Option, Some, length, map, option_map, ap, sym, subst, ◌∙◌, arith}
 use Rattle.std.proofs.lemmas.List.{length-map}
 use Rattle.process_packet.specs.Net.{Net, net_of, router_of}
 use Rattle.scmp_answer.specs.Coming as way
@@ -6,6 +6,7 @@ use Rattle.scmp_answer.specs.Stops.{Came, IsStop, came_by, came_to, next_stop, s
 use Rattle.scmp_answer.specs.declared.walking.Coming.{Coming}
 use Rattle.scmp_answer.proofs.CarriedLemmas.{next_there}
 use Rattle.scmp_answer.proofs.StopsLemmas.{all_made, one_further}
+use Rattle.scmp_answer.proofs.WalkStops.{stops_deliver}
 use Rattle.scmp_answer.proofs.walking.walk.Goals as goal
 
 pub returns-in-None-clause-stops : goal.returns-in-None-clause-stops
@@ -15,9 +16,32 @@ returns-in-None-clause-stops c =
     let here : Came = way.coming c.loop.coming in
     let less = c.loop-test.true in
     let none : next_stop net moment here ≡ None =
-        ap (λ (m : ℕ). next_stop net m here) (sym c.loop.invariant.moment) ∙ sym c.in_ok-next.ensures.next ∙ ap (option_map way.coming) c.in-None.is in
+    ap (λ (m : ℕ). next_stop net m here) (sym c.loop.invariant.moment) ∙ sym c.in_ok-next.ensures.next ∙ ap (option_map way.coming) c.in-None.is in
     all_made net moment 128 c.loop.counter (map came_by c.loop.stops.items) (map came_by c.go_on.new.stops.items) here
     (stops_from net moment 128 (Some (came_to c.args.router c.args.arrival.now))) (omega arith) c.in_ok-next.ensures.came c.loop.invariant.made none
+
+pub returns-in-None-clause-delivered : goal.returns-in-None-clause-delivered
+returns-in-None-clause-delivered c ss p text start =
+    let net : Net = net_of c.args.net.now in
+    let moment = c.args.arrival.now.now in
+    let here : Came = way.coming c.loop.coming in
+    let less = c.loop-test.true in
+    let none : next_stop net moment here ≡ None =
+    ap (λ (m : ℕ). next_stop net m here) (sym c.loop.invariant.moment) ∙ sym c.in_ok-next.ensures.next ∙ ap (option_map way.coming) c.in-None.is in
+    stops_deliver net ss c.args.router c.args.arrival.now p (map came_by c.go_on.new.stops.items) c.requires.agrees text start
+    (all_made net moment 128 c.loop.counter (map came_by c.loop.stops.items) (map came_by c.go_on.new.stops.items) here
+    (stops_from net moment 128 (Some (came_to c.args.router c.args.arrival.now))) (omega arith) c.in_ok-next.ensures.came c.loop.invariant.made none)
+
+pub returns-clause-delivered : goal.returns-clause-delivered
+returns-clause-delivered c ss p text start =
+    let net : Net = net_of c.args.net.now in
+    let moment = c.args.arrival.now.now in
+    let over = c.loop-test.false in
+    let end : 128 - c.loop.counter ≡ 0 = omega arith in
+    stops_deliver net ss c.args.router c.args.arrival.now p (map came_by c.loop.stops.items) c.requires.agrees text start
+    (sym (append-nil (map came_by c.loop.stops.items))
+    ∙ ap (λ (n : ℕ). map came_by c.loop.stops.items ++ stops_from net moment n (Some (way.coming c.loop.coming))) (sym end)
+    ∙ c.loop.invariant.made)
 
 pub returns-in-None-clause-routed : goal.returns-in-None-clause-routed
 returns-in-None-clause-routed c =
@@ -33,9 +57,9 @@ loop-preserved c =
     let here : Came = way.coming c.loop.coming in
     let less = c.loop-test.true in
     let next : next_stop net moment here ≡ Some (way.coming c.in-Some.next) =
-        ap (λ (m : ℕ). next_stop net m here) (sym c.loop.invariant.moment) ∙ sym c.in_ok-next.ensures.next ∙ ap (option_map way.coming) c.in-Some.is in
+    ap (λ (m : ℕ). next_stop net m here) (sym c.loop.invariant.moment) ∙ sym c.in_ok-next.ensures.next ∙ ap (option_map way.coming) c.in-Some.is in
     let when : c.in-Some.next.arrival.now ≡ c.loop.coming.arrival.now =
-        let told = subst (λ (o : Option Coming). IfSome o (λ x. x.arrival.now ≡ c.loop.coming.arrival.now)) c.in-Some.is c.in_ok-next.ensures.moment in told in
+    let told = subst (λ (o : Option Coming). IfSome o (λ x. x.arrival.now ≡ c.loop.coming.arrival.now)) c.in-Some.is c.in_ok-next.ensures.moment in told in
     let below : c.in-Some.next.router < length net.routers = next_there net c.requires.agrees moment here (way.coming c.in-Some.next) next in
     let size : length net.routers ≡ length c.args.net.now.configs.items = length-map c.args.net.now.configs.items router_of in
     record {

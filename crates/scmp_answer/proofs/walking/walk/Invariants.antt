@@ -1,4 +1,4 @@
-use Rattle.std.proofs.Common.{All, ◌≡◌, ◌<◌, ◌++◌, ◌-◌, ℕ, Some, length, map}
+use Rattle.std.proofs.Common.{All, ◌≡◌, ◌<◌, ◌++◌, ◌-◌, Some, length, map}
 use Rattle.process_packet.specs.Net.{net_of}
 use Rattle.scmp_answer.specs.Stops.{IsStop, came_by, came_to, stops_from}
 use Rattle.scmp_answer.specs.Coming as way

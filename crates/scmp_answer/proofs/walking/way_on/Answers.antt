@@ -1,6 +1,6 @@
-use Rattle.std.proofs.Common.{List, ℕ, None, Option, Some, ap, ap₂, sym, ◌∙◌}
+use Rattle.std.proofs.Common.{None, Option, Some, ap, ap₂, sym, ◌∙◌}
 use Rattle.std.proofs.lemmas.Option.{slice_get_past}
-use Rattle.process_packet.specs.Net.{Router, net_of, router_of}
+use Rattle.process_packet.specs.Net.{Router, net_of}
 use Rattle.process_packet.specs.declared.underlay.Underlay.{Underlay}
 use Rattle.scmp_answer.specs.Stops.{came_to, sent_from}
 use Rattle.scmp_answer.proofs.StopsLemmas.{at_router, looked_up}
