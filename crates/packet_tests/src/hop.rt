@@ -1,7 +1,7 @@
 //! Values from outside: a hop field whose MAC was made by OpenSSL, and moments by hand.
 
 use cmac_core::Cmac;
-use hop_check::{chain, expired, mac_input, verify};
+use hop_check::{beacon, chain, expired, mac_input, verify};
 use path_fields::{Hop, Info};
 use sample_packets::KEY;
 

@@ -13,7 +13,7 @@ use Rattle.pipe_order.proofs.Sums.{count-total, total-append}
 use Rattle.process_packet.specs.declared.cause.Cause.{Cause}
 use Rattle.process_packet.specs.declared.config.Config.{Config}
 use Rattle.packet_ledger.specs.Share.{Held, forwarded}
-use Rattle.router_rules.specs.Laws.{AreLawful, LinksStandInOrder, OnlyRuledCauses}
+use Rattle.router_rules.specs.Laws.{AreLawful, CausesAreApart, LinksStandInOrder}
 use Rattle.router_rules.specs.Links.{interface_at, link_count, link_index}
 use Rattle.router_rules.specs.Rules.{kinds, rules, Arrives}
 use Rattle.stage_laws.specs.Ends.{pushes}
@@ -247,8 +247,8 @@ module _ {T : Type 0} (shows : Handed kinds → T) (c : Config) (b : Returned T)
   received_is : (a : ℕ) (r : ReceiverBack) → slice_get b.receivers a ≡ Some r → (x : Receiver kinds) × (((views_of R w).received a ≡ x.log) × IsReceiverOf c a x r)
   received_is a r at = let x = right (IsReceiverOf c) xs b.receivers rs a r at in (x.0, (read_is (λ (r : Receiver kinds). r.log) xs a x.0 x.1.0, x.1.1))
 
-  pub has_run : AreLawful → LinksStandInOrder → OnlyRuledCauses → HasRun shows c b closed
-  has_run rules_are links only =
+  pub has_run : AreLawful → LinksStandInOrder → CausesAreApart → HasRun shows c b closed
+  has_run rules_are links causes =
       let v = views_of R w in
       let s = slow_views R w in
       let went : ℕ → List (Handed kinds) = went_at w in
@@ -262,7 +262,7 @@ module _ {T : Type 0} (shows : Handed kinds → T) (c : Config) (b : Returned T)
         once = stands_each kinds R v s went closed lawful e;
         reasons = reasons;
         bands = merges_bands kinds R v s went closed lawful e;
-        totals = has_totals c v s only reasons went (counts_each_cause kinds R v s went closed lawful e) (shares_of b) (all_raised R w) counted (adds_up kinds R w closed have_ended);
+        totals = has_totals c v s causes reasons went (counts_each_cause kinds R v s went closed lawful e) (shares_of b) (all_raised R w) counted (adds_up kinds R w closed have_ended);
         sources = λ a r at hs is. let x = received_is a r at in x.1.1.tells hs is ∙ ap (λ (l : List (Deed Cause (Arrival kinds))). done_items l) (sym x.1.0);
         sinks = λ l f at ts is. let x = went_is l f at in x.1.1.law.tells ts is ∙ ap (λ (hs : List (Handed kinds)). map shows hs) (sym x.1.0);
         failed = λ l f at. let x = went_is l f at in x.1.1.law.failures ∙ ap (λ (hs : List (Handed kinds)). f.began + refusals_of hs) (sym x.1.0);
@@ -270,10 +270,10 @@ module _ {T : Type 0} (shows : Handed kinds → T) (c : Config) (b : Returned T)
         looks = λ a r at. let x = received_is a r at in ap (λ (l : List (Deed Cause (Arrival kinds))). lacks l) x.1.0 ∙ x.1.1.lacked;
       }
 
-pub runs_as_told : {T : Type 0} → AreLawful → LinksStandInOrder → OnlyRuledCauses → RunsAsTold T
-runs_as_told rules_are links only shows c b closed h =
+pub runs_as_told : {T : Type 0} → AreLawful → LinksStandInOrder → CausesAreApart → RunsAsTold T
+runs_as_told rules_are links causes shows c b closed h =
     let rs = choose (IsReceiverOf c) (IsBackReceiver c) (receiver_of c) 0 b.receivers h.receivers in
     let ps = choose (IsProcessorOf c) (IsBackProcessor c) (processor_of c) 0 b.processors h.processors in
     let fs = choose (IsForwarderOf shows) (IsBackForwarder shows) (forwarder_of shows) 0 b.forwarders h.forwarders in
     let sl : SlowPath kinds = record { log = h.slow.0.log; taker = b.slow.taker; links = b.slow.links } in
-    has_run shows c b closed h rs.0 ps.0 sl fs.0 rs.1 ps.1 (record { taker = refl; links = refl; law = (h.slow.0.law, h.slow.1); counts = h.slow.0.counts }) fs.1 rules_are links only
+    has_run shows c b closed h rs.0 ps.0 sl fs.0 rs.1 ps.1 (record { taker = refl; links = refl; law = (h.slow.0.law, h.slow.1); counts = h.slow.0.counts }) fs.1 rules_are links causes

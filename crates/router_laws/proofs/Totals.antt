@@ -1,5 +1,5 @@
 -- What all shares counted, count by count.
-use Rattle.std.proofs.Common.{◌≡◌, ◌⊎◌, inl, inr, ℕ, zero, suc, ◌+◌, ◌-◌, ◌≤◌, Bool, true, false, eqb, cond, List, [], ◌∷◌, length, Some, slice_get, slice_index_or, refl, sym, ap, ◌∙◌, arith}
+use Rattle.std.proofs.Common.{◌≡◌, ◌⊎◌, inl, inr, ℕ, zero, suc, ◌+◌, ◌-◌, ◌<◌, ◌≤◌, Bool, true, false, eqb, cond, List, [], ◌∷◌, length, Some, slice_get, slice_index_or, refl, sym, ap, ◌∙◌, arith}
 use Rattle.std.specs.Prelude.{fold}
 use Rattle.pipe_order.specs.Counts.{total, count}
 use Rattle.pipe_order.specs.Rules.{Rules}
@@ -19,14 +19,14 @@ use Rattle.process_packet.specs.declared.config.Config.{Config}
 use Rattle.process_packet.specs.declared.totals.Totals.{Totals}
 use Rattle.packet_ledger.specs.Amounts.{count_at, nothing, plus}
 use Rattle.packet_ledger.specs.Share.{Held, posted_by, counts_of}
-use Rattle.router_rules.specs.Laws.{is_ruled, OnlyRuledCauses}
+use Rattle.router_rules.specs.Laws.{is_decided, is_withheld, CausesAreApart}
 use Rattle.router_rules.specs.Rules.{kinds, rules}
 use Rattle.stage_laws.specs.Forwards.{Handed}
 use Rattle.stage_laws.specs.Counting.{Count, Received, Sent, Replied, Dropped}
 use Rattle.stage_laws.specs.Reasons.{HasReasons}
 use Rattle.stage_laws.specs.Causes.{when, was_counted, counted_in, was_sent, was_replied, was_refused, all_counts, by_cause, received_count, ruled_count, no_buffer_count, went_count, swept_count, is_received, is_sent, is_replied, is_dropped, HasCounts}
 use Rattle.router_laws.specs.Shares.{cause_in, place_of, counts_at, times}
-use Rattle.router_laws.specs.Totals.{AreCounted, totals_of, same_cause, HasTotals}
+use Rattle.router_laws.specs.Totals.{AreCounted, totals_of, same_cause, decided_count, HasTotals}
 use Rattle.stage_laws.proofs.Sums.{over}
 use Rattle.router_laws.proofs.Shares.{sum_at, sum_long, nothing_at, number_small}
 
@@ -87,25 +87,59 @@ totals_long shares raised c =
 
 -- ---- causes by their numbers
 
-ruled_small : (why : Cause) → is_ruled why ≡ true → number_of why ≤ 11
-ruled_small cause.Short e = omega arith
-ruled_small cause.Version e = omega arith
-ruled_small cause.PathType e = omega arith
-ruled_small cause.Header e = omega arith
-ruled_small cause.Path e = omega arith
-ruled_small cause.Peering e = omega arith
-ruled_small cause.UnderlaySource e = omega arith
-ruled_small cause.PathEnd e = omega arith
-ruled_small cause.NoAnswer e = omega arith
-ruled_small cause.NoWayBack e = omega arith
-ruled_small cause.TooLong e = omega arith
-ruled_small cause.ProcessorFull e = absurd cc
-ruled_small cause.LinkFull e = absurd cc
-ruled_small cause.AnswerFull e = absurd cc
-ruled_small cause.NoMemory e = absurd cc
-ruled_small cause.Closed e = absurd cc
-ruled_small cause.SendFailed e = absurd cc
-ruled_small cause.NoBuffer e = absurd cc
+decided_is : (why : Cause) → is_decided why ≡ true → (number_of why ≤ 8) ⊎ (number_of why ≡ 11)
+decided_is cause.Short e = inl (omega arith)
+decided_is cause.Version e = inl (omega arith)
+decided_is cause.PathType e = inl (omega arith)
+decided_is cause.Header e = inl (omega arith)
+decided_is cause.Path e = inl (omega arith)
+decided_is cause.Peering e = inl (omega arith)
+decided_is cause.UnderlaySource e = inl (omega arith)
+decided_is cause.PathEnd e = inl (omega arith)
+decided_is cause.NoAnswer e = absurd cc
+decided_is cause.NoWayBack e = absurd cc
+decided_is cause.TooLong e = inr refl
+decided_is cause.ProcessorFull e = absurd cc
+decided_is cause.LinkFull e = absurd cc
+decided_is cause.AnswerFull e = absurd cc
+decided_is cause.NoMemory e = absurd cc
+decided_is cause.Closed e = absurd cc
+decided_is cause.SendFailed e = absurd cc
+decided_is cause.NoBuffer e = absurd cc
+
+withheld_is : (why : Cause) → is_withheld why ≡ true → (9 ≤ number_of why) × (number_of why ≤ 10)
+withheld_is cause.Short e = absurd cc
+withheld_is cause.Version e = absurd cc
+withheld_is cause.PathType e = absurd cc
+withheld_is cause.Header e = absurd cc
+withheld_is cause.Path e = absurd cc
+withheld_is cause.Peering e = absurd cc
+withheld_is cause.UnderlaySource e = absurd cc
+withheld_is cause.PathEnd e = absurd cc
+withheld_is cause.NoAnswer e = (omega arith, omega arith)
+withheld_is cause.NoWayBack e = (omega arith, omega arith)
+withheld_is cause.TooLong e = absurd cc
+withheld_is cause.ProcessorFull e = absurd cc
+withheld_is cause.LinkFull e = absurd cc
+withheld_is cause.AnswerFull e = absurd cc
+withheld_is cause.NoMemory e = absurd cc
+withheld_is cause.Closed e = absurd cc
+withheld_is cause.SendFailed e = absurd cc
+withheld_is cause.NoBuffer e = absurd cc
+
+decided_small : (why : Cause) → is_decided why ≡ true → number_of why ≤ 11
+decided_small why is = go (decided_is why is)
+  where
+    go : (number_of why ≤ 8) ⊎ (number_of why ≡ 11) → number_of why ≤ 11
+    go (inl le) = omega arith
+    go (inr e) = omega arith
+
+apart : (a b : Cause) → is_decided a ≡ true → is_withheld b ≡ true → number_of a ≡ number_of b → ⊥
+apart a b d w same = let z = withheld_is b w in go z.0 z.1 (decided_is a d)
+  where
+    go : 9 ≤ number_of b → number_of b ≤ 10 → (number_of a ≤ 8) ⊎ (number_of a ≡ 11) → ⊥
+    go from to (inl le) = omega arith
+    go from to (inr e) = omega arith
 
 dropped_at : (t : Totals) (why : Cause) → dropped_for t why ≡ count_at (2 + number_of why) t
 dropped_at t cause.Short = refl
@@ -189,11 +223,11 @@ times_as i test same ks = total_same (counts_at i) (λ k. cond (test k) 1 0) ks 
 
 -- ---- reasons
 
-counted_zero : {X : Type 0} (test : Cause → Bool) (log : List (Deed Cause X)) → ((c : Cause) → is_ruled c ≡ true → test c ≡ false) → Each (λ (d : Deed Cause X). if_counted d.end (λ c. is_ruled c ≡ true)) log → counted_in test log ≡ 0
-counted_zero test [] none all = refl
-counted_zero test (d ∷ log) none all = let r = counted_zero test log none all.1 in let z = go d.end all.0 in omega arith
+counted_zero : {X : Type 0} (P : Cause → Type 0) (test : Cause → Bool) (log : List (Deed Cause X)) → ((c : Cause) → P c → test c ≡ false) → Each (λ (d : Deed Cause X). if_counted d.end P) log → counted_in test log ≡ 0
+counted_zero P test [] none all = refl
+counted_zero P test (d ∷ log) none all = let r = counted_zero P test log none all.1 in let z = go d.end all.0 in omega arith
   where
-    go : (o : Ending Cause) → if_counted o (λ c. is_ruled c ≡ true) → was_counted test o ≡ zero
+    go : (o : Ending Cause) → if_counted o P → was_counted test o ≡ zero
     go Accepted h = refl
     go Refused h = refl
     go Lacked h = refl
@@ -214,19 +248,41 @@ counted_as Refused f p = tt
 counted_as Lacked f p = tt
 counted_as (Counted c) f p = f c p
 
-module _ (c : Config) (v : Views kinds) (s : SlowViews kinds) (only : OnlyRuledCauses) (reasons : HasReasons (rules c) v s) where
+module _ (c : Config) (v : Views kinds) (s : SlowViews kinds) (causes : CausesAreApart) (reasons : HasReasons (rules c) v s) where
   abbrev R : Rules kinds
   R = rules c
 
-  ruled_zero : (test : Cause → Bool) → ((why : Cause) → is_ruled why ≡ true → test why ≡ false) → ruled_count R v s test ≡ 0
-  ruled_zero test none =
-      let a = sum_below R.links (λ p. counted_in test (v.received p)) (λ p. 0)
-      (λ p lt. counted_zero test (v.received p) none (each_map (λ (d : Deed Cause (Arrival kinds)) h. counted_as d.end (λ why is. only.0 c d.item.datagram why is) h.1) (v.received p) (reasons.receivers p lt))) in
-      let b = sum_below R.processors (λ i. counted_in test (v.worked i)) (λ i. 0)
-      (λ i lt. counted_zero test (v.worked i) none (each_map (λ (d : Deed Cause (Arrival kinds)) h. counted_as d.end (λ why is. only.0 c d.item.datagram why is) h.1) (v.worked i) (reasons.processors i lt))) in
-      let e = counted_zero test s.worked none (each_map (λ (d : Deed Cause (Question kinds)) h. counted_as d.end (λ why is. only.1 c d.item.arrival.datagram d.item.problem why is) h.1) s.worked reasons.slow) in
+  abbrev IsOwn : Cause → Type 0
+  IsOwn why = is_decided why ≡ true
+
+  abbrev IsReplys : Cause → Type 0
+  IsReplys why = is_withheld why ≡ true
+
+  received_for : (p : ℕ) → p < R.links → Each (λ (d : Deed Cause (Arrival kinds)). if_counted d.end IsOwn) (v.received p)
+  received_for p lt = each_map (λ (d : Deed Cause (Arrival kinds)) h. counted_as d.end (λ why is. (causes c).decision d.item.datagram why is) h.1) (v.received p) (reasons.receivers p lt)
+
+  worked_for : (i : ℕ) → i < R.processors → Each (λ (d : Deed Cause (Arrival kinds)). if_counted d.end IsOwn) (v.worked i)
+  worked_for i lt = each_map (λ (d : Deed Cause (Arrival kinds)) h. counted_as d.end (λ why is. (causes c).decision d.item.datagram why is) h.1) (v.worked i) (reasons.processors i lt)
+
+  answered_for : Each (λ (d : Deed Cause (Question kinds)). if_counted d.end IsReplys) s.worked
+  answered_for = each_map (λ (d : Deed Cause (Question kinds)) h. counted_as d.end (λ why is. (causes c).reply d.item.arrival.datagram d.item.problem why is) h.1) s.worked reasons.slow
+
+  -- no receiver and no processor counts for a cause that isn't its own, and the slow path for none but the reply's
+  decided_zero : (test : Cause → Bool) → ((why : Cause) → is_decided why ≡ true → test why ≡ false) → decided_count R v test ≡ 0
+  decided_zero test none =
+      let a = sum_below R.links (λ p. counted_in test (v.received p)) (λ p. 0) (λ p lt. counted_zero IsOwn test (v.received p) none (received_for p lt)) in
+      let b = sum_below R.processors (λ i. counted_in test (v.worked i)) (λ i. 0) (λ i lt. counted_zero IsOwn test (v.worked i) none (worked_for i lt)) in
       let y = sum_zero R.links in
       let z = sum_zero R.processors in
+      omega arith
+
+  withheld_zero : (test : Cause → Bool) → ((why : Cause) → is_withheld why ≡ true → test why ≡ false) → counted_in test s.worked ≡ 0
+  withheld_zero test none = counted_zero IsReplys test s.worked none answered_for
+
+  ruled_zero : (test : Cause → Bool) → ((why : Cause) → number_of why ≤ 11 → test why ≡ false) → ruled_count R v s test ≡ 0
+  ruled_zero test none =
+      let a = decided_zero test (λ why is. none why (decided_small why is)) in
+      let b = withheld_zero test (λ why is. none why (let w = (withheld_is why is).1 in omega arith)) in
       omega arith
 
   ruled_agree : (test other : Cause → Bool) → ((why : Cause) → test why ≡ other why) → ruled_count R v s test ≡ ruled_count R v s other
@@ -247,15 +303,14 @@ module _ (c : Config) (v : Views kinds) (s : SlowViews kinds) (only : OnlyRuledC
     count_is i = shares_add_up shares raised counted i ∙ total_same (times i) (λ ks. count (at_place i) ks) raised (times_are i) ∙ adds (at_place i) ∙ counts.each (at_place i)
 
     none_ruled : (i : ℕ) → 14 ≤ i → ruled_count R v s (λ why. eqb (2 + number_of why) i) ≡ 0
-    none_ruled i ge = ruled_zero (λ why. eqb (2 + number_of why) i) (λ why is. ne_eqb (2 + number_of why) i (λ e. let small = ruled_small why is in omega arith))
+    none_ruled i ge = ruled_zero (λ why. eqb (2 + number_of why) i) (λ why small. ne_eqb (2 + number_of why) i (λ e. omega arith))
 
     first_ruled : (i : ℕ) → i ≤ 2 → ruled_count R v s (λ why. eqb (2 + number_of why) i) ≡ 0
     first_ruled i le = ruled_zero (λ why. eqb (2 + number_of why) i) (λ why is. ne_eqb (2 + number_of why) i (λ e. let small = (number_small why).0 in omega arith))
 
-    ruled_is : (why : Cause) → is_ruled why ≡ true → dropped_for t why ≡ ruled_count R v s (λ b. same_cause b why)
-    ruled_is why is =
+    ruled_is : (why : Cause) → number_of why ≤ 11 → dropped_for t why ≡ ruled_count R v s (λ b. same_cause b why)
+    ruled_is why small =
         let n : ℕ = number_of why in
-        let small = ruled_small why is in
         let least = (number_small why).0 in
         let all = dropped_at t why ∙ count_is (2 + n) in
         let same = ruled_agree (λ b. eqb (2 + number_of b) (2 + number_of why)) (λ b. same_cause b why) (λ b. eq_more (number_of b) (number_of why)) in
@@ -295,7 +350,12 @@ module _ (c : Config) (v : Views kinds) (s : SlowViews kinds) (only : OnlyRuledC
       received = let a = count_is 0 in let z = first_ruled 0 (omega arith) in omega arith;
       sent = let a = count_is 1 in let z = first_ruled 1 (omega arith) in omega arith;
       answered = let a = count_is 2 in let z = first_ruled 2 (omega arith) in omega arith;
-      ruled = ruled_is;
+      decided = λ why is.
+          let a = ruled_is why (decided_small why is) in
+          let z = withheld_zero (λ b. same_cause b why) (λ b w. ne_eqb (number_of b) (number_of why) (λ e. apart why b is w (sym e))) in omega arith;
+      withheld = λ why is.
+          let a = ruled_is why (let w = (withheld_is why is).1 in omega arith) in
+          let z = decided_zero (λ b. same_cause b why) (λ b d. ne_eqb (number_of b) (number_of why) (λ e. apart b why d is e)) in omega arith;
       processor_full = let a = count_is 14 in let z = none_ruled 14 (omega arith) in omega arith;
       link_full = let a = count_is 15 in let z = none_ruled 15 (omega arith) in omega arith;
       answer_full = let a = count_is 16 in let z = none_ruled 16 (omega arith) in omega arith;

@@ -2,7 +2,8 @@
 use Rattle.std.specs.Prelude.{◌≡◌, ◌+◌, ◌==◌, ℕ, Bool, true, List, [], ◌∷◌}
 use Rattle.pipe_order.specs.Counts.{total}
 use Rattle.pipe_order.specs.Settled.{Views}
-use Rattle.pipe_order.specs.Counted.{SlowViews, full_processors, full_links, full_slow}
+use Rattle.pipe_order.specs.Rules.{Rules}
+use Rattle.pipe_order.specs.Counted.{sum_to, SlowViews, full_processors, full_links, full_slow}
 use Rattle.process_packet.specs.Cause.{number_of}
 use Rattle.process_packet.specs.Totals.{dropped_for}
 use Rattle.process_packet.specs.declared.cause.Cause.{Cause}
@@ -11,11 +12,11 @@ use Rattle.process_packet.specs.declared.config.Config.{Config}
 use Rattle.process_packet.specs.declared.totals.Totals.{Totals}
 use Rattle.packet_ledger.specs.Amounts.{count_at, plus}
 use Rattle.packet_ledger.specs.Share.{Held, posted_by, counts_of}
-use Rattle.router_rules.specs.Laws.{is_ruled}
+use Rattle.router_rules.specs.Laws.{is_decided, is_withheld}
 use Rattle.router_rules.specs.Rules.{kinds, rules}
 use Rattle.stage_laws.specs.Forwards.{Handed}
 use Rattle.stage_laws.specs.Counting.{Count}
-use Rattle.stage_laws.specs.Causes.{was_sent, was_replied, was_refused, received_count, ruled_count, no_buffer_count, went_count, swept_count}
+use Rattle.stage_laws.specs.Causes.{counted_in, was_sent, was_replied, was_refused, received_count, no_buffer_count, went_count, swept_count}
 use Rattle.router_laws.specs.Shares.{times, Counts}
 
 -- share by share
@@ -34,13 +35,18 @@ SharesAddUp = (shares : List Held) (raised : List (List (Count kinds))) → AreC
 abbrev pub same_cause : Cause → Cause → Bool
 same_cause a b = number_of a == number_of b
 
+-- by receivers and processors
+abbrev pub decided_count : Rules kinds → Views kinds → (Cause → Bool) → ℕ
+decided_count R v test = sum_to R.links (λ p. counted_in test (v.received p)) + sum_to R.processors (λ i. counted_in test (v.worked i))
+
 -- Each count of the totals.
 pub record HasTotals (c : Config) (v : Views kinds) (s : SlowViews kinds) (went : ℕ → List (Handed kinds)) (t : Totals) : Type 0 where
   pub received : t.received ≡ received_count (rules c) v
   pub sent : t.sent ≡ went_count (rules c) went was_sent
   pub answered : t.answered ≡ went_count (rules c) went was_replied
-  -- dropped by the decision, or with the answer withheld
-  pub ruled : (why : Cause) → is_ruled why ≡ true → dropped_for t why ≡ ruled_count (rules c) v s (λ b. same_cause b why)
+  -- dropped by the inspection or the decision, and with the answer withheld
+  pub decided : (why : Cause) → is_decided why ≡ true → dropped_for t why ≡ decided_count (rules c) v (λ b. same_cause b why)
+  pub withheld : (why : Cause) → is_withheld why ≡ true → dropped_for t why ≡ counted_in (λ b. same_cause b why) s.worked
   -- refused at a processor's pipe, a link's, the slow path's
   pub processor_full : dropped_for t cause.ProcessorFull ≡ full_processors (rules c) v
   pub link_full : dropped_for t cause.LinkFull ≡ full_links (rules c) v s

@@ -3,7 +3,7 @@
 ghost use Rattle.router_laws.specs.Returned.{RunsAsTold};
 ghost use Rattle.router_laws.specs.Totals.{SharesAddUp};
 
-use router_rules::{links_stand_in_order, only_ruled_causes, rules_are_lawful};
+use router_rules::{causes_are_apart, links_stand_in_order, rules_are_lawful};
 
 /// Shares that each hold or posted what was raised on them sum up, count by count, to all that was raised.
 pub fn shares_add_up()
@@ -19,5 +19,5 @@ pub fn runs_as_told<T>()
 {
     rules_are_lawful();
     links_stand_in_order();
-    only_ruled_causes();
+    causes_are_apart();
 }

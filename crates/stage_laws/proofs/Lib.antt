@@ -12,3 +12,4 @@ pub mod Places
 pub mod Causes
 pub mod Composed
 pub mod Sums
+pub mod SmallRun

@@ -13,3 +13,4 @@ pub mod Places
 pub mod Reasons
 pub mod Causes
 pub mod Sums
+pub mod Example
