@@ -5,7 +5,7 @@ use Rattle.pipe_order.specs.Item.{Arrived}
 use Rattle.pipe_order.specs.Worker.{Receiver, Processor, Slow, Forwarder, Controller, Of, High}
 use Rattle.pipe_order.specs.Pipe.{Entry, empty_pipe}
 use Rattle.pipe_order.specs.Rules.{Rules, Sends, Asks, Replies, IsLawful}
-use Rattle.pipe_order.specs.World.{World, Cause, Fate}
+use Rattle.pipe_order.specs.World.{World, Cause, Fate, pipe}
 use Rattle.pipe_order.specs.Step.{Step}
 use Rattle.pipe_order.specs.Run.{run, skipped_from}
 use Rattle.pipe_order.specs.Start.{first_world}
@@ -89,7 +89,7 @@ full_queue =
 abbrev pub FullQueue : Type 0
 FullQueue =
     (numbers_sent full_queue 2 ≡ 1 ∷ 3 ∷ []) × (full_queue.fates ≡ fate 2 Cause.ProcessorFull ∷ []) ×
-    (counts false full_queue ≡ 3 ∷ 2 ∷ 0 ∷ 0 ∷ [])
+    (counts false full_queue ≡ 3 ∷ 2 ∷ 0 ∷ 0 ∷ []) × ((pipe full_queue 4).refusals ≡ (record { link = 1; number = 2; length = 1; taken = 0 }) ∷ [])
 
 -- between two packets the link is closed: a second mark isn't possible, nor a take behind it
 abbrev closing : List Step
@@ -114,6 +114,12 @@ two_flows =
 abbrev pub TwoFlows : Type 0
 TwoFlows = (numbers_sent two_flows 2 ≡ 2 ∷ []) × (two_flows.fates ≡ fate 1 Cause.SendFailed ∷ [])
 
+-- of two faulty packets the second finds the slow path's pipe full
+abbrev full_slow_path : World samples
+full_slow_path =
+    run (rules false) (begun false 1 (arrived 1 expired ∷ arrived 2 expired ∷ []))
+    (arrive ++ process 0 ++ arrive ++ (Step.Take (Of (Processor 0)) ∷ Step.Route 0 ∷ Step.Refuse (Processor 0) ∷ []))
+
 -- a faulty packet is answered
 abbrev answering : List Step
 answering = arrive ++ process 0 ++ (Step.Take (Of Slow) ∷ Step.Answer ∷ Step.Offer Slow ∷ []) ++ forward 1 true
@@ -124,7 +130,8 @@ one_faulty = begun false 4 (arrived 1 expired ∷ [])
 abbrev pub Answers : Type 0
 Answers =
     (numbers_sent (run (rules false) one_faulty answering) 1 ≡ 1 ∷ []) × (counts false (run (rules false) one_faulty answering) ≡ 1 ∷ 0 ∷ 1 ∷ 0 ∷ []) ×
-    (places (rules false) 1 1 (run (rules false) one_faulty (arrive ++ process 0)) ≡ InPipe Slow ∷ [])
+    (places (rules false) 1 1 (run (rules false) one_faulty (arrive ++ process 0)) ≡ InPipe Slow ∷ []) ×
+    (full_slow_path.fates ≡ fate 2 Cause.AnswerFull ∷ [])
 
 -- the urgent packet, which arrived second, leaves first: without a look at the high pipe the low one isn't taken from, the
 -- high one isn't seen empty while it holds a packet, and each take uses the look up

@@ -6,7 +6,7 @@ pub returns-clause-lawful : goal.returns-clause-lawful
 returns-clause-lawful c = lawful
 
 pub returns-clause-full_queue : goal.returns-clause-full_queue
-returns-clause-full_queue c = (refl, refl, refl)
+returns-clause-full_queue c = (refl, refl, refl, refl)
 
 pub returns-clause-closed_link : goal.returns-clause-closed_link
 returns-clause-closed_link c = (refl, refl, refl, refl)
@@ -15,7 +15,7 @@ pub returns-clause-two_flows : goal.returns-clause-two_flows
 returns-clause-two_flows c = (refl, refl)
 
 pub returns-clause-answers : goal.returns-clause-answers
-returns-clause-answers c = (refl, refl, refl)
+returns-clause-answers c = (refl, refl, refl, refl)
 
 pub returns-clause-two_bands : goal.returns-clause-two_bands
 returns-clause-two_bands c = (refl, refl)
