@@ -2,3 +2,6 @@ pub mod PoolLemmas
 pub mod Passing
 pub mod RoomLemmas
 pub mod ReceivingLemmas
+pub mod ExitsLemmas
+pub mod UsedLemmas
+pub mod WorkingLemmas

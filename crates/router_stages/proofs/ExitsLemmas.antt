@@ -1,0 +1,37 @@
+-- Offers and buffers that go back.
+use Rattle.std.proofs.Common.{◌≡◌, ◌⊎◌, inl, inr, ℕ, zero, suc, ◌+◌, ◌*◌, ◌<◌, Bool, true, false, cond, ◌&&◌, List, [], ◌∷◌, length, slice_index_or, slice_set, refl, sym, ap, subst, ◌∙◌, arith}
+use Rattle.packet_ledger.specs.Share.{Held, counting, with_fate}
+use Rattle.pipe_order.specs.Item.{Outgoing}
+use Rattle.process_packet.specs.declared.cause.Cause.TheVariants as cause
+use Rattle.process_packet.specs.declared.config.Config.{Config}
+use Rattle.router_rules.specs.Links.{has_two_bands, link_count}
+use Rattle.router_rules.specs.Rules.{is_urgent, kinds}
+use Rattle.ruled_pipe.specs.declared.entry.Load.TheVariants.{Payload}
+use Rattle.ruled_pipe.specs.Producer.{Sender, entry, offered, refused}
+use Rattle.stage_laws.specs.Works.{SentOn, TurnedAway}
+use Rattle.stage_laws.proofs.Works.{set_length}
+use Rattle.stage_parts.specs.Outlet.{Offering}
+use Rattle.stage_parts.specs.Outlets.{GaveAt, KeptAt}
+use Rattle.router_stages.specs.Exits.{Leaving, GaveBack, SentAs, pipe_for}
+
+pub back_long : (k : ℕ) (old new : List (Sender (Unit {0}))) → k < length old → GaveBack k old new → length new ≡ length old
+back_long k [] new lt g = absurd (omega arith)
+back_long k (s ∷ old) new lt (inl g) = ap length (g s) ∙ set_length (s ∷ old) k (offered (slice_index_or (s ∷ old) k s) (entry (slice_index_or (s ∷ old) k s).number (Payload tt)))
+back_long k (s ∷ old) new lt (inr g) = ap length (g s) ∙ set_length (s ∷ old) k (refused (slice_index_or (s ∷ old) k s) (entry (slice_index_or (s ∷ old) k s).number (Payload tt)))
+
+two_below : (l n : ℕ) (b : Bool) → l < n → 2 * l + cond b 1 0 < 2 * n
+two_below l n true lt = omega arith
+two_below l n false lt = omega arith
+
+pub pipe_below : (c : Config) (o : Outgoing kinds) (at long : ℕ) → o.link < link_count c → at ≡ pipe_for c o → long ≡ 2 * link_count c → at < long
+pipe_below c o at long lt is all = let b = two_below o.link (link_count c) (has_two_bands c o.link && is_urgent o.parcel.bytes) lt in omega arith
+
+-- what was refused is dropped
+pub sent_not : (c : Config) (links after : List (Offering (Outgoing kinds))) (free back : List (Sender (Unit {0}))) (share counted : Held) (o p : Outgoing kinds) (at link : ℕ) → at ≡ pipe_for c o → KeptAt at o links after → p ≡ o → link ≡ p.arrived → GaveBack link free back
+    → counted ≡ counting share (with_fate cause.LinkFull share.counts)
+    → SentAs o (record { config = c; links = links; free = free; share = share }) (record { config = c; links = after; free = back; share = counted })
+sent_not c links after free back share counted o p at link is kept same arrived gave counts =
+    inr (
+      subst (λ (k : ℕ). KeptAt k o links after) is kept,
+      (subst (λ (k : ℕ). GaveBack k free back) (arrived ∙ ap (λ (q : Outgoing kinds). q.arrived) same) gave, ap (λ (s : Held). record { config = c; links = after; free = back; share = s }) counts),
+    )

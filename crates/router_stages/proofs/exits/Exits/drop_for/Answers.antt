@@ -1,0 +1,13 @@
+use Rattle.std.proofs.Common.{◌≡◌, ◌<◌, ◌∙◌, length, subst, sym, arith}
+use Rattle.std.specs.Arc.{arc_value}
+use Rattle.router_rules.specs.Links.{link_count}
+use Rattle.router_stages.specs.Exits.{Leaving}
+use Rattle.router_stages.proofs.ExitsLemmas.{back_long}
+use Rattle.router_stages.proofs.exits.Exits.drop_for.Goals as goal
+
+pub invariant_of-self : goal.invariant_of-self
+invariant_of-self g c =
+    let inv = c.self.invariant in
+    let below : c.args.link < link_count (arc_value c.self.inside.shared).config = subst (λ (l : Leaving). c.args.link < link_count l.config) (sym c.self.view_is) c.requires.there in
+    let there : c.args.link < length c.self.inside.free.items = let n = inv.2 in omega arith in
+    (inv.0, inv.1, back_long c.args.link c.self.inside.free.items c.give_back.new.free.items there c.give_back.ensures ∙ inv.2)

@@ -1,0 +1,191 @@
+//! What a processor and the slow path do with what they made of a packet.
+
+ghost use Rattle.std.specs.Prelude.{◌≡◌, false, ◌+◌, ◌*◌, ◌<◌, ◌⊎◌, MatchBool, length, ◌&&◌};
+ghost use Rattle.packet_ledger.specs.Share.{HasRoom, MayRaise, emptied};
+ghost use Rattle.router_rules.specs.Links.{has_two_bands, link_count};
+ghost use Rattle.router_stages.specs.Exits.{DroppedAs, GaveBack, SentAs, TriedLink, is_used, pipe_for, with_links, with_share};
+ghost use Rattle.router_stages.specs.Working.{AskedAs, PassedOn};
+ghost use Rattle.stage_parts.specs.Items.{StandsIn};
+ghost use Rattle.stage_parts.specs.Outlets.{AreOpen, Trying};
+
+use packet_ledger::{Book, Share};
+use process_packet::{Cause, Decision};
+use router_rules::{Shared, rules_are_lawful};
+use ruled_pipe::{Full, Producer};
+use stage_parts::{Buffer, Outlet, Packet, Parcel, Question, Router, end_at, offer_at};
+use std::alloc::Global;
+use std::marker::Model;
+use std::sync::{Arc, Wait};
+
+/// The ends of the links' pipes, two of each link, and of their pipes of free buffers, with the counts.
+#[derive(Drop)]
+pub struct Exits<N: Router, R> {
+    pub(crate) rt: R,
+    pub(crate) shared: Arc<Shared, Global>,
+    pub(crate) links: Vec<Outlet<Parcel<N>>>,
+    pub(crate) free: Vec<Producer<Buffer>>,
+    pub(crate) share: Share<N>,
+}
+
+impl<N: Router, R> Model for Exits<N, R> {
+    ghost use Rattle.std.specs.Prelude.{◌≡◌, ◌*◌, length, Some};
+    ghost use Rattle.std.specs.Arc.{arc_value};
+    ghost use Rattle.router_rules.specs.Links.{link_count};
+    ghost use Rattle.router_stages.specs.Exits.{Leaving};
+
+    ghost Value = { Leaving };
+
+    ghost view = { λ e. record { config = (arc_value e.shared).config; links = e.links.items; free = e.free.items; share = e.share } };
+
+    ghost invariant = { λ e. (N.config ≡ Some (arc_value e.shared).config) × (length e.links.items ≡ 2 * link_count (arc_value e.shared).config) × (length e.free.items ≡ link_count (arc_value e.shared).config) };
+}
+
+// Offers a buffer to the free ones of a link. One that is refused is let go.
+fn give_back<R: Wait>(rt: &R, free: &mut Vec<Producer<Buffer>>, link: u16, buffer: Buffer)
+    requires { link < length free.old.items }
+    ensures { GaveBack link free.old.items free.new.items }
+{
+    let _ = free[usize::from(link)].offer(rt, buffer);
+}
+
+// The place of the pipe for what leaves.
+fn pipe_for<N: Router>(shared: &Shared, parcel: &Parcel<N>) -> usize
+    ensures { result ≡ pipe_for shared.now.config parcel.now }
+{
+    let link = parcel.link();
+    let high = shared.ports.two_bands(link) && parcel.is_urgent();
+    2 * usize::from(link) + usize::from(high)
+}
+
+impl<N: Router, R: Wait + Copy> Exits<N, R> {
+    pub fn has_room(&self) -> bool
+        ensures { MatchBool result (HasRoom self.now.share.counts) (HasRoom self.now.share.counts → ⊥) }
+    {
+        self.share.has_room()
+    }
+
+    /// Drops a packet for a cause: its buffer goes back to the link by which it came.
+    pub fn drop_for(&mut self, link: u16, buffer: Buffer, cause: Cause)
+        requires there { link < link_count self.old.config }
+        requires room { MayRaise self.old.share.counts }
+        ensures { DroppedAs link cause self.old self.new }
+    {
+        give_back(&self.rt, &mut self.free, link, buffer);
+        self.share.fate(cause);
+    }
+
+    /// Offers what leaves to its pipe; where that is full, it is dropped.
+    pub fn send(&mut self, parcel: Parcel<N>)
+        requires link { parcel.link < link_count self.old.config }
+        requires unended { AreOpen self.old.links }
+        requires room { MayRaise self.old.share.counts }
+        ensures { SentAs parcel self.old self.new }
+    {
+        let at = pipe_for(&self.shared, &parcel);
+        if let Err(parcel) = offer_at(&self.rt, &mut self.links, at, parcel) {
+            let link = parcel.arrived();
+            give_back(&self.rt, &mut self.free, link, parcel.into_buffer());
+            self.share.fate(Cause::LinkFull);
+        }
+    }
+
+    /// Passes a packet on as the rules decide.
+    pub fn pass_on(&mut self, slow: &mut Outlet<Question<N>>, packet: Packet<N>)
+        requires unended { AreOpen self.old.links × (slow.old.ended ≡ false) }
+        requires room { MayRaise self.old.share.counts }
+        ensures some { 0 < length self.old.links }
+        ensures passed { PassedOn packet self.old self.new slow.old slow.new }
+    {
+        rules_are_lawful();
+        let mut packet = packet;
+        let link = packet.link();
+        match packet.decide(&self.shared.config) {
+            Decision::Send { link, to } => {
+                let link = self.shared.ports.number(link);
+                self.send(packet.into_parcel(link, to));
+            }
+            Decision::Answer(problem) => self.ask(slow, packet.into_question(problem)),
+            Decision::Drop(why) => self.drop_for(link, packet.into_buffer(), why),
+        }
+    }
+
+    // Offers a question to the slow path; where its pipe is full, the packet is dropped.
+    fn ask(&mut self, slow: &mut Outlet<Question<N>>, question: Question<N>)
+        requires link { question.arrival.link < link_count self.old.config }
+        requires unended { slow.old.ended ≡ false }
+        requires room { MayRaise self.old.share.counts }
+        ensures { AskedAs question self.old self.new slow.old slow.new }
+    {
+        if let Err(Full(question)) = slow.offer(&self.rt, question) {
+            let link = question.link();
+            self.drop_for(link, question.into_buffer(), Cause::AnswerFull);
+        }
+    }
+
+    /// Posts the counts.
+    pub fn post(&mut self, book: &Book<N>)
+        ensures { (self.new ≡ with_share (emptied self.old.share) self.old) ⊎ (self.new ≡ self.old) }
+    {
+        book.post(&self.rt, &mut self.share);
+    }
+
+    /// The ends of pipes, and the counts.
+    pub fn into_parts(self) -> (Vec<Outlet<Parcel<N>>>, Vec<Producer<Buffer>>, Share<N>)
+        ensures { (result.0.items ≡ self.links) × (result.1.items ≡ self.free) × (result.2 ≡ self.share) }
+    {
+        let Exits {
+            rt: _,
+            shared: _,
+            links,
+            free,
+            share,
+        } = self;
+        (links, free, share)
+    }
+
+    /// Tries the end marks that are owed, of the high band's pipe of each link first, and says whether
+    /// all are there.
+    pub fn end(&mut self) -> bool
+        ensures tried { Trying (is_used (has_two_bands self.old.config)) self.old.links self.new.links result }
+        ensures same { self.new ≡ with_links self.new.links self.old }
+    {
+        end_links(&self.rt, &self.shared, &mut self.links)
+    }
+}
+
+fn both(a: bool, b: bool) -> bool
+    ensures { result ≡ (a && b) }
+{
+    a && b
+}
+
+// Tries the end marks that are owed of a link's pipes, and says whether they are there.
+fn end_link<T: Drop, R: Wait>(
+    rt: &R,
+    ends: &mut Vec<Outlet<T>>,
+    link: usize,
+    two_bands: bool,
+) -> bool
+    requires { 2 * link + 1 < length ends.old.items }
+    ensures { TriedLink link two_bands ends.old.items ends.new.items result }
+{
+    if !two_bands {
+        return end_at(rt, ends, 2 * link);
+    }
+    let high = end_at(rt, ends, 2 * link + 1);
+    let low = end_at(rt, ends, 2 * link);
+    both(high, low)
+}
+
+// Tries the end marks that are owed of all links' pipes, and says whether they are there.
+fn end_links<T: Drop, R: Wait>(rt: &R, shared: &Shared, ends: &mut Vec<Outlet<T>>) -> bool
+    requires { length ends.old.items ≡ 2 * link_count shared.now.config }
+    ensures { Trying (is_used (has_two_bands shared.now.config)) ends.old.items ends.new.items result }
+{
+    let mut all = true;
+    for link in 0..shared.ports.count() {
+        let there = end_link(rt, ends, link, shared.ports.two_bands(link as u16));
+        all = both(all, there);
+    }
+    all
+}

@@ -1,0 +1,180 @@
+//! A processor.
+
+ghost use Rattle.std.specs.Prelude.{◌≡◌, ◌⊎◌, ◌&&◌, ◌*◌, ◌∷◌, true, false, None, Some, [], MatchBool, is_some, length};
+ghost use Rattle.std.specs.Arc.{arc_value};
+ghost use Rattle.packet_ledger.specs.Share.{HasRoom, new_share};
+ghost use Rattle.router_laws.specs.Keeping.{IsWorking};
+ghost use Rattle.router_stages.specs.Receiving.{ending};
+ghost use Rattle.router_stages.specs.Working.{EndsWorking, IsDone, Worked, WorksFor, first_leaving, first_working, posted};
+ghost use Rattle.router_rules.specs.Links.{link_count};
+ghost use Rattle.stage_parts.specs.Outlets.{AreFresh, senders};
+
+use crate::exits::Exits;
+use crate::turn::Turn;
+use packet_ledger::{Book, Share};
+use router_rules::{Shared, Worker};
+use ruled_pipe::{Load, Producer};
+use stage_parts::{Buffer, Gate, Inlet, Outlet, Packet, Parcel, Question, Router};
+use std::alloc::Global;
+use std::marker::Model;
+use std::sync::{Arc, Wait};
+
+/// Takes packets from its pipe, and passes each on as the rules decide, once the gate admits it.
+#[derive(Drop)]
+pub struct Processor<N: Router, R, G: Gate> {
+    rt: R,
+    gate: Arc<G, Global>,
+    index: u8,
+    from: Inlet<Packet<N>>,
+    hand: Option<Packet<N>>,
+    slow: Outlet<Question<N>>,
+    exits: Exits<N, R>,
+}
+
+impl<N: Router, R, G: Gate> Model for Processor<N, R, G> {
+    ghost use Rattle.std.specs.Arc.{arc_value};
+    ghost use Rattle.router_stages.specs.Working.{KeepsWorking, Working};
+
+    ghost Value = { Working G };
+
+    ghost view = { λ p. record { gate = arc_value p.gate; index = p.index; taker = p.from; hand = p.hand; slow = p.slow; side = p.exits } };
+
+    ghost invariant = { λ p. KeepsWorking N.config p.from p.hand p.slow p.exits };
+}
+
+fn both(a: bool, b: bool) -> Turn
+    ensures { result ≡ ending (a && b) }
+{
+    if a && b { Turn::Ended } else { Turn::Quiet }
+}
+
+impl<N: Router, R: Wait + Copy, G: Gate + Drop> Processor<N, R, G> {
+    /// The processor of a number, which takes from its pipe, one producer a link, and offers to two pipes
+    /// a link and to the slow path's; buffers go back by one pipe a link.
+    pub fn new(
+        rt: R,
+        shared: Arc<Shared, Global>,
+        index: u8,
+        gate: Arc<G, Global>,
+        from: Inlet<Packet<N>>,
+        links: Vec<Outlet<Parcel<N>>>,
+        slow: Outlet<Question<N>>,
+        free: Vec<Producer<Buffer>>,
+        share: Share<N>,
+    ) -> Processor<N, R, G>
+        requires config { N.config ≡ Some (arc_value shared).config }
+        requires from { from.taken ≡ [] }
+        requires links { (length links.items ≡ 2 * link_count (arc_value shared).config) × AreFresh links.items }
+        requires slow { AreFresh (slow ∷ []) }
+        requires free { length free.items ≡ link_count (arc_value shared).config }
+        requires share { share ≡ new_share }
+        ensures { result ≡ first_working (arc_value gate) index from slow (first_leaving (arc_value shared).config links.items free.items) }
+    {
+        let exits = Exits {
+            rt,
+            shared,
+            links,
+            free,
+            share,
+        };
+        Processor {
+            rt,
+            gate,
+            index,
+            from,
+            hand: None,
+            slow,
+            exits,
+        }
+    }
+
+    /// Whether each of its counts can still be raised.
+    pub fn has_room(&self) -> bool
+        ensures { MatchBool result (HasRoom self.now.side.share.counts) (HasRoom self.now.side.share.counts → ⊥) }
+    {
+        self.exits.has_room()
+    }
+
+    /// Takes a packet, where it has none in hand, and passes it on where the gate admits it. After the
+    /// last end mark of its pipe it tries the end marks that it owes, the slow path's first.
+    pub fn turn(&mut self) -> Turn
+        requires { HasRoom self.old.side.share.counts }
+        ensures { Worked G.answers result self.old self.new }
+    {
+        if self.hand.is_some() {
+            return self.work();
+        }
+        if self.from.is_done() {
+            return self.end();
+        }
+        match self.from.take(&self.rt) {
+            None => Turn::Quiet,
+            Some(Load::Marked(_)) => Turn::Did,
+            Some(Load::Payload(packet)) => {
+                self.hand = Some(packet);
+                self.work()
+            }
+        }
+    }
+
+    // Passes on the packet in hand, where the gate admits it.
+    fn work(&mut self) -> Turn
+        requires some { is_some self.old.hand ≡ true }
+        requires room { HasRoom self.old.side.share.counts }
+        ensures { WorksFor G.answers result self.old self.new }
+    {
+        let Some(packet) = self.hand.take() else {
+            unreachable!()
+        };
+        let me = Worker::Processor(self.index);
+        if !self.gate.admits(me, packet.interface(), packet.number()) {
+            self.hand = Some(packet);
+            return Turn::Quiet;
+        }
+        self.exits.pass_on(&mut self.slow, packet);
+        Turn::Did
+    }
+
+    // Tries the end marks that are owed.
+    fn end(&mut self) -> Turn
+        requires { IsDone self.old }
+        ensures { EndsWorking result self.old self.new }
+    {
+        let slow = self.slow.end(&self.rt);
+        let links = self.exits.end();
+        both(slow, links)
+    }
+
+    /// Posts its counts into the book, where there is room.
+    pub fn post(&mut self, book: &Book<N>)
+        ensures { (self.new ≡ posted self.old) ⊎ (self.new ≡ self.old) }
+    {
+        self.exits.post(book);
+    }
+
+    /// Its ends of pipes and its counts, which tell what it did.
+    pub fn into_parts(
+        self,
+    ) -> (
+        Inlet<Packet<N>>,
+        Vec<Outlet<Parcel<N>>>,
+        Outlet<Question<N>>,
+        Vec<Producer<Buffer>>,
+        Share<N>,
+    )
+        ensures parts { (result.0 ≡ self.taker) × (result.1.items ≡ self.side.links) × (result.2 ≡ self.slow) × (result.3.items ≡ self.side.free) × (result.4 ≡ self.side.share) }
+        ensures law { IsWorking self.side.config self.taker self.hand (senders self.side.links) self.slow.sender self.side.share }
+    {
+        let Processor {
+            rt: _,
+            gate: _,
+            index: _,
+            from,
+            hand: _,
+            slow,
+            exits,
+        } = self;
+        let (links, free, share) = exits.into_parts();
+        (from, links, slow, free, share)
+    }
+}
