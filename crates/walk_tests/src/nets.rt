@@ -1,0 +1,243 @@
+//! Nets that agree, and nets that don't for one clause alone.
+
+use process_packet::{End, Net, Wire, agrees};
+use router_config::read_config;
+use std::process::Abort;
+
+/// Two routers of 1-ff00:0:110 and one of 1-ff00:0:111 below it: for each the lines of its configuration.
+const TOLD: [[&str; 7]; 3] = [
+    [
+        "isd_as = \"1-ff00:0:110\"\n",
+        "key = \"2b7e151628aed2a6abf7158809cf4f3c\"\n",
+        "internal = \"10.0.0.1:30000\"\n",
+        "host_port = 30041\n",
+        "link = [{id=1, kind=\"child\", local=\"10.1.0.1:40000\", remote=\"10.1.0.2:40000\"}]\n",
+        "sibling = [{id=2, kind=\"core\", at=\"10.0.0.2:30000\"}]\n",
+        "service = [{number=2, at=\"10.0.0.9:30252\"}]\n",
+    ],
+    [
+        "isd_as = \"1-ff00:0:110\"\n",
+        "key = \"2b7e151628aed2a6abf7158809cf4f3c\"\n",
+        "internal = \"10.0.0.2:30000\"\n",
+        "host_port = 30041\n",
+        "link = [{id=2, kind=\"core\", local=\"10.3.0.1:40000\", remote=\"10.3.0.2:40000\"}]\n",
+        "sibling = [{id=1, kind=\"child\", at=\"10.0.0.1:30000\"}]\n",
+        "service = [{number=2, at=\"10.0.0.9:30252\"}]\n",
+    ],
+    [
+        "isd_as = \"1-ff00:0:111\"\n",
+        "key = \"000102030405060708090a0b0c0d0e0f\"\n",
+        "internal = \"10.0.0.1:30000\"\n",
+        "host_port = 30042\n",
+        "link = [{id=17, kind=\"parent\", local=\"10.1.0.2:40000\", remote=\"10.1.0.1:40000\"}]\n",
+        "sibling = []\n",
+        "service = []\n",
+    ],
+];
+
+const KEY: usize = 1;
+
+const INTERNAL: usize = 2;
+
+const HOST_PORT: usize = 3;
+
+const LINK: usize = 4;
+
+const SIBLING: usize = 5;
+
+const SERVICE: usize = 6;
+
+/// A line of a router's configuration, told otherwise.
+type Change = (usize, usize, &'static str);
+
+const NONE: Change = (3, 0, "");
+
+fn end(router: usize, link: u16) -> End {
+    End { router, link }
+}
+
+fn wire(one: End, other: End) -> Wire {
+    Wire { one, other }
+}
+
+/// The line as it stands, or as one of the changes tells it.
+fn line(router: usize, number: usize, told: &'static str, changes: [Change; 2]) -> &'static str {
+    for (place, at, text) in changes {
+        if place == router && at == number {
+            return text;
+        }
+    }
+    told
+}
+
+fn net(rt: &(impl AllocGlobal + Abort), changes: [Change; 2], wires: &[Wire]) -> Net {
+    let mut configs = Vec::new(rt.alloc());
+    for (router, lines) in TOLD.iter().enumerate() {
+        let mut text = String::new(rt.alloc());
+        text.push_str("version = 1\nprocessors = 1\ncapacity = 4\nseed = 0\n")
+            .expect(rt, "text");
+        for (number, told) in lines.iter().enumerate() {
+            text.push_str(line(router, number, told, changes))
+                .expect(rt, "text");
+        }
+        let config = read_config(rt.alloc(), text.as_str()).expect(rt, "config");
+        configs.push(config).expect(rt, "configs");
+    }
+    let wires = Vec::from_slice(rt.alloc(), wires).expect(rt, "wires");
+    Net { configs, wires }
+}
+
+#[test]
+fn agrees_only_where_each_clause_holds(rt: HostRuntime) {
+    let wired = [wire(end(0, 1), end(2, 17))];
+    assert!(rt; agrees(&net(&rt, [NONE, NONE], &wired)));
+    assert!(rt; agrees(&net(&rt, [NONE, NONE], &[])));
+    let cases: [(&str, [Change; 2]); 14] = [
+        (
+            "key",
+            [
+                (1, KEY, "key = \"2b7e151628aed2a6abf7158809cf4f3d\"\n"),
+                NONE,
+            ],
+        ),
+        ("host port", [(1, HOST_PORT, "host_port = 30042\n"), NONE]),
+        (
+            "service's address",
+            [
+                (
+                    1,
+                    SERVICE,
+                    "service = [{number=2, at=\"10.0.0.8:30252\"}]\n",
+                ),
+                NONE,
+            ],
+        ),
+        (
+            "service's number",
+            [
+                (
+                    1,
+                    SERVICE,
+                    "service = [{number=1, at=\"10.0.0.9:30252\"}]\n",
+                ),
+                NONE,
+            ],
+        ),
+        (
+            "service on one side",
+            [(1, SERVICE, "service = []\n"), NONE],
+        ),
+        (
+            "same internal address",
+            [
+                (1, INTERNAL, "internal = \"10.0.0.1:30000\"\n"),
+                (
+                    0,
+                    SIBLING,
+                    "sibling = [{id=2, kind=\"core\", at=\"10.0.0.1:30000\"}]\n",
+                ),
+            ],
+        ),
+        (
+            "interface not listed",
+            [(0, SIBLING, "sibling = []\n"), NONE],
+        ),
+        (
+            "interface's owner",
+            [
+                (
+                    0,
+                    SIBLING,
+                    "sibling = [{id=2, kind=\"core\", at=\"10.0.0.3:30000\"}]\n",
+                ),
+                NONE,
+            ],
+        ),
+        (
+            "interface's kind",
+            [
+                (
+                    0,
+                    SIBLING,
+                    "sibling = [{id=2, kind=\"child\", at=\"10.0.0.2:30000\"}]\n",
+                ),
+                NONE,
+            ],
+        ),
+        (
+            "interface in common",
+            [
+                (
+                    1,
+                    LINK,
+                    "link = [{id=1, kind=\"core\", local=\"10.3.0.1:40000\", remote=\"10.3.0.2:40000\"}]\n",
+                ),
+                (1, SIBLING, "sibling = []\n"),
+            ],
+        ),
+        (
+            "one remote",
+            [
+                (
+                    2,
+                    LINK,
+                    "link = [{id=17, kind=\"parent\", local=\"10.1.0.2:40000\", remote=\"10.1.0.3:40000\"}]\n",
+                ),
+                NONE,
+            ],
+        ),
+        (
+            "other remote",
+            [
+                (
+                    2,
+                    LINK,
+                    "link = [{id=17, kind=\"parent\", local=\"10.1.0.3:40000\", remote=\"10.1.0.1:40000\"}]\n",
+                ),
+                NONE,
+            ],
+        ),
+        (
+            "kinds",
+            [
+                (
+                    2,
+                    LINK,
+                    "link = [{id=17, kind=\"core\", local=\"10.1.0.2:40000\", remote=\"10.1.0.1:40000\"}]\n",
+                ),
+                NONE,
+            ],
+        ),
+        (
+            "link's number",
+            [
+                (
+                    2,
+                    LINK,
+                    "link = [{id=18, kind=\"parent\", local=\"10.1.0.2:40000\", remote=\"10.1.0.1:40000\"}]\n",
+                ),
+                NONE,
+            ],
+        ),
+    ];
+    for (clause, changes) in cases {
+        assert!(rt; !agrees(&net(&rt, changes, &wired)), "{clause}");
+    }
+}
+
+#[test]
+fn a_link_is_on_one_wire(rt: HostRuntime) {
+    let one = wire(end(0, 1), end(2, 17));
+    let back = wire(end(2, 17), end(0, 1));
+    assert!(rt; agrees(&net(&rt, [NONE, NONE], &[back])));
+    assert!(rt; !agrees(&net(&rt, [NONE, NONE], &[one, one])));
+    assert!(rt; !agrees(&net(&rt, [NONE, NONE], &[one, back])));
+    assert!(rt; !agrees(&net(&rt, [NONE, NONE], &[wire(end(0, 1), end(3, 17))])));
+    assert!(rt; !agrees(&net(&rt, [NONE, NONE], &[wire(end(0, 4), end(2, 17))])));
+    assert!(rt; !agrees(&net(&rt, [NONE, NONE], &[wire(end(0, 1), end(0, 1))])));
+    let empty = Net {
+        configs: Vec::new(rt.alloc()),
+        wires: Vec::new(rt.alloc()),
+    };
+    assert!(rt; agrees(&empty));
+}

@@ -1,0 +1,180 @@
+//! Walks over three ASes in a row, 1-ff00:0:111, 1-ff00:0:110 and 1-ff00:0:112, of one router each. The
+//! hop fields' MACs were made by OpenSSL.
+
+ghost use Rattle.std.specs.Prelude.{◌≡◌, ◌<◌, IsTrue, IfOk, length};
+ghost use Rattle.process_packet.specs.Net.{Agrees, net_of};
+
+use process_packet::{Arrival, End, Ip, Net, NoMemory, Problem, Routed, Underlay, Wire, agrees};
+use router_config::read_config;
+use scmp_answer::{Stop, walk};
+use std::alloc::Global;
+use std::process::Abort;
+
+const FIRST: &str =
+    "version = 1\nisd_as = \"1-ff00:0:111\"\nkey = \"000102030405060708090a0b0c0d0e0f\"\n\
+    internal = \"10.1.0.250:30000\"\nhost_port = 30041\nprocessors = 1\ncapacity = 4\nseed = 0\n\
+    link = [{id=17, kind=\"child\", local=\"10.1.0.2:40000\", remote=\"10.1.0.1:40000\"}]\n";
+
+const MIDDLE: &str =
+    "version = 1\nisd_as = \"1-ff00:0:110\"\nkey = \"2b7e151628aed2a6abf7158809cf4f3c\"\n\
+    internal = \"10.0.0.1:30000\"\nhost_port = 30041\nprocessors = 1\ncapacity = 4\nseed = 0\n\
+    link = [\n {id=1, kind=\"parent\", local=\"10.1.0.1:40000\", remote=\"10.1.0.2:40000\"},\n \
+    {id=2, kind=\"child\", local=\"10.2.0.1:40000\", remote=\"10.2.0.2:40000\"}]\n";
+
+const LAST: &str =
+    "version = 1\nisd_as = \"1-ff00:0:112\"\nkey = \"101112131415161718191a1b1c1d1e1f\"\n\
+    internal = \"10.2.0.250:30000\"\nhost_port = 30041\nprocessors = 1\ncapacity = 4\nseed = 0\n\
+    link = [{id=18, kind=\"parent\", local=\"10.2.0.2:40000\", remote=\"10.2.0.1:40000\"}]\n";
+
+/// From 1-ff00:0:111, 10.1.0.5 to 1-ff00:0:112, 10.2.0.7, as the host sends it.
+const DATAGRAM: &str = "0000000111150008010000000001ff00000001120001ff00000001110a0200070a010005\
+    00003000010012346500000000\
+    3f000000116349aa95d77c003f000100026193b6549f1e003f0012000026d850ac58d37559755900080000";
+
+/// As it is delivered.
+const DELIVERED: &str = "0000000111150008010000000001ff00000001120001ff00000001110a0200070a010005\
+    020030000100\
+    10ee65000000003f000000116349aa95d77c003f000100026193b6549f1e003f0012000026d850ac58d37559755900080000";
+
+/// The middle router's answer to it where its payload length is wrong, as it comes to the first router.
+const ANSWER: &str = "00000001ca150064010000000001ff00000001110001ff00000001100a0100050a000001\
+    020030000000717d65000000003f0012000026d850ac58d3003f000100026193b6549f1e003f000000116349aa95d77c\
+    04135f67000000000000000111150009010000000001ff00000001120001ff00000001110a0200070a010005\
+    010030000100717d65000000003f000000116349aa95d77c003f000100026193b6549f1e003f0012000026d850ac58d3\
+    7559755900080000";
+
+/// A traceroute request on the same path that asks the middle router at its ingress interface.
+const REQUEST: &str = "00000001ca150018010000000001ff00000001120001ff00000001110a0200070a010005\
+    000030000100123465000000003f000000116349aa95d77c023f000100026193b6549f1e003f0012000026d850ac58d3\
+    820000000007000300000000000000000000000000000000";
+
+fn underlay(address: [u8; 4], port: u16) -> Underlay {
+    Underlay {
+        ip: Ip::V4(address),
+        port,
+    }
+}
+
+fn bytes_of(rt: &(impl AllocGlobal + Abort), digits: &str) -> Vec<u8> {
+    let mut bytes = Vec::new(rt.alloc());
+    bytes.resize(digits.len() / 2, 0).expect(rt, "room");
+    assert!(rt;
+        hex::decode_to_slice(digits, bytes.as_mut_slice()).is_ok(),
+        "hex"
+    );
+    bytes
+}
+
+fn arrival(bytes: Vec<u8>, link: u16, source: Underlay) -> Arrival {
+    Arrival {
+        link,
+        number: 1,
+        source,
+        now: 1694499816,
+        bytes,
+    }
+}
+
+fn net(rt: &(impl AllocGlobal + Abort)) -> Net {
+    let mut configs = Vec::new(rt.alloc());
+    for text in [FIRST, MIDDLE, LAST] {
+        let config = read_config(rt.alloc(), text).expect(rt, "config");
+        configs.push(config).expect(rt, "configs");
+    }
+    let wires = [
+        Wire {
+            one: End {
+                router: 0,
+                link: 17,
+            },
+            other: End { router: 1, link: 1 },
+        },
+        Wire {
+            one: End { router: 1, link: 2 },
+            other: End {
+                router: 2,
+                link: 18,
+            },
+        },
+    ];
+    let wires = Vec::from_slice(rt.alloc(), &wires).expect(rt, "wires");
+    Net { configs, wires }
+}
+
+/// The walk, where the net agrees and has the router.
+fn walked(
+    alloc: Global,
+    net: &Net,
+    router: usize,
+    arrival: &Arrival,
+) -> Result<Vec<Stop>, NoMemory> {
+    if router < net.configs.len() && agrees(net) {
+        walk(alloc, net, router, arrival)
+    } else {
+        Ok(Vec::new(alloc))
+    }
+}
+
+/// Whether the stop is at the router, and sends the packet so.
+fn sends(stop: &Stop, router: usize, out: u16, address: Option<Underlay>) -> bool {
+    match &stop.routed {
+        Routed::Send { link, to, .. } => { stop.router == router && *link == out && *to == address }
+        _ => false,
+    }
+}
+
+fn sends_bytes(stop: &Stop, wanted: &[u8]) -> bool {
+    match &stop.routed {
+        Routed::Send { bytes, .. } => bytes.as_slice() == wanted,
+        _ => false,
+    }
+}
+
+fn answers(stop: &Stop, wanted: Problem) -> bool {
+    match &stop.routed {
+        Routed::Answer(problem) => *problem == wanted,
+        _ => false,
+    }
+}
+
+#[test]
+fn walks_to_the_host(rt: HostRuntime) {
+    let net = net(&rt);
+    let start = arrival(bytes_of(&rt, DATAGRAM), 0, underlay([10, 1, 0, 5], 30041));
+    let stops = walked(rt.alloc(), &net, 0, &start).expect(&rt, "memory");
+    let [one, two, three] = stops.as_slice() else {
+        return assert!(rt; false, "three stops");
+    };
+    assert!(rt; sends(one, 0, 17, None));
+    assert!(rt; sends(two, 1, 2, None));
+    assert!(rt; sends(three, 2, 0, Some(underlay([10, 2, 0, 7], 30041))));
+    assert!(rt; sends_bytes(three, bytes_of(&rt, DELIVERED).as_slice()));
+}
+
+#[test]
+fn an_answer_walks_back(rt: HostRuntime) {
+    let net = net(&rt);
+    let start = arrival(bytes_of(&rt, ANSWER), 17, underlay([10, 1, 0, 1], 40000));
+    let stops = walked(rt.alloc(), &net, 0, &start).expect(&rt, "memory");
+    let [one] = stops.as_slice() else {
+        return assert!(rt; false, "one stop");
+    };
+    assert!(rt; sends(one, 0, 0, Some(underlay([10, 1, 0, 5], 30041))));
+}
+
+#[test]
+fn ends_at_the_router_that_is_asked(rt: HostRuntime) {
+    let net = net(&rt);
+    let start = arrival(bytes_of(&rt, REQUEST), 0, underlay([10, 1, 0, 5], 30041));
+    let stops = walked(rt.alloc(), &net, 0, &start).expect(&rt, "memory");
+    let [one, two] = stops.as_slice() else {
+        return assert!(rt; false, "two stops");
+    };
+    assert!(rt; sends(one, 0, 17, None));
+    let reply = Problem {
+        kind: 131,
+        code: 0,
+        pointer: 1,
+    };
+    assert!(rt; answers(two, reply));
+}
