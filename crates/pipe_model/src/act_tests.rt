@@ -1,9 +1,10 @@
-use crate::samples::{DATAGRAM, EXPIRED, IN_TIME, arrival, config, is_what_leaves};
+use crate::samples::{EXPIRED, arrival, config, is_what_leaves};
 use crate::state::State;
 use crate::step::{Step, StepFault};
 use pipe_parts::Pipe;
 use process_packet::{Bands, Config};
 use router_rules::{Queue, Worker};
+use sample_packets::{FIRST, IN_TIME};
 use std::alloc::Global;
 use std::test::*;
 
@@ -117,12 +118,12 @@ const NOT_THERE: [(Step, Result<(), StepFault>); 5] = [
 /// Six datagrams by link 1: the second has expired, the third is cut within its header.
 fn state(alloc: Global, config: &Config) -> Result<State, Fail> {
     let mut arrivals = Vec::new(alloc);
-    arrivals.push(arrival(alloc, 1, IN_TIME, &DATAGRAM)?)?;
-    arrivals.push(arrival(alloc, 2, EXPIRED, &DATAGRAM)?)?;
-    arrivals.push(arrival(alloc, 3, IN_TIME, &DATAGRAM[..11])?)?;
-    arrivals.push(arrival(alloc, 4, IN_TIME, &DATAGRAM)?)?;
-    arrivals.push(arrival(alloc, 5, IN_TIME, &DATAGRAM)?)?;
-    arrivals.push(arrival(alloc, 6, IN_TIME, &DATAGRAM)?)?;
+    arrivals.push(arrival(alloc, 1, IN_TIME, &FIRST)?)?;
+    arrivals.push(arrival(alloc, 2, EXPIRED, &FIRST)?)?;
+    arrivals.push(arrival(alloc, 3, IN_TIME, &FIRST[..11])?)?;
+    arrivals.push(arrival(alloc, 4, IN_TIME, &FIRST)?)?;
+    arrivals.push(arrival(alloc, 5, IN_TIME, &FIRST)?)?;
+    arrivals.push(arrival(alloc, 6, IN_TIME, &FIRST)?)?;
     let mut sources = Vec::new(alloc);
     sources.push(Pipe::of_arrivals(alloc, 0, Vec::new(alloc))?)?;
     sources.push(Pipe::of_arrivals(alloc, 1, arrivals)?)?;

@@ -1,9 +1,10 @@
 use crate::place::Place;
-use crate::samples::{DATAGRAM, EXPIRED, IN_TIME, arrival, config, is_what_leaves};
+use crate::samples::{EXPIRED, arrival, config, is_what_leaves};
 use crate::step::{Step, StepFault};
 use crate::world::{NoMemoryAt, World};
 use process_packet::{Bands, Cause, NoMemory, Totals};
 use router_rules::{Outgoing, Queue, Worker, link_count, link_index};
+use sample_packets::{FIRST, IN_TIME};
 use std::alloc::Global;
 use std::test::*;
 
@@ -31,8 +32,8 @@ fn pipeline(alloc: Global, second: u64) -> Result<World, NoMemory> {
         return Err(NoMemory);
     };
     let (Ok(one), Ok(two)) = (
-        arrival(alloc, 1, IN_TIME, &DATAGRAM),
-        arrival(alloc, 2, second, &DATAGRAM),
+        arrival(alloc, 1, IN_TIME, &FIRST),
+        arrival(alloc, 2, second, &FIRST),
     ) else {
         return Err(NoMemory);
     };
