@@ -1,5 +1,5 @@
 -- What is told of a pipeline: what each link sent, where a packet is, how many of them.
-use Rattle.std.specs.Prelude.{ℕ, Bool, ◌==◌, List, [], ◌∷◌, map, slice_index_or, Option, None, option_map}
+use Rattle.std.specs.Prelude.{ℕ, Bool, ◌==◌, List, [], ◌∷◌, map, slice_index_or, Option, option_map}
 use Rattle.pipe_order.specs.Place as place
 use Rattle.pipe_order.specs.Place.{places}
 use Rattle.pipe_order.specs.Totals.{answered_count, dropped_count, received_count, sent_count, waiting_count}

@@ -52,7 +52,7 @@ module _ {K : Kinds} where
   merge_both [] b = merge_right b
   merge_both (x ∷ a) b = inl (a, refl, merge_both a b)
 
-  merge-append : (xs ys zs a b : List (Outgoing K)) → IsMerge xs ys zs → IsMerge (xs ++ a) (ys ++ b) (zs ++ (a ++ b))
+  pub merge-append : (xs ys zs a b : List (Outgoing K)) → IsMerge xs ys zs → IsMerge (xs ++ a) (ys ++ b) (zs ++ (a ++ b))
   merge-append xs ys [] a b h =
       let P : List (Outgoing K) → Type 0 = λ p. IsMerge (p ++ a) (ys ++ b) (a ++ b) in
       let Q : List (Outgoing K) → Type 0 = λ p. IsMerge a (p ++ b) (a ++ b) in

@@ -1,5 +1,5 @@
 -- The rules over small cases, which say what the definitions are to mean.
-use Rattle.std.specs.Prelude.{◌≡◌, Bool, true, false, List, [], ◌∷◌, ℕ}
+use Rattle.std.specs.Prelude.{◌≡◌, true, false, List, [], ◌∷◌, ℕ}
 use Rattle.flow_key.specs.Flow.{Flow}
 use Rattle.pipe_order.specs.Item.{Arrival}
 use Rattle.process_packet.specs.declared.config.Config.{Config}

@@ -155,7 +155,9 @@ fn finds_workers_and_pipes(rt: HostRuntime) -> Result<(), Fail> {
         (Actor::Slow.feeds(high), forwarder.feeds(high)),
         (true, false)
     );
-    let producers = [Actor::Slow, Actor::Controller, forwarder].map(|worker| worker.producer(&config));
+    let producers = [Actor::Slow, Actor::Controller, forwarder].map(|worker| worker.producer(
+        &config,
+    ));
     assert_eq!(rt; producers, [Some(1), Some(2), None]);
     assert_eq!(rt; high.producers(&config), 3);
     Ok(())

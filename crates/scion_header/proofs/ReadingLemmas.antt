@@ -1,5 +1,5 @@
 -- The numbers that are read at their places are those of the datagram's header.
-use Rattle.std.proofs.Common.{◌≡◌, ℕ, ◌+◌, ◌/◌, ◌%◌, ◌^◌, List, slice_index, bit_and, refl}
+use Rattle.std.proofs.Common.{◌≡◌, ℕ, ◌+◌, ◌/◌, ◌%◌, List, slice_index, bit_and, refl}
 use Rattle.std.proofs.lemmas.Nat.{and_mask}
 use Rattle.field_rows.specs.Place.{number_at}
 use Rattle.scion_packet.specs.Header.{HeaderFields, HostAddress, address_of, header_of, host_kinds, host_len}

@@ -5,6 +5,7 @@ use Rattle.std.proofs.lemmas.List.{map-append}
 use Rattle.pipe_order.specs.Kinds.{Kinds}
 use Rattle.pipe_order.specs.Item.{Outgoing}
 use Rattle.pipe_order.specs.Sent.{IsMerge}
+use Rattle.pipe_order.proofs.Sent.{merge-append}
 use Rattle.pipe_order.specs.Deeds.{Load, Payload, CloseMark, EndMark, Pushed, payload_of, payloads, closes, has_mark, before_mark}
 use Rattle.pipe_order.proofs.Turns.{before_more, shut_more}
 use Rattle.pipe_order.specs.Counts.{total}
@@ -12,22 +13,6 @@ use Rattle.pipe_order.proofs.Sums.{count-total, total-append}
 use Rattle.stage_laws.specs.Forwards.{Handed, AddsTo, WentOn, handed_items, refusals_of, KeepsForwarder}
 
 module _ {K : Kinds} where
-  merge_right : (b : List (Outgoing K)) → IsMerge [] b b
-  merge_right [] = (refl, refl)
-  merge_right (y ∷ b) = inr (b, refl, merge_right b)
-
-  merge_both : (a b : List (Outgoing K)) → IsMerge a b (a ++ b)
-  merge_both [] b = merge_right b
-  merge_both (x ∷ a) b = inl (a, refl, merge_both a b)
-
-  merge-append : (xs ys zs a b : List (Outgoing K)) → IsMerge xs ys zs → IsMerge (xs ++ a) (ys ++ b) (zs ++ (a ++ b))
-  merge-append xs ys [] a b h =
-      let P : List (Outgoing K) → Type 0 = λ p. IsMerge (p ++ a) (ys ++ b) (a ++ b) in
-      let Q : List (Outgoing K) → Type 0 = λ p. IsMerge a (p ++ b) (a ++ b) in
-      subst P (sym h.0) (subst Q (sym h.1) (merge_both a b))
-  merge-append xs ys (z ∷ zs) a b (inl h) = inl (h.0 ++ a, ap (λ (p : List (Outgoing K)). p ++ a) h.1, merge-append h.0 ys zs a b h.2)
-  merge-append xs ys (z ∷ zs) a b (inr h) = inr (h.0 ++ b, ap (λ (p : List (Outgoing K)). p ++ b) h.1, merge-append xs h.0 zs a b h.2)
-
   -- what stands before the mark, one entry more
   before_one : (es : List (Pushed (Outgoing K))) (e : Pushed (Outgoing K)) (o : Outgoing K) → has_mark es ≡ false → closes e.load ≡ false → payload_of e.load ≡ o ∷ [] → payloads (before_mark (es ++ e ∷ [])) ≡ payloads (before_mark es) ++ o ∷ []
   before_one es e o unshut not_mark is =

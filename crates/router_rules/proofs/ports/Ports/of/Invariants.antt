@@ -1,5 +1,4 @@
-use Rattle.std.proofs.Common.{◌≡◌}
-use Rattle.std.proofs.Common.{false, length}
+use Rattle.std.proofs.Common.{false}
 use Rattle.router_rules.specs.Links.{has_two_bands, interface_at}
 use Rattle.router_rules.proofs.PortLemmas.{IsFilled}
 use Rattle.router_rules.proofs.ports.Ports.of.Given as goal
