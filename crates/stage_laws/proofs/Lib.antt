@@ -13,3 +13,4 @@ pub mod Causes
 pub mod Composed
 pub mod Sums
 pub mod SmallRun
+pub mod Rows

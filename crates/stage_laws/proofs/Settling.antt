@@ -12,11 +12,11 @@ use Rattle.pipe_order.specs.Counted.{SlowViews, place_of, link_pipes}
 use Rattle.pipe_order.proofs.Joints.{by_producer, split_mark}
 use Rattle.pipe_order.proofs.Stages.{each_map}
 use Rattle.pipe_order.proofs.SettledOrder.{each_both, each_in, each_out, each_items, known, settles_order}
-use Rattle.stage_laws.specs.Weighed.{AreWeighed, Joined, IsPlaced}
+use Rattle.stage_laws.specs.Weighed.{IsPlaced}
 use Rattle.stage_laws.specs.Answers.{to_back, answer_to, replied_out}
 use Rattle.stage_laws.specs.Forwards.{Handed}
 use Rattle.stage_laws.specs.Ended.{Ended, Ends, HasEnded, IsPacketOf, IsAnswerTo}
-use Rattle.stage_laws.proofs.Weighed.{places_each}
+use Rattle.stage_laws.proofs.Weighed.{AreWeighed, Joined, places_each}
 use Rattle.stage_laws.proofs.Placed.{receiver_weighed, processor_weighed, slow_weighed}
 
 pub is_eqb : (m n : ℕ) → eqb m n ≡ true → m ≡ n

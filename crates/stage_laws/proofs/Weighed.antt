@@ -6,13 +6,36 @@ use Rattle.pipe_order.specs.Kinds.{Kinds}
 use Rattle.pipe_order.specs.Item.{Arrival, Outgoing}
 use Rattle.pipe_order.specs.Rules.{Rules}
 use Rattle.pipe_order.specs.Counts.{total}
-use Rattle.pipe_order.specs.Deeds.{Pushed, payload_of, payloads, of_producer, before_mark, from_mark, Each, Ending, Accepted, Refused, Lacked, Counted, Deed, if_accepted, if_refused, done_items, accepted, refused}
-use Rattle.pipe_order.specs.Settled.{Question, to_processor, to_link, to_slow, Views}
+use Rattle.pipe_order.specs.Deeds.{Pushed, payload_of, payloads, of_producer, before_mark, from_mark, Each, Ending, Accepted, Refused, Lacked, Counted, Deed, if_accepted, if_refused, done_items, accepted, refused, Tells}
+use Rattle.pipe_order.specs.Settled.{Question, to_processor, to_link, to_slow, IsLinkPipe, Views, Settled}
 use Rattle.pipe_order.specs.Counted.{sum_to, is_offer, SlowViews, place_of, link_pipes, no_side}
 use Rattle.pipe_order.proofs.Sums.{total-append}
 use Rattle.pipe_order.proofs.Joints.{split_mark}
 use Rattle.pipe_order.proofs.Counted.{sum_below, sum_add, sum_zero, sum_swap, sum_one, all_below}
-use Rattle.stage_laws.specs.Weighed.{lost_by, lost, IsWeighed, arrival_weight, question_weight, outgoing_weight, AreWeighed, Joined, IsPlaced, PlacesEach, numbered, through_processors, through_slow, through_links}
+use Rattle.stage_laws.specs.Weighed.{lost_by, lost, IsWeighed, arrival_weight, question_weight, outgoing_weight, IsPlaced, numbered, through_processors, through_slow, through_links}
+
+-- The weights that workers keep.
+pub record AreWeighed {K : Kinds} (R : Rules K) (v : Views K) (s : SlowViews K) (back : ℕ → Question K → List (Outgoing K)) (w : (link number : ℕ) → ℕ) : Type 0 where
+  pub receivers : (p : ℕ) → p < R.links
+      → Each (IsWeighed R.processors (to_processor R) (no_side {X = Arrival K} {Y = Question K}) (arrival_weight w) (arrival_weight w) (question_weight w)) (v.received p)
+  pub workers : (i : ℕ) → i < R.processors
+      → Each (IsWeighed (link_pipes R) (λ j. to_link R (place_of R j)) (to_slow R) (arrival_weight w) (outgoing_weight w) (question_weight w)) (v.worked i)
+  pub slow : Each (IsWeighed (link_pipes R) (λ j. back (place_of R j)) (no_side {X = Question K} {Y = Question K}) (question_weight w) (outgoing_weight w) (question_weight w)) s.worked
+
+-- The gathered views, joined by their pipes, with what the slow path makes of a question for the link's pipe at a place.
+pub record Joined {K : Kinds} (R : Rules K) (v : Views K) (s : SlowViews K) (back : ℕ → Question K → List (Outgoing K)) : Type 0 where
+  pub settled : Settled R v
+  pub slow_took : payloads s.taken ≡ done_items s.worked
+  pub slow_tells : (q : ℕ) → IsLinkPipe R q → Tells (back q) s.worked (s.leaving q) (s.leaving_full q)
+  pub middle : (i : ℕ) → i < R.processors → of_producer i s.taken ≡ v.asked i
+  pub middle_only : (i : ℕ) → R.processors ≤ i → of_producer i s.taken ≡ []
+  pub outer_slow : (j : ℕ) → j < link_pipes R → of_producer R.processors (v.forwarded (place_of R j)) ≡ s.leaving (place_of R j)
+  pub outer_marks : (j : ℕ) → j < link_pipes R → payloads (of_producer (suc R.processors) (v.forwarded (place_of R j))) ≡ []
+  pub outer_none : (j p : ℕ) → j < link_pipes R → suc (suc R.processors) ≤ p → of_producer p (v.forwarded (place_of R j)) ≡ []
+
+-- Each packet that a receiver numbered stands at one place when the workers have ended.
+abbrev pub PlacesEach : Kinds → Type 0
+PlacesEach K = (R : Rules K) (v : Views K) (s : SlowViews K) (back : ℕ → Question K → List (Outgoing K)) (t : Joined R v s back) (w : (link number : ℕ) → ℕ) → AreWeighed R v s back w → IsPlaced w R v s
 
 module _ {T : Type 0} (f : T → ℕ) where
   -- what was taken, by its producers

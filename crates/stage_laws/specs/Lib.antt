@@ -9,6 +9,7 @@ pub mod Forwards
 pub mod Counting
 pub mod Ended
 pub mod Workers
+pub mod Rows
 pub mod Places
 pub mod Reasons
 pub mod Causes

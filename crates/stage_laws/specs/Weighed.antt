@@ -1,12 +1,12 @@
 -- Every packet that a receiver numbered stands at exactly one place: the sums of the counts, weighed by the packets' names.
-use Rattle.std.specs.Prelude.{◌≡◌, ◌<◌, ◌≤◌, ℕ, suc, ◌+◌, List, []}
+use Rattle.std.specs.Prelude.{◌≡◌, ℕ, ◌+◌, List}
 use Rattle.pipe_order.specs.Kinds.{Kinds}
 use Rattle.pipe_order.specs.Item.{Arrival, Outgoing}
 use Rattle.pipe_order.specs.Rules.{Rules}
 use Rattle.pipe_order.specs.Counts.{total}
-use Rattle.pipe_order.specs.Deeds.{payloads, of_producer, Each, Ending, Accepted, Refused, Lacked, Counted, Deed, done_items, Tells}
-use Rattle.pipe_order.specs.Settled.{Question, to_processor, to_link, to_slow, IsLinkPipe, Views, Settled}
-use Rattle.pipe_order.specs.Counted.{sum_to, is_offer, SlowViews, place_of, link_pipes, no_side}
+use Rattle.pipe_order.specs.Deeds.{payloads, Ending, Accepted, Refused, Lacked, Counted, Deed, done_items}
+use Rattle.pipe_order.specs.Settled.{Question, Views}
+use Rattle.pipe_order.specs.Counted.{sum_to, is_offer, SlowViews, place_of, link_pipes}
 
 module _ {C : Type 0} where
   abbrev pub lost_by : Ending C → ℕ → ℕ
@@ -34,14 +34,6 @@ module _ {K : Kinds} (w : (link number : ℕ) → ℕ) where
 
   abbrev pub outgoing_weight : Outgoing K → ℕ
   outgoing_weight o = w o.arrived o.number
-
--- The weights that workers keep.
-pub record AreWeighed {K : Kinds} (R : Rules K) (v : Views K) (s : SlowViews K) (back : ℕ → Question K → List (Outgoing K)) (w : (link number : ℕ) → ℕ) : Type 0 where
-  pub receivers : (p : ℕ) → p < R.links
-      → Each (IsWeighed R.processors (to_processor R) (no_side {X = Arrival K} {Y = Question K}) (arrival_weight w) (arrival_weight w) (question_weight w)) (v.received p)
-  pub workers : (i : ℕ) → i < R.processors
-      → Each (IsWeighed (link_pipes R) (λ j. to_link R (place_of R j)) (to_slow R) (arrival_weight w) (outgoing_weight w) (question_weight w)) (v.worked i)
-  pub slow : Each (IsWeighed (link_pipes R) (λ j. back (place_of R j)) (no_side {X = Question K} {Y = Question K}) (question_weight w) (outgoing_weight w) (question_weight w)) s.worked
 
 module _ {K : Kinds} (w : (link number : ℕ) → ℕ) where
   -- all that a receiver numbered, and all places where it may have ended: handed to a sink, refused at a full pipe, counted
@@ -71,18 +63,3 @@ module _ {K : Kinds} (w : (link number : ℕ) → ℕ) where
 
   abbrev pub through_links : Rules K → Views K → ℕ
   through_links R v = sum_to (link_pipes R) (λ j. total (outgoing_weight w) (payloads (v.forwarded (place_of R j))))
-
--- The gathered views, joined by their pipes, with what the slow path makes of a question for the link's pipe at a place.
-pub record Joined {K : Kinds} (R : Rules K) (v : Views K) (s : SlowViews K) (back : ℕ → Question K → List (Outgoing K)) : Type 0 where
-  pub settled : Settled R v
-  pub slow_took : payloads s.taken ≡ done_items s.worked
-  pub slow_tells : (q : ℕ) → IsLinkPipe R q → Tells (back q) s.worked (s.leaving q) (s.leaving_full q)
-  pub middle : (i : ℕ) → i < R.processors → of_producer i s.taken ≡ v.asked i
-  pub middle_only : (i : ℕ) → R.processors ≤ i → of_producer i s.taken ≡ []
-  pub outer_slow : (j : ℕ) → j < link_pipes R → of_producer R.processors (v.forwarded (place_of R j)) ≡ s.leaving (place_of R j)
-  pub outer_marks : (j : ℕ) → j < link_pipes R → payloads (of_producer (suc R.processors) (v.forwarded (place_of R j))) ≡ []
-  pub outer_none : (j p : ℕ) → j < link_pipes R → suc (suc R.processors) ≤ p → of_producer p (v.forwarded (place_of R j)) ≡ []
-
--- Each packet that a receiver numbered stands at one place when the workers have ended.
-abbrev pub PlacesEach : Kinds → Type 0
-PlacesEach K = (R : Rules K) (v : Views K) (s : SlowViews K) (back : ℕ → Question K → List (Outgoing K)) (t : Joined R v s back) (w : (link number : ℕ) → ℕ) → AreWeighed R v s back w → IsPlaced w R v s

@@ -2,6 +2,7 @@
 //! nothing.
 
 ghost use Rattle.stage_laws.specs.Gathers.{Drains, StaysEmpty, ClosesByLast};
+ghost use Rattle.stage_laws.specs.Rows.{RowsAreColumns};
 
 /// Where the last that each producer pushed is its only end mark, and the consumer took them all, nothing is held: what was
 /// taken is what was accepted, of each producer in its order; and each refused push met a full queue.
@@ -17,4 +18,10 @@ pub fn stays_empty<T>()
 /// Where only the last producer pushed closing marks, one was taken where that one pushed one.
 pub fn closes_by_last<T>()
     ensures law { ClosesByLast T }
+{}
+
+/// Where the last end is taken off each worker's bundle, these are the producers of the last pipe, and the producers of the pipes
+/// before it are among what is left.
+pub fn rows_are_columns<T>()
+    ensures law { RowsAreColumns T }
 {}
