@@ -5,3 +5,4 @@ pub mod ReceivingLemmas
 pub mod ExitsLemmas
 pub mod UsedLemmas
 pub mod WorkingLemmas
+pub mod ForwardingLemmas

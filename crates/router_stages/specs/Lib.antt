@@ -3,3 +3,4 @@ pub mod Intake
 pub mod Receiving
 pub mod Exits
 pub mod Working
+pub mod Forwarding

@@ -41,7 +41,12 @@ impl<N: Router, R> Model for Exits<N, R> {
 }
 
 // Offers a buffer to the free ones of a link. One that is refused is let go.
-fn give_back<R: Wait>(rt: &R, free: &mut Vec<Producer<Buffer>>, link: u16, buffer: Buffer)
+pub(crate) fn give_back<R: Wait>(
+    rt: &R,
+    free: &mut Vec<Producer<Buffer>>,
+    link: u16,
+    buffer: Buffer,
+)
     requires { link < length free.old.items }
     ensures { GaveBack link free.old.items free.new.items }
 {

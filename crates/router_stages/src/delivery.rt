@@ -1,0 +1,140 @@
+//! What a forwarder does with what it took.
+
+ghost use Rattle.std.specs.Prelude.{◌≡◌, ◌-◌, ◌^◌, ◌<◌, ◌⊎◌, MatchBool, is_ok};
+ghost use Rattle.packet_ledger.specs.Share.{HasRoom, MayRaise, emptied};
+ghost use Rattle.router_laws.specs.Shares.{raise};
+ghost use Rattle.router_rules.specs.Links.{has_two_bands};
+ghost use Rattle.router_stages.specs.Forwarding.{Delivered, HandedOn, PassedMet, Swept, count_of, with_share};
+
+use crate::exits::give_back;
+use packet_ledger::{Book, Share};
+use process_packet::Cause;
+use router_rules::Shared;
+use ruled_pipe::Producer;
+use stage_parts::{Buffer, Parcel, Router, Sink};
+use std::alloc::Global;
+use std::marker::Model;
+use std::sync::{Arc, Wait};
+
+/// A link's sink, the ends of the links' pipes of free buffers, and the counts.
+#[derive(Drop)]
+pub struct Delivery<N: Router, R, K: Sink> {
+    pub(crate) rt: R,
+    pub(crate) shared: Arc<Shared, Global>,
+    pub(crate) sink: K,
+    pub(crate) free: Vec<Producer<Buffer>>,
+    pub(crate) share: Share<N>,
+}
+
+impl<N: Router, R, K: Sink> Model for Delivery<N, R, K> {
+    ghost use Rattle.std.specs.Prelude.{◌≡◌, length, Some};
+    ghost use Rattle.std.specs.Arc.{arc_value};
+    ghost use Rattle.router_rules.specs.Links.{link_count};
+    ghost use Rattle.router_stages.specs.Forwarding.{Delivery as Seen};
+
+    ghost Value = { Seen K };
+
+    ghost view = { λ d. record { config = (arc_value d.shared).config; sink = d.sink; free = d.free.items; share = d.share } };
+
+    ghost invariant = { λ d. (N.config ≡ Some (arc_value d.shared).config) × (length d.free.items ≡ link_count (arc_value d.shared).config) };
+}
+
+// Counts what was handed to a sink.
+fn count<N: Router>(share: &mut Share<N>, took: bool, answer: bool)
+    requires { MayRaise share.old.counts }
+    ensures { share.new ≡ raise (count_of took answer) share.old }
+{
+    if !took {
+        share.fate(Cause::SendFailed);
+    } else if answer {
+        share.answered();
+    } else {
+        share.sent();
+    }
+}
+
+impl<N: Router, R: Wait + Copy, K: Sink> Delivery<N, R, K> {
+    pub fn has_room(&self) -> bool
+        ensures { MatchBool result (HasRoom self.now.share.counts) (HasRoom self.now.share.counts → ⊥) }
+    {
+        self.share.has_room()
+    }
+
+    /// How often the sink failed.
+    pub fn failures(&self) -> u64
+        ensures { result ≡ K.failed self.now.sink }
+    {
+        self.sink.failures()
+    }
+
+    /// Whether the link of a number has two bands.
+    pub fn has_two_bands(&self, link: u16) -> bool
+        ensures { result ≡ has_two_bands self.now.config link }
+    {
+        self.shared.ports.two_bands(link)
+    }
+
+    /// Hands a parcel to the sink, or sweeps it where its pipe was closed.
+    pub fn deliver(&mut self, shut: bool, parcel: Parcel<N>)
+        requires sink { K.failed self.old.sink < 2 ^ 64 - 1 }
+        requires room { MayRaise self.old.share.counts }
+        ensures { Delivered K.told K.failed shut parcel self.old self.new }
+    {
+        if shut {
+            self.sweep(parcel)
+        } else {
+            self.hand_on(parcel)
+        }
+    }
+
+    /// Passes on what was met in a pipe that is shut, or not.
+    pub fn pass(&mut self, shut: bool, met: Option<Parcel<N>>)
+        requires sink { K.failed self.old.sink < 2 ^ 64 - 1 }
+        requires room { MayRaise self.old.share.counts }
+        ensures { PassedMet K.told K.failed shut met self.old self.new }
+    {
+        if let Some(parcel) = met {
+            self.deliver(shut, parcel);
+        }
+    }
+
+    fn hand_on(&mut self, parcel: Parcel<N>)
+        requires sink { K.failed self.old.sink < 2 ^ 64 - 1 }
+        requires room { MayRaise self.old.share.counts }
+        ensures { HandedOn K.told K.failed parcel self.old self.new }
+    {
+        let link = parcel.arrived();
+        let took = self.sink.send(&parcel.named(), parcel.bytes()).is_ok();
+        count(&mut self.share, took, parcel.is_answer());
+        give_back(&self.rt, &mut self.free, link, parcel.into_buffer());
+    }
+
+    fn sweep(&mut self, parcel: Parcel<N>)
+        requires { MayRaise self.old.share.counts }
+        ensures { Swept parcel self.old self.new }
+    {
+        let link = parcel.arrived();
+        self.share.fate(Cause::Closed);
+        give_back(&self.rt, &mut self.free, link, parcel.into_buffer());
+    }
+
+    /// Posts the counts.
+    pub fn post(&mut self, book: &Book<N>)
+        ensures { (self.new ≡ with_share (emptied self.old.share) self.old) ⊎ (self.new ≡ self.old) }
+    {
+        book.post(&self.rt, &mut self.share);
+    }
+
+    pub fn into_parts(self) -> (K, Vec<Producer<Buffer>>, Share<N>)
+        ensures { (result.0 ≡ self.sink) × (result.1.items ≡ self.free) × (result.2 ≡ self.share) }
+    {
+        let Delivery {
+            rt: _,
+            shared: _,
+            sink,
+            free,
+            share,
+        } = self;
+        (sink, free, share)
+    }
+}
