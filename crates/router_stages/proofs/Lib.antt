@@ -6,3 +6,4 @@ pub mod ExitsLemmas
 pub mod UsedLemmas
 pub mod WorkingLemmas
 pub mod ForwardingLemmas
+pub mod AnsweringLemmas

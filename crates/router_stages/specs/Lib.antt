@@ -4,3 +4,4 @@ pub mod Receiving
 pub mod Exits
 pub mod Working
 pub mod Forwarding
+pub mod Answering

@@ -1,0 +1,12 @@
+use Rattle.std.proofs.Common.{sym, subst}
+use Rattle.router_rules.specs.Links.{has_two_bands}
+use Rattle.router_stages.specs.Exits.{is_used}
+use Rattle.router_stages.specs.Answering.{Answering, IsDone}
+use Rattle.router_stages.proofs.AnsweringLemmas.{keeps_ending}
+use Rattle.router_stages.proofs.slow_path.SlowPath.end.Goals as goal
+
+pub invariant_of-self : goal.invariant_of-self
+invariant_of-self g c =
+    let s = c.self.inside in
+    let done = subst (λ (a : Answering). IsDone a) (sym c.self.view_is) c.requires in
+    keeps_ending g.N.Router.config s.from s.exits c.self.invariant (is_used (has_two_bands s.exits.config)) c.end.result c.end.new.self done c.end.ensures.tried c.end.ensures.same

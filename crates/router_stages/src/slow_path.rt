@@ -1,0 +1,146 @@
+//! The slow path.
+
+ghost use Rattle.std.specs.Prelude.{◌≡◌, ◌⊎◌, ◌*◌, ◌<◌, MatchBool, Some, [], length};
+ghost use Rattle.std.specs.Arc.{arc_value};
+ghost use Rattle.packet_ledger.specs.Share.{HasRoom, MayRaise, new_share};
+ghost use Rattle.router_laws.specs.Keeping.{IsAnswering};
+ghost use Rattle.router_rules.specs.Links.{link_count};
+ghost use Rattle.router_stages.specs.Answering.{Answered, EndsAnswering, IsDone, RepliedTo, first_answering, posted};
+ghost use Rattle.router_stages.specs.Working.{first_leaving};
+ghost use Rattle.stage_parts.specs.Outlets.{AreFresh, AreOpen, senders};
+
+use crate::exits::Exits;
+use crate::turn::Turn;
+use packet_ledger::{Book, Share};
+use router_rules::Shared;
+use ruled_pipe::{Load, Producer};
+use stage_parts::{Buffer, Inlet, Outlet, Parcel, Question, Router, Withheld};
+use std::alloc::Global;
+use std::marker::Model;
+use std::sync::{Arc, Wait};
+
+/// Takes questions from its pipe, and sends the answer to each back by the link by which its packet
+/// came.
+#[derive(Drop)]
+pub struct SlowPath<N: Router, R> {
+    rt: R,
+    from: Inlet<Question<N>>,
+    exits: Exits<N, R>,
+}
+
+impl<N: Router, R> Model for SlowPath<N, R> {
+    ghost use Rattle.router_stages.specs.Answering.{Answering, KeepsAnswering};
+
+    ghost Value = { Answering };
+
+    ghost view = { λ p. record { taker = p.from; side = p.exits } };
+
+    ghost invariant = { λ p. KeepsAnswering N.config p.from p.exits };
+}
+
+impl<N: Router, R: Wait + Copy> Exits<N, R> {
+    // Sends the answer to a question, or drops its packet where there is none.
+    fn reply(&mut self, question: Question<N>)
+        requires unended { AreOpen self.old.links }
+        requires room { MayRaise self.old.share.counts }
+        ensures some { 0 < length self.old.links }
+        ensures replied { RepliedTo question self.old self.new }
+    {
+        let link = question.link();
+        match question.answer(&self.shared) {
+            Ok(answer) => self.send(answer),
+            Err(Withheld { cause, buffer }) => self.drop_for(link, buffer, cause),
+        }
+    }
+}
+
+impl<N: Router, R: Wait + Copy> SlowPath<N, R> {
+    /// The slow path, which takes from its pipe, one producer a processor, and offers to two pipes a
+    /// link; buffers go back by one pipe a link.
+    pub fn new(
+        rt: R,
+        shared: Arc<Shared, Global>,
+        from: Inlet<Question<N>>,
+        links: Vec<Outlet<Parcel<N>>>,
+        free: Vec<Producer<Buffer>>,
+        share: Share<N>,
+    ) -> SlowPath<N, R>
+        requires config { N.config ≡ Some (arc_value shared).config }
+        requires from { from.taken ≡ [] }
+        requires links { (length links.items ≡ 2 * link_count (arc_value shared).config) × AreFresh links.items }
+        requires free { length free.items ≡ link_count (arc_value shared).config }
+        requires share { share ≡ new_share }
+        ensures { result ≡ first_answering from (first_leaving (arc_value shared).config links.items free.items) }
+    {
+        let exits = Exits {
+            rt,
+            shared,
+            links,
+            free,
+            share,
+        };
+        SlowPath { rt, from, exits }
+    }
+
+    /// Whether each of its counts can still be raised.
+    pub fn has_room(&self) -> bool
+        ensures { MatchBool result (HasRoom self.now.side.share.counts) (HasRoom self.now.side.share.counts → ⊥) }
+    {
+        self.exits.has_room()
+    }
+
+    /// Takes a question and sends its answer. After the last end mark of its pipe it tries the end marks
+    /// that it owes.
+    pub fn turn(&mut self) -> Turn
+        requires { HasRoom self.old.side.share.counts }
+        ensures { Answered result self.old self.new }
+    {
+        if self.from.is_done() {
+            return self.end();
+        }
+        match self.from.take(&self.rt) {
+            None => Turn::Quiet,
+            Some(Load::Marked(_)) => Turn::Did,
+            Some(Load::Payload(question)) => {
+                self.exits.reply(question);
+                Turn::Did
+            }
+        }
+    }
+
+    // Tries the end marks that are owed.
+    fn end(&mut self) -> Turn
+        requires { IsDone self.old }
+        ensures { EndsAnswering result self.old self.new }
+    {
+        if self.exits.end() {
+            Turn::Ended
+        } else {
+            Turn::Quiet
+        }
+    }
+
+    /// Posts its counts into the book, where there is room.
+    pub fn post(&mut self, book: &Book<N>)
+        ensures { (self.new ≡ posted self.old) ⊎ (self.new ≡ self.old) }
+    {
+        self.exits.post(book);
+    }
+
+    /// Its ends of pipes and its counts, which tell what it did.
+    pub fn into_parts(
+        self,
+    ) -> (
+        Inlet<Question<N>>,
+        Vec<Outlet<Parcel<N>>>,
+        Vec<Producer<Buffer>>,
+        Share<N>,
+    )
+        ensures parts { (result.0 ≡ self.taker) × (result.1.items ≡ self.side.links) × (result.2.items ≡ self.side.free) × (result.3 ≡ self.side.share) }
+        ensures law { IsAnswering self.side.config self.taker (senders self.side.links) self.side.share }
+    {
+        let SlowPath { rt: _, from, exits } = self;
+        let (links, free, share) = exits.into_parts();
+        (from, links, free, share)
+    }
+}
