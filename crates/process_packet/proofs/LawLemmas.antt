@@ -1,6 +1,7 @@
 -- Row after row of what was sent: none of them refused.
-use Rattle.std.proofs.Common.{◌≡◌, ◌<◌, ◌+◌, ℕ, Bool, true, false, not, ◌&&◌, ◌||◌, ◌==◌, nat_lt, inl, inr, List, [], ◌∷◌, length, drop, Option, Some, None, if◌then◌else◌, refl, sym, ap, subst, ◌∙◌, arith}
+use Rattle.std.proofs.Common.{◌≡◌, ◌<◌, ◌+◌, ℕ, Bool, true, false, not, ◌&&◌, ◌||◌, ◌==◌, nat_lt, inl, inr, List, [], ◌∷◌, length, drop, Option, Some, None, if◌then◌else◌, refl, sym, ap, subst, ◌∙◌, arith, ◌≤◌}
 use Rattle.std.specs.Prelude.{◌⊎◌, is_some, option_map}
+use Rattle.std.proofs.lemmas.Bool.{ltb-false}
 use Rattle.std.proofs.lemmas.Bool.Decides.{Decides-eqb}
 use Rattle.field_rows.specs.Place.{number_at}
 use Rattle.scion_packet.specs.Header.{header_fault, host_code}
@@ -20,7 +21,7 @@ use Rattle.process_packet.specs.Laws.{IsAuthorised, IsMoved, LeavesByItsEgress, 
 use Rattle.process_packet.specs.Neighbours.{service_at, sibling_at}
 use Rattle.process_packet.specs.Network.{Network, interface_kind, is_local, own_link, service, sibling}
 use Rattle.process_packet.specs.Request.{is_request}
-use Rattle.process_packet.specs.Rows.{Sent, Answered, Dropped, Turn, GoesOn, Ends, Row, came_lawfully, delivered, ends_where, expired, faulty, is_destination_lawful, is_pair_lawful, is_source_lawful, sent_on, sent_out, then_rows, to_service, wrong_mac}
+use Rattle.process_packet.specs.Rows.{Sent, Answered, Dropped, Turn, cause_of, GoesOn, Ends, Row, came_lawfully, delivered, ends_where, expired, faulty, is_destination_lawful, is_pair_lawful, is_source_lawful, sent_on, sent_out, then_rows, to_service, wrong_mac}
 use Rattle.process_packet.specs.Routed.{IsAnswer}
 use Rattle.process_packet.specs.Sight.{with_id}
 use Rattle.process_packet.specs.Standing.{Standing, arrives, chained, chained_id, changed_over, egress, egress_alert, hop_pointer, info_pointer, ingress, ingress_alert, is_along, is_authentic, is_expired, is_external, is_first_of_path, is_last_of_path, next_place, next_segment, packet, turned_back, with_place}
@@ -45,6 +46,15 @@ source_elsewhere true first local lawful is = not_true local lawful
 source_elsewhere false first true lawful is = sym is
 source_elsewhere false first false lawful is = refl
 
+source_here : (external first local : Bool) → (if external then not local else (not first || local)) ≡ true → external ≡ false → first ≡ true → local ≡ true
+source_here true first local lawful is begins = let never : true ≡ false = is in absurd cc
+source_here false true local lawful is begins = lawful
+source_here false false local lawful is begins = let never : false ≡ true = begins in absurd cc
+
+fault_none : (f : Option Fault) (s : Standing) (rows : List Row) (out : ℕ) (to : Option Underlay) (p : Packet) → Sends (faulty f s) rows out to p → f ≡ None
+fault_none None s rows out to p sent = refl
+fault_none (Some f) s rows out to p sent = absurd (dropped_not_sent (cause_of f) out to p sent)
+
 pub came_in : (s : Standing) (out : ℕ) (to : Option Underlay) (p : Packet) → Sends (GoesOn s) decision_table out to p → CameIn s out to p
 came_in s out to p sent =
     let t : Standing = turned_back s in
@@ -61,6 +71,12 @@ came_in s out to p sent =
     let request = answer_passed (is_external t && ingress_alert t && is_request t.header.next_header t.payload) (record { kind = 131; code = 0; pointer = ingress t }) t (rest 12) out to p authentic.after in
     record {
       authorised = record {
+        short = ltb-false 9216 (length s.bytes) short.clear;
+        sound = pass_both s.bytes (fault_none (header_fault s.bytes) s (rest 2) out to p short.after) (fault_none (path_fault (path_bytes s.bytes)) s (rest 3) out to p header);
+        whole = (Decides-eqb s.header.payload_length (length s.payload)).0 (not_false (s.header.payload_length == length s.payload) whole.clear);
+        sender = not_false (came_lawfully s) sent-by.clear;
+        from_here = source_here (is_external s) (is_first_of_path s.path.place) (is_local s.network s.header.source) (not_false (is_source_lawful s) source.clear);
+        destination = not_false (is_destination_lawful s) destination.clear;
         unexpired = unexpired.clear;
         by_its_link = λ external. (Decides-eqb (ingress s) s.link).0 (and_not (is_external s) (ingress s == s.link) entered.clear external);
         authentic = not_false (is_authentic t) authentic.clear;

@@ -1,5 +1,5 @@
 -- What the decision table says as a whole: packets keep to authorised paths.
-use Rattle.std.specs.Prelude.{◌≡◌, ◌⊎◌, ◌<◌, ◌+◌, ◌&&◌, ℕ, Bool, true, false, List, Option, Some, None, is_some, option_map, if◌then◌else◌}
+use Rattle.std.specs.Prelude.{◌≡◌, ◌⊎◌, ◌<◌, ◌+◌, ◌&&◌, ℕ, Bool, true, false, List, Option, Some, None, is_some, option_map, if◌then◌else◌, ◌≤◌, length}
 use Rattle.scion_packet.specs.Packet.{Packet, first_fault, packet_of}
 use Rattle.scion_packet.specs.Path.{Place, Segment, hops_in}
 use Rattle.scion_packet.specs.Places as places
@@ -9,19 +9,29 @@ use Rattle.process_packet.specs.Decide.{decide, verdict}
 use Rattle.process_packet.specs.Neighbours.{sibling_at}
 use Rattle.process_packet.specs.Network.{Network, is_local, own_link, sibling}
 use Rattle.process_packet.specs.Routed.{IsAnswer}
-use Rattle.process_packet.specs.Rows.{Sent, is_pair_lawful}
+use Rattle.process_packet.specs.Rows.{Sent, came_lawfully, is_destination_lawful, is_pair_lawful}
 use Rattle.process_packet.specs.Sight.{with_id}
-use Rattle.process_packet.specs.Standing.{Standing, arrives, changed_over, egress, ingress, is_authentic, is_expired, is_external, is_followed, is_last_of_path, is_last_of_segment, next_place, turned_back}
+use Rattle.process_packet.specs.Standing.{Standing, arrives, changed_over, egress, ingress, is_authentic, is_expired, is_external, is_followed, is_last_of_path, is_last_of_segment, next_place, turned_back, is_first_of_path}
 
 -- ---- what a packet had to show where it arrived
 
--- The hop field at its cursor was within its time; it came by the link that the hop field names; and the hop field carried
--- the MAC that the AS's key gives for the segment identifier of its place. From outside it claims no source in this AS.
+-- All that a packet must show before it is sent. It has no fault and is no longer than any link carries; the hop field at its
+-- cursor is within its time, names the link by which it came from outside, and carries the MAC that the AS's key gives for the
+-- segment identifier of its place; its payload is as long as it tells. It comes from the router at the other end of the link, or
+-- within the AS from the router that has the interface of entry. From outside it claims no source in this AS; where its path
+-- begins inside, its source is in this AS. What comes from outside is for this AS exactly at its path's last hop; what comes
+-- from inside is for another one.
 pub record IsAuthorised (s : Standing) : Type 0 where
+  pub short : length s.bytes ≤ 9216
+  pub sound : first_fault s.bytes ≡ None
   pub unexpired : is_expired s ≡ false
   pub by_its_link : is_external s ≡ true → ingress s ≡ s.link
-  pub authentic : is_authentic (turned_back s) ≡ true
+  pub whole : s.header.payload_length ≡ length s.payload
+  pub sender : came_lawfully s ≡ true
   pub from_elsewhere : is_external s ≡ true → is_local s.network s.header.source ≡ false
+  pub from_here : is_external s ≡ false → is_first_of_path s.path.place ≡ true → is_local s.network s.header.source ≡ true
+  pub destination : is_destination_lawful s ≡ true
+  pub authentic : is_authentic (turned_back s) ≡ true
 
 -- ---- how it left
 

@@ -2,9 +2,12 @@
 
 ghost use Rattle.process_packet.specs.Laws.{AnswersAreSound, NextPlaceIsNext, NothingElseChanges, OnlyAuthorised, OnlyLawfulWays};
 
-/// A packet is sent only if the hop field at its cursor was within its time, named the link by which the
-/// packet came from outside, and carried the MAC that the AS's key gives for it. From outside it claims
-/// no source in this AS.
+/// A packet is sent only if it has no fault, no more bytes than any link carries and the payload length that
+/// it tells; the hop field at its cursor was within its time, named the link by which the packet came from
+/// outside, and carried the MAC that the AS's key gives for it; and it came from the router at the link's
+/// other end, or within the AS from the router of the entry interface. From outside it claims no source in
+/// this AS; one that begins its path inside has its source here. From outside it is for this AS exactly at
+/// its path's last hop, and from inside never.
 pub fn only_authorised()
     ensures { OnlyAuthorised }
 {}

@@ -19,7 +19,8 @@ use Rattle.process_packet.specs.Net.{Agrees, Joined, Net, Router, end_at, router
 use Rattle.walk_laws.specs.Domain.{IsOf}
 use Rattle.walk_laws.proofs.NetLemmas.{ListsAt, listed_at}
 use Rattle.walk_laws.specs.Route.{IsBefore, Crosses, IsHopOf, IsOn, IsRoute, Route, after, way_in, way_out}
-use Rattle.walk_laws.specs.Shown.{ComesAsItShould, StandsToLeave, asks_entry, asks_exit, is_for_us, packet_at, turned}
+use Rattle.walk_laws.proofs.Coming.{ComesAsItShould}
+use Rattle.walk_laws.specs.Shown.{StandsToLeave, asks_entry, asks_exit, is_for_us, packet_at, turned}
 use Rattle.walk_laws.specs.Stands.{PacketAt, IdsStand, IsOnItsWay, Stands}
 use Rattle.walk_laws.specs.Stop.{GoesOn, IsAsked, IsCarried}
 use Rattle.walk_laws.proofs.RowsPassed.{replies_at_exit, sent_by_link, sent_to_sibling}

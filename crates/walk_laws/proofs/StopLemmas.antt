@@ -21,7 +21,8 @@ use Rattle.process_packet.specs.Standing.{hop, ingress, ingress_alert, Standing,
 use Rattle.process_packet.specs.Net.{Agrees, Net, Router, router_at}
 use Rattle.walk_laws.specs.Domain.{IsOf}
 use Rattle.walk_laws.specs.Route.{IsBefore, IsHopOf, IsOn, IsRoute, Joins, Route, after, info_of, last_in, way_in}
-use Rattle.walk_laws.specs.Shown.{ComesAsItShould, StandsToLeave, asks_entry, is_for_us, turned}
+use Rattle.walk_laws.proofs.Coming.{ComesAsItShould}
+use Rattle.walk_laws.specs.Shown.{StandsToLeave, asks_entry, is_for_us, turned}
 use Rattle.walk_laws.specs.Stands.{PacketAt, IsOnItsWay, Stands, StandsInside, StandsOutside, place_of}
 use Rattle.walk_laws.specs.Stop.{GoesOn, IsAsked, progress, standing, verdict_at}
 use Rattle.walk_laws.proofs.RowsPassed.{delivers, replies_at_entry}

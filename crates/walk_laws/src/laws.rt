@@ -2,19 +2,20 @@
 
 ghost use Rattle.walk_laws.specs.Configured.{LinksAreNumbered};
 ghost use Rattle.walk_laws.specs.Examples.{ExamplesAreLawful};
-ghost use Rattle.walk_laws.specs.Hosts.{HostsAreReached};
+ghost use Rattle.walk_laws.specs.Hosts.{DeliveredToItsHost, HostsAreReached};
 ghost use Rattle.walk_laws.specs.LawfulStart.{HopsMakeRoutes};
 ghost use Rattle.walk_laws.specs.Route.{RoutesTurn};
-ghost use Rattle.walk_laws.specs.Shown.{ShownIsSent};
+ghost use Rattle.walk_laws.specs.Shown.{AllAuthorisedAreSent};
 ghost use Rattle.walk_laws.specs.Start.{PathsAreWalked};
 ghost use Rattle.walk_laws.specs.Stop.{CarriedToOne, OneStop};
 ghost use Rattle.walk_laws.specs.Stretch.{BeaconedHopsHold, StretchesHold};
 ghost use Rattle.walk_laws.specs.Walk.{RoutesAreWalked};
 
-/// A packet that shows all that the rows ask for is sent: to its host where it is for this AS, else by
-/// its egress interface, or to the router of the AS that has this interface.
-pub fn shown_is_sent()
-    ensures { ShownIsSent }
+/// A packet that shows all that it must show is sent, unless it asks a router here to answer: to its host
+/// where it is for this AS, else by its egress interface, or to the router of the AS that has this
+/// interface.
+pub fn authorised_is_sent()
+    ensures { AllAuthorisedAreSent }
 {}
 
 /// A packet that stands on a route is delivered at the route's last hop. At any other one it is sent
@@ -76,4 +77,10 @@ pub fn examples_are_lawful()
 /// Each link of a configuration has a number from 1 on.
 pub fn links_are_numbered()
     ensures { LinksAreNumbered }
+{}
+
+/// What comes from outside, is for this AS and is sent goes to its own destination: on link 0, to the host's
+/// address and the port where hosts listen, or to the address of the service.
+pub fn delivers_to_its_host()
+    ensures { DeliveredToItsHost }
 {}
