@@ -1,1 +1,2 @@
 pub mod BeaconingLemmas
+pub mod InputLemmas

@@ -8,8 +8,10 @@
 
 mod beaconing;
 mod expiry;
+mod laws;
 mod mac;
 
 pub use beaconing::beacon;
 pub use expiry::expired;
+pub use laws::inputs_are_one_to_one;
 pub use mac::{chain, mac_input, verify};
