@@ -18,8 +18,8 @@ use Rattle.process_packet.specs.declared.underlay.Ip.{Ip}
 use Rattle.process_packet.specs.declared.underlay.Ip.TheVariants.{V4, V6}
 use Rattle.process_packet.specs.declared.underlay.Underlay.{Underlay}
 use Rattle.process_packet.specs.Agreement as agreement
-use Rattle.process_packet.specs.Net.{AgreeWithin, Agrees, AreApart, AreOfOneAS, IsWire, Lists, Net, Router, opposite, router_at, router_of}
-use Rattle.process_packet.specs.Network.{Network, own_link, sibling}
+use Rattle.process_packet.specs.Net.{AgreeWithin, Agrees, AreApart, AreOfOneAS, IsWire, Lists, Net, Router, opposite, router_of}
+use Rattle.process_packet.specs.Network.{own_link, sibling}
 use Rattle.process_packet.specs.Underlay.{same_ip, same_underlay}
 
 -- ---- tests of any kind

@@ -9,3 +9,4 @@ pub mod FrontLemmas
 pub mod PassingLemmas
 pub mod LawLemmas
 pub mod AgreementLemmas
+pub mod ProblemLemmas

@@ -16,3 +16,4 @@ pub mod Routed
 pub mod Laws
 pub mod Net
 pub mod Agreement
+pub mod Problems

@@ -1,6 +1,7 @@
 //! What the decision table says as a whole: nothing here runs.
 
 ghost use Rattle.process_packet.specs.Laws.{AnswersAreSound, NextPlaceIsNext, NothingElseChanges, OnlyAuthorised, OnlyLawfulWays};
+ghost use Rattle.process_packet.specs.Problems.{ProblemsAreLawful};
 
 /// A packet is sent only if it has no fault, no more bytes than any link carries and the payload length that
 /// it tells; the hop field at its cursor was within its time, named the link by which the packet came from
@@ -34,4 +35,11 @@ pub fn next_place_is_next()
 /// Only a datagram without a fault of its header and its path is answered.
 pub fn answers_are_sound()
     ensures { AnswersAreSound }
+{}
+
+/// What a sender is told is that its destination can't be reached (type 1), that a field is wrong (type 4), or
+/// a traceroute reply (type 131); the reply only for a request whose hop field was within its time, named
+/// the link by which it came from outside, and carried its MAC.
+pub fn problems_are_lawful()
+    ensures { ProblemsAreLawful }
 {}

@@ -36,6 +36,7 @@ pub use decision::{Decision, Problem};
 pub use front::LONGEST_DATAGRAM;
 pub use laws::{
     answers_are_sound, next_place_is_next, nothing_else_changes, only_authorised, only_lawful_ways,
+    problems_are_lawful,
 };
 pub use neighbours::{Bands, Link, Service, Sibling};
 pub use net::{End, Net, Wire};

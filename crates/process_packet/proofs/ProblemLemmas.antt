@@ -1,0 +1,161 @@
+-- Row after row: what each of them may tell a sender.
+use Rattle.std.proofs.Common.{◌≡◌, ℕ, Bool, true, false, not, ◌&&◌, ◌==◌, nat_lt, inl, inr, List, [], ◌∷◌, length, Option, Some, None, if◌then◌else◌, refl, sym, ap₂, subst, ◌∙◌, arith}
+use Rattle.std.specs.Prelude.{is_some, option_map}
+use Rattle.std.proofs.lemmas.Bool.Decides.{Decides-eqb}
+use Rattle.field_rows.specs.Place.{number_at}
+use Rattle.scion_packet.specs.Fault.{Fault}
+use Rattle.scion_packet.specs.Header.{HeaderFields, header_fault, host_code}
+use Rattle.scion_packet.specs.Packet.{Packet, path_bytes}
+use Rattle.scion_packet.specs.Path.{path_fault}
+use Rattle.process_packet.specs.Decide.{decision_table, verdict, verdict_of}
+use Rattle.process_packet.specs.Laws.{changes}
+use Rattle.process_packet.specs.Neighbours.{service_at, sibling_at}
+use Rattle.process_packet.specs.Network.{Network, interface_kind, is_local, own_link, service, sibling}
+use Rattle.process_packet.specs.Problems.{IsLawfulRequest, IsProblem, ProblemsAreLawful}
+use Rattle.process_packet.specs.Request.{is_request}
+use Rattle.process_packet.specs.Rows.{Answered, Dropped, Ends, GoesOn, Row, Sent, Turn, Verdict, came_lawfully, delivered, ends_where, expired, faulty, is_destination_lawful, is_pair_lawful, is_source_lawful, sent_on, sent_out, then_rows, to_service, wrong_mac}
+use Rattle.process_packet.specs.Standing.{Standing, arrives, chained, changed_over, egress, egress_alert, hop_pointer, info_pointer, ingress, ingress_alert, is_along, is_authentic, is_expired, is_external, is_last_of_path, packet, turned_back, next_place, with_place}
+use Rattle.process_packet.specs.declared.cause.Cause.TheVariants as cause
+use Rattle.process_packet.specs.declared.decision.Problem.{Problem}
+use Rattle.process_packet.specs.declared.underlay.Ip.TheVariants.{V4, V6}
+use Rattle.process_packet.specs.declared.underlay.Underlay.{Underlay}
+use Rattle.process_packet.proofs.LawLemmas.{rest}
+use Rattle.process_packet.proofs.PassingLemmas.{and_not, not_false, parameter}
+use Rattle.process_packet.proofs.TurningLemmas.{turned_stays}
+
+-- a problem that is told is such
+abbrev IsTold : (Problem → Type 0) → Verdict → Type 0
+IsTold K (Sent out to p) = Unit {0}
+IsTold K (Answered q) = K q
+IsTold K (Dropped c) = Unit {0}
+
+abbrev Tells : (Problem → Type 0) → Turn → List Row → Type 0
+Tells K t rows = IsTold K (verdict_of (then_rows t rows))
+
+row_of : (K : Problem → Type 0) (b : Bool) (v : Verdict) (s : Standing) (rows : List Row) → (b ≡ true → IsTold K v) → (b ≡ false → Tells K (GoesOn s) rows)
+    → Tells K (ends_where b v s) rows
+row_of K true v s rows here after = here refl
+row_of K false v s rows here after = after refl
+
+row_within : (K : Problem → Type 0) (b : Bool) (v : Verdict) (s : Standing) (within rows : List Row) → (b ≡ true → IsTold K v)
+    → (b ≡ false → Tells K (then_rows (GoesOn s) within) rows) → Tells K (then_rows (ends_where b v s) within) rows
+row_within K true v s within rows here after = here refl
+row_within K false v s within rows here after = after refl
+
+row_faulty : (K : Problem → Type 0) (f : Option Fault) (s : Standing) (rows : List Row) → Tells K (GoesOn s) rows → Tells K (faulty f s) rows
+row_faulty K None s rows after = after
+row_faulty K (Some f) s rows after = tt
+
+-- ---- delivery and leaving
+
+told_service : (K : Problem → Type 0) (p : Packet) (o : Option Underlay) → K (record { kind = 1; code = 0; pointer = 0 }) → IsTold K (to_service p o)
+told_service K p None k = k
+told_service K p (Some at) k = tt
+
+told_delivery : (K : Problem → Type 0) (a b c : Bool) (four six : Underlay) (o : Option Underlay) (p : Packet) → K (record { kind = 1; code = 0; pointer = 0 }) → K (parameter 21 9)
+    → IsTold K (if a then Sent 0 (Some four) p else if b then Sent 0 (Some six) p else if c then to_service p o else Answered (parameter 21 9))
+told_delivery K true b c four six o p k j = tt
+told_delivery K false true c four six o p k j = tt
+told_delivery K false false true four six o p k j = told_service K p o k
+told_delivery K false false false four six o p k j = j
+
+told_delivered : (K : Problem → Type 0) (n : Network) (p : Packet) → K (record { kind = 1; code = 0; pointer = 0 }) → K (parameter 21 9) → IsTold K (delivered n p)
+told_delivered K n p k j =
+    let a = p.header.destination in
+    told_delivery K (a.kind == 0 && host_code a == 0) (a.kind == 0 && host_code a == 3) (a.kind == 1 && host_code a == 0)
+    (record { ip = V4 a.host; port = n.host_port }) (record { ip = V6 a.host; port = n.host_port }) (option_map service_at (service n (number_at a.host 0 2))) p k j
+
+told_out : (K : Problem → Type 0) (last : Bool) (link : ℕ) (p : Packet) → IsTold K (if last then Dropped cause.PathEnd else Sent link None p)
+told_out K true link p = tt
+told_out K false link p = tt
+
+told_on : (K : Problem → Type 0) (p : Packet) (o : Option Underlay) → IsTold K (sent_on p o)
+told_on K p None = tt
+told_on K p (Some at) = tt
+
+told_leave : (K : Problem → Type 0) (b : Bool) (u w : Standing)
+    → Tells K (if b then Ends (sent_out w (egress u)) else Ends (sent_on (packet u) (option_map sibling_at (sibling u.network (egress u))))) []
+told_leave K true u w = told_out K (is_last_of_path w) (egress u) (packet (with_place w (next_place w.path.segments w.path.place)))
+told_leave K false u w = told_on K (packet u) (option_map sibling_at (sibling u.network (egress u)))
+
+told_pair : (K : Problem → Type 0) (switched b : Bool) (q r : Problem) (u : Standing) (rows : List Row) → K q → K r → Tells K (GoesOn u) rows
+    → Tells K (ends_where b (if switched then Answered q else Answered r) u) rows
+told_pair K true b q r u rows k j after = row_of K b (Answered q) u rows (λ is. k) (λ no. after)
+told_pair K false b q r u rows k j after = row_of K b (Answered r) u rows (λ is. j) (λ no. after)
+
+three : (x y z : Bool) → (x && y && z) ≡ true → z ≡ true
+three true true true e = refl
+three true true false e = absurd cc
+three true false z e = absurd cc
+three false y z e = absurd cc
+
+-- ---- the table
+
+module _ (s : Standing) where
+  abbrev K : Problem → Type 0
+  K q = IsProblem s q
+
+  abbrev t : Standing
+  t = turned_back s
+
+  four : (code pointer : ℕ) → K (parameter code pointer)
+  four code pointer = record { kind = inr (inl refl); reply = λ is. absurd (omega arith) }
+
+  one : K (record { kind = 1; code = 0; pointer = 0 })
+  one = record { kind = inl refl; reply = λ is. absurd (omega arith) }
+
+  asked : (interface : ℕ) → IsLawfulRequest s → K (record { kind = 131; code = 0; pointer = interface })
+  asked interface is = record { kind = inr (inr refl); reply = λ e. is }
+
+  -- what stands turned back is the same request
+  request_there : is_request t.header.next_header t.payload ≡ true → is_request s.header.next_header s.payload ≡ true
+  request_there is =
+      let same = turned_stays s in
+      ap₂ (λ (h : HeaderFields) (p : List ℕ). is_request h.next_header p) (sym same.header) (sym same.payload) ∙ is
+
+  leaves : (u : Standing) → u.header ≡ t.header → u.payload ≡ t.payload → (is_request s.header.next_header s.payload ≡ true → IsLawfulRequest s) → Tells K (GoesOn u) (rest 14)
+  leaves u header payload lawful =
+      row_of K (not (is_some (interface_kind u.network (egress u)))) (Answered (parameter (if is_along u then 50 else 49) (hop_pointer u))) u (rest 15) (λ is. four _ _) (λ known.
+      told_pair K u.switched (not (is_pair_lawful u)) (parameter 53 (info_pointer u)) (parameter 48 (hop_pointer u)) u (rest 16) (four _ _) (four _ _)
+      (row_of K (is_some (own_link u.network (egress u)) && egress_alert u && is_request u.header.next_header u.payload) (Answered (record { kind = 131; code = 0; pointer = egress u })) u (rest 17)
+      (λ asks. asked (egress u) (lawful (request_there
+      (ap₂ (λ (h : HeaderFields) (p : List ℕ). is_request h.next_header p) (sym header) (sym payload) ∙ three (is_some (own_link u.network (egress u))) (egress_alert u) (is_request u.header.next_header u.payload) asks))))
+      (λ quiet. told_leave K (is_some (own_link u.network (egress u))) u (if is_along u then chained u else u))))
+
+  switches : (b : Bool) → (is_request s.header.next_header s.payload ≡ true → IsLawfulRequest s)
+      → Tells K (if b then then_rows (GoesOn (changed_over t)) (expired ∷ wrong_mac ∷ []) else GoesOn t) (rest 14)
+  switches true lawful =
+      let u : Standing = changed_over t in
+      row_within K (is_expired u) (Answered (parameter 52 (hop_pointer u))) u (wrong_mac ∷ []) (rest 14) (λ is. four _ _) (λ unexpired.
+      row_within K (not (is_authentic u)) (Answered (parameter 51 (hop_pointer u))) u [] (rest 14) (λ is. four _ _) (λ authentic. leaves u refl refl lawful))
+  switches false lawful = leaves t refl refl lawful
+
+  lawful_request : is_request s.header.next_header s.payload ≡ true → is_expired s ≡ false → (is_external s && not (ingress s == s.link)) ≡ false → not (is_authentic t) ≡ false → IsLawfulRequest s
+  lawful_request request unexpired entered authentic = record {
+    request = request;
+    unexpired = unexpired;
+    by_its_link = λ external. (Decides-eqb (ingress s) s.link).0 (and_not (is_external s) (ingress s == s.link) entered external);
+    authentic = not_false (is_authentic t) authentic;
+  }
+
+  told_all : Tells K (GoesOn s) decision_table
+  told_all =
+      row_of K (nat_lt 9216 (length s.bytes)) (Dropped cause.TooLong) s (rest 1) (λ is. tt) (λ short.
+      row_faulty K (header_fault s.bytes) s (rest 2)
+      (row_faulty K (path_fault (path_bytes s.bytes)) s (rest 3)
+      (row_of K (is_expired s) (Answered (parameter 52 (hop_pointer s))) s (rest 4) (λ is. four _ _) (λ unexpired.
+      row_of K (is_external s && not (ingress s == s.link)) (Answered (parameter (if is_along s then 49 else 50) (hop_pointer s))) s (rest 5) (λ is. four _ _) (λ entered.
+      row_of K (not (s.header.payload_length == length s.payload)) (Answered (parameter 19 0)) s (rest 6) (λ is. four _ _) (λ whole.
+      row_of K (not (came_lawfully s)) (Dropped cause.UnderlaySource) s (rest 7) (λ is. tt) (λ sender.
+      row_of K (not (is_source_lawful s)) (Answered (parameter 33 20)) s (rest 8) (λ is. four _ _) (λ source.
+      row_of K (not (is_destination_lawful s)) (Answered (parameter 34 12)) s (rest 9) (λ is. four _ _) (λ destination.
+      row_of K (not (is_authentic t)) (Answered (parameter 51 (hop_pointer t))) t (rest 11) (λ is. four _ _) (λ authentic.
+      let lawful = λ (request : is_request s.header.next_header s.payload ≡ true). lawful_request request unexpired entered authentic in
+      row_of K (is_external t && ingress_alert t && is_request t.header.next_header t.payload) (Answered (record { kind = 131; code = 0; pointer = ingress t })) t (rest 12)
+      (λ asks. asked (ingress t) (lawful (request_there (three (is_external t) (ingress_alert t) (is_request t.header.next_header t.payload) asks)))) (λ quiet.
+      row_of K (is_external t && is_local t.network t.header.destination) (delivered t.network (packet t)) t (rest 13)
+      (λ for_us. told_delivered K t.network (packet t) one (four 21 9)) (λ others. switches (changes t) lawful))))))))))))
+
+pub problems_lawful : ProblemsAreLawful
+unfolding verdict
+problems_lawful n link source moment bytes q answers = subst (IsTold (IsProblem (arrives n link source moment bytes))) answers (told_all (arrives n link source moment bytes))
