@@ -52,6 +52,136 @@ type Change = (usize, usize, &'static str);
 
 const NONE: Change = (3, 0, "");
 
+/// Nets that don't agree, each for the clause that is named.
+const CASES: [(&str, [Change; 2]); 14] = [
+    (
+        "key",
+        [
+            (1, KEY, "key = \"2b7e151628aed2a6abf7158809cf4f3d\"\n"),
+            NONE,
+        ],
+    ),
+    ("host port", [(1, HOST_PORT, "host_port = 30042\n"), NONE]),
+    (
+        "service's address",
+        [
+            (
+                1,
+                SERVICE,
+                "service = [{number=2, at=\"10.0.0.8:30252\"}]\n",
+            ),
+            NONE,
+        ],
+    ),
+    (
+        "service's number",
+        [
+            (
+                1,
+                SERVICE,
+                "service = [{number=1, at=\"10.0.0.9:30252\"}]\n",
+            ),
+            NONE,
+        ],
+    ),
+    (
+        "service on one side",
+        [(1, SERVICE, "service = []\n"), NONE],
+    ),
+    (
+        "same internal address",
+        [
+            (1, INTERNAL, "internal = \"10.0.0.1:30000\"\n"),
+            (
+                0,
+                SIBLING,
+                "sibling = [{id=2, kind=\"core\", at=\"10.0.0.1:30000\"}]\n",
+            ),
+        ],
+    ),
+    (
+        "interface not listed",
+        [(0, SIBLING, "sibling = []\n"), NONE],
+    ),
+    (
+        "interface's owner",
+        [
+            (
+                0,
+                SIBLING,
+                "sibling = [{id=2, kind=\"core\", at=\"10.0.0.3:30000\"}]\n",
+            ),
+            NONE,
+        ],
+    ),
+    (
+        "interface's kind",
+        [
+            (
+                0,
+                SIBLING,
+                "sibling = [{id=2, kind=\"child\", at=\"10.0.0.2:30000\"}]\n",
+            ),
+            NONE,
+        ],
+    ),
+    (
+        "interface in common",
+        [
+            (
+                1,
+                LINK,
+                "link = [{id=1, kind=\"core\", local=\"10.3.0.1:40000\", remote=\"10.3.0.2:40000\"}]\n",
+            ),
+            (1, SIBLING, "sibling = []\n"),
+        ],
+    ),
+    (
+        "one remote",
+        [
+            (
+                2,
+                LINK,
+                "link = [{id=17, kind=\"parent\", local=\"10.1.0.2:40000\", remote=\"10.1.0.3:40000\"}]\n",
+            ),
+            NONE,
+        ],
+    ),
+    (
+        "other remote",
+        [
+            (
+                2,
+                LINK,
+                "link = [{id=17, kind=\"parent\", local=\"10.1.0.3:40000\", remote=\"10.1.0.1:40000\"}]\n",
+            ),
+            NONE,
+        ],
+    ),
+    (
+        "kinds",
+        [
+            (
+                2,
+                LINK,
+                "link = [{id=17, kind=\"core\", local=\"10.1.0.2:40000\", remote=\"10.1.0.1:40000\"}]\n",
+            ),
+            NONE,
+        ],
+    ),
+    (
+        "link's number",
+        [
+            (
+                2,
+                LINK,
+                "link = [{id=18, kind=\"parent\", local=\"10.1.0.2:40000\", remote=\"10.1.0.1:40000\"}]\n",
+            ),
+            NONE,
+        ],
+    ),
+];
+
 fn end(router: usize, link: u16) -> End {
     End { router, link }
 }
@@ -92,135 +222,7 @@ fn agrees_only_where_each_clause_holds(rt: HostRuntime) {
     let wired = [wire(end(0, 1), end(2, 17))];
     assert!(rt; agrees(&net(&rt, [NONE, NONE], &wired)));
     assert!(rt; agrees(&net(&rt, [NONE, NONE], &[])));
-    let cases: [(&str, [Change; 2]); 14] = [
-        (
-            "key",
-            [
-                (1, KEY, "key = \"2b7e151628aed2a6abf7158809cf4f3d\"\n"),
-                NONE,
-            ],
-        ),
-        ("host port", [(1, HOST_PORT, "host_port = 30042\n"), NONE]),
-        (
-            "service's address",
-            [
-                (
-                    1,
-                    SERVICE,
-                    "service = [{number=2, at=\"10.0.0.8:30252\"}]\n",
-                ),
-                NONE,
-            ],
-        ),
-        (
-            "service's number",
-            [
-                (
-                    1,
-                    SERVICE,
-                    "service = [{number=1, at=\"10.0.0.9:30252\"}]\n",
-                ),
-                NONE,
-            ],
-        ),
-        (
-            "service on one side",
-            [(1, SERVICE, "service = []\n"), NONE],
-        ),
-        (
-            "same internal address",
-            [
-                (1, INTERNAL, "internal = \"10.0.0.1:30000\"\n"),
-                (
-                    0,
-                    SIBLING,
-                    "sibling = [{id=2, kind=\"core\", at=\"10.0.0.1:30000\"}]\n",
-                ),
-            ],
-        ),
-        (
-            "interface not listed",
-            [(0, SIBLING, "sibling = []\n"), NONE],
-        ),
-        (
-            "interface's owner",
-            [
-                (
-                    0,
-                    SIBLING,
-                    "sibling = [{id=2, kind=\"core\", at=\"10.0.0.3:30000\"}]\n",
-                ),
-                NONE,
-            ],
-        ),
-        (
-            "interface's kind",
-            [
-                (
-                    0,
-                    SIBLING,
-                    "sibling = [{id=2, kind=\"child\", at=\"10.0.0.2:30000\"}]\n",
-                ),
-                NONE,
-            ],
-        ),
-        (
-            "interface in common",
-            [
-                (
-                    1,
-                    LINK,
-                    "link = [{id=1, kind=\"core\", local=\"10.3.0.1:40000\", remote=\"10.3.0.2:40000\"}]\n",
-                ),
-                (1, SIBLING, "sibling = []\n"),
-            ],
-        ),
-        (
-            "one remote",
-            [
-                (
-                    2,
-                    LINK,
-                    "link = [{id=17, kind=\"parent\", local=\"10.1.0.2:40000\", remote=\"10.1.0.3:40000\"}]\n",
-                ),
-                NONE,
-            ],
-        ),
-        (
-            "other remote",
-            [
-                (
-                    2,
-                    LINK,
-                    "link = [{id=17, kind=\"parent\", local=\"10.1.0.3:40000\", remote=\"10.1.0.1:40000\"}]\n",
-                ),
-                NONE,
-            ],
-        ),
-        (
-            "kinds",
-            [
-                (
-                    2,
-                    LINK,
-                    "link = [{id=17, kind=\"core\", local=\"10.1.0.2:40000\", remote=\"10.1.0.1:40000\"}]\n",
-                ),
-                NONE,
-            ],
-        ),
-        (
-            "link's number",
-            [
-                (
-                    2,
-                    LINK,
-                    "link = [{id=18, kind=\"parent\", local=\"10.1.0.2:40000\", remote=\"10.1.0.1:40000\"}]\n",
-                ),
-                NONE,
-            ],
-        ),
-    ];
-    for (clause, changes) in cases {
+    for (clause, changes) in CASES {
         assert!(rt; !agrees(&net(&rt, changes, &wired)), "{clause}");
     }
 }
