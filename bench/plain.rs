@@ -1,8 +1,9 @@
 //! Plain Rust beside the ruled pipe: `plain mpsc|queue word|buffer PRODUCERS` prints the tenths of a
 //! nanosecond that one item took in the middle one of its rounds. Rounds, counts, sizes and the way of
 //! waiting are those of `crates/joints_bench`.
-use std::cell::UnsafeCell;
-use std::mem::MaybeUninit;
+mod array_queue;
+
+use array_queue::ArrayQueue;
 use std::sync::atomic::{AtomicUsize, Ordering};
 use std::sync::{mpsc, Arc};
 use std::thread;
@@ -12,78 +13,6 @@ const CAPACITY: usize = 1024;
 const ITEMS: usize = 8192;
 const ROUNDS: usize = 61;
 const BUFFER: usize = 9217;
-
-/// Alone on its cache lines.
-#[repr(align(128))]
-struct Apart<T>(T);
-
-/// A bounded queue for many producers and many consumers: each slot has a stamp, which says whose turn
-/// it is.
-struct ArrayQueue<T> {
-    slots: Box<[(AtomicUsize, UnsafeCell<MaybeUninit<T>>)]>,
-    head: Apart<AtomicUsize>,
-    tail: Apart<AtomicUsize>,
-}
-
-unsafe impl<T: Send> Sync for ArrayQueue<T> {}
-
-impl<T> ArrayQueue<T> {
-    fn new(capacity: usize) -> Self {
-        let slots = (0..capacity).map(|i| (AtomicUsize::new(i), UnsafeCell::new(MaybeUninit::uninit())));
-        ArrayQueue { slots: slots.collect(), head: Apart(AtomicUsize::new(0)), tail: Apart(AtomicUsize::new(0)) }
-    }
-
-    fn push(&self, item: T) -> Result<(), T> {
-        let mut tail = self.tail.0.load(Ordering::Relaxed);
-        loop {
-            let slot = &self.slots[tail % self.slots.len()];
-            let stamp = slot.0.load(Ordering::Acquire);
-            if stamp == tail {
-                match self.tail.0.compare_exchange_weak(tail, tail + 1, Ordering::SeqCst, Ordering::Relaxed) {
-                    Ok(_) => {
-                        unsafe { (*slot.1.get()).write(item) };
-                        slot.0.store(tail + 1, Ordering::Release);
-                        return Ok(());
-                    }
-                    Err(now) => tail = now,
-                }
-            } else if stamp < tail {
-                let head = self.head.0.load(Ordering::SeqCst);
-                if head + self.slots.len() == tail {
-                    return Err(item);
-                }
-                std::hint::spin_loop();
-                tail = self.tail.0.load(Ordering::Relaxed);
-            } else {
-                tail = self.tail.0.load(Ordering::Relaxed);
-            }
-        }
-    }
-
-    fn pop(&self) -> Option<T> {
-        let mut head = self.head.0.load(Ordering::Relaxed);
-        loop {
-            let slot = &self.slots[head % self.slots.len()];
-            let stamp = slot.0.load(Ordering::Acquire);
-            if stamp == head + 1 {
-                match self.head.0.compare_exchange_weak(head, head + 1, Ordering::SeqCst, Ordering::Relaxed) {
-                    Ok(_) => {
-                        let item = unsafe { (*slot.1.get()).assume_init_read() };
-                        slot.0.store(head + self.slots.len(), Ordering::Release);
-                        return Some(item);
-                    }
-                    Err(now) => head = now,
-                }
-            } else {
-                if self.tail.0.load(Ordering::SeqCst) == head {
-                    return None;
-                }
-                std::hint::spin_loop();
-                head = self.head.0.load(Ordering::Relaxed);
-            }
-        }
-    }
-}
 
 /// Waits between looks as crossbeam's `Backoff::snooze` does, which the pipe's side uses.
 struct Backoff(u32);
