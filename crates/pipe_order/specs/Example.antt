@@ -1,15 +1,19 @@
--- Small runs: a full queue, a closed link, two processors, an answer, two bands, end marks.
+-- Small runs: a full queue, a closed link, two processors, an answer, two bands, end marks; and what a run that has ended tells.
 use Rattle.std.specs.Prelude.{◌≡◌, ℕ, Bool, true, false, ◌&&◌, ◌==◌, if◌then◌else◌, List, [], ◌∷◌, ◌++◌, map, slice_index_or, None}
+use Rattle.std.specs.List.{flat_map}
 use Rattle.pipe_order.specs.Kinds.{Kinds}
-use Rattle.pipe_order.specs.Item.{Arrived}
+use Rattle.pipe_order.specs.Item.{Arrival, Outgoing, Arrived}
 use Rattle.pipe_order.specs.Worker.{Receiver, Processor, Slow, Forwarder, Controller, Of, High}
 use Rattle.pipe_order.specs.Pipe.{Entry, empty_pipe}
 use Rattle.pipe_order.specs.Rules.{Rules, Sends, Asks, Replies, IsLawful}
-use Rattle.pipe_order.specs.World.{World, Cause, Fate, pipe}
+use Rattle.pipe_order.specs.World.{World, Cause, Fate, pipe, link_pipe}
 use Rattle.pipe_order.specs.Step.{Step}
 use Rattle.pipe_order.specs.Run.{run, skipped_from}
 use Rattle.pipe_order.specs.Start.{first_world}
 use Rattle.pipe_order.specs.Place.{InPipe, Dropped, places}
+use Rattle.pipe_order.specs.Deeds.{Deed, Accepted, Refused, Lacked, accepted, refused}
+use Rattle.pipe_order.specs.Settled.{Views, to_link, dropped}
+use Rattle.pipe_order.specs.Counted.{unsent}
 use Rattle.pipe_order.specs.Totals.{received_count, sent_count, answered_count, waiting_count}
 
 pub record Sample : Type 0 where
@@ -169,3 +173,50 @@ marks =
 
 abbrev pub MarksOnce : Type 0
 MarksOnce = skipped_from (rules true) (begun true 8 []) 0 marks ≡ 0 ∷ 5 ∷ 6 ∷ 13 ∷ 15 ∷ 17 ∷ 20 ∷ []
+
+-- of four packets that a processor of the running pipeline took, one was pushed and handed on, one refused, one lacked memory,
+-- and one was pushed and swept
+abbrev took : ℕ → Arrival samples
+took n = record { link = 1; number = n; datagram = plain }
+
+abbrev left : ℕ → Outgoing samples
+left n = record { arrived = 1; number = n; answer = false; link = 2; parcel = plain }
+
+abbrev worked : List (Deed ℕ (Arrival samples))
+worked =
+    record { item = took 1; end = Accepted } ∷ record { item = took 2; end = Refused } ∷ record { item = took 3; end = Lacked } ∷
+    record { item = took 4; end = Accepted } ∷ []
+
+-- the receiver pushed all of them
+abbrev told_all : List (Deed ℕ (Arrival samples))
+told_all = map (λ (d : Deed ℕ (Arrival samples)). record { item = d.item; end = Accepted }) worked
+
+abbrev ended : Views samples
+ended = record {
+  received = λ a. told_all;
+  arrived = λ a i. [];
+  arrived_full = λ a i. [];
+  taken = λ i. [];
+  worked = λ i. worked;
+  leaving = λ i q. [];
+  leaving_full = λ i q. left 2 ∷ [];
+  asked = λ i. [];
+  asked_full = λ i. [];
+  forwarded = λ q. [];
+  handed = λ q. left 1 ∷ [];
+  swept = λ q. left 4 ∷ [];
+  shut = λ q. true;
+}
+
+abbrev into_link : Arrival samples → List (Outgoing samples)
+into_link = to_link (rules false) (link_pipe (rules false) false 2)
+
+abbrev any_packet : Arrival samples → Bool
+any_packet x = true
+
+abbrev pub Ends : Type 0
+Ends =
+    (map (λ (o : Outgoing samples). o.number) (flat_map (accepted into_link) worked) ≡ 1 ∷ 4 ∷ []) ×
+    (map (λ (o : Outgoing samples). o.number) (flat_map (refused into_link) worked) ≡ 2 ∷ []) ×
+    (unsent worked ≡ 1) ×
+    (dropped (rules false) ended 1 2 (link_pipe (rules false) false 2) 0 any_packet ≡ 2 ∷ 3 ∷ 4 ∷ [])

@@ -14,7 +14,7 @@ ghost use Rattle.pipe_order.specs.Sent.{KeepsSent};
 ghost use Rattle.pipe_order.specs.Totals.{KeepsTotals};
 ghost use Rattle.pipe_order.specs.Settled.{Settles};
 ghost use Rattle.pipe_order.specs.Counted.{CountsOnce};
-ghost use Rattle.pipe_order.specs.Example.{Lawful, FullQueue, ClosedLink, TwoFlows, Answers, TwoBands, Lacks, MarksOnce};
+ghost use Rattle.pipe_order.specs.Example.{Lawful, FullQueue, ClosedLink, TwoFlows, Answers, TwoBands, Lacks, MarksOnce, Ends};
 
 /// The first world is a start.
 pub fn begins<D, P, Q, R, K>()
@@ -73,7 +73,8 @@ pub fn runs_stepwise<D, P, Q, R, K>()
     ensures law { RunsStepwise (record { Datagram = D; Parcel = P; Problem = Q; Reason = R; Key = K }) }
 {}
 
-/// Small runs: a full queue, a closed link, two processors, an answer, two bands, what is lacking, end marks.
+/// Small runs: a full queue, a closed link, two processors, an answer, two bands, what is lacking, end marks; and what workers
+/// tell that have ended.
 pub fn examples()
     ensures lawful { Lawful }
     ensures full_queue { FullQueue }
@@ -83,6 +84,7 @@ pub fn examples()
     ensures two_bands { TwoBands }
     ensures lacks { Lacks }
     ensures marks_once { MarksOnce }
+    ensures ends { Ends }
 {}
 
 /// Of workers that keep their laws over pipes that hold nothing any more: each forwarder handed on, of each link and flow, what

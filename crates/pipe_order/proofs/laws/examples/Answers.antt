@@ -25,3 +25,6 @@ returns-clause-lacks c = (refl, refl)
 
 pub returns-clause-marks_once : goal.returns-clause-marks_once
 returns-clause-marks_once c = refl
+
+pub returns-clause-ends : goal.returns-clause-ends
+returns-clause-ends c = (refl, refl, refl, refl)
