@@ -11,7 +11,7 @@ use Rattle.process_packet.specs.declared.totals.Totals.{Totals}
 use Rattle.router_rules.specs.Links.{interface_at, link_index}
 use Rattle.router_rules.specs.Rules.{kinds}
 use Rattle.pipe_parts.specs.Sent.{first, left}
-use Rattle.pipe_parts.specs.Causes.{why_of}
+use Rattle.router_rules.specs.Causes.{booked_as}
 use Rattle.pipe_model.specs.Pipeline.{Pipeline, rules_in}
 use Rattle.router_rules.specs.declared.outgoing.Outgoing.{Outgoing as Left}
 use Rattle.pipe_model.specs.declared.place.Place.{Place as Stands}
@@ -40,7 +40,7 @@ stands_in c (place.InPipe w) = stands.Pipe (named_in c w)
 stands_in c (place.InHighPipe l) = stands.HighPipe (interface_at c l)
 stands_in c place.Sent = stands.Sent
 stands_in c place.Answered = stands.Answered
-stands_in c (place.Dropped w) = stands.Dropped (why_of w)
+stands_in c (place.Dropped w) = stands.Dropped (booked_as w)
 
 -- the place of a packet by its link's interface and its number; None where it isn't received
 abbrev pub place_of : Pipeline → ℕ → ℕ → Option Stands
@@ -49,7 +49,7 @@ place_of p id number = option_map (stands_in p.config) (first (places (rules_in 
 -- ---- counts
 
 abbrev pub is_number : ℕ → Cause kinds → Bool
-is_number n w = number_of (why_of w) == n
+is_number n w = number_of (booked_as w) == n
 
 abbrev pub causes : List ℕ
 causes = 1 ∷ 2 ∷ 3 ∷ 4 ∷ 5 ∷ 6 ∷ 7 ∷ 8 ∷ 9 ∷ 10 ∷ 11 ∷ 12 ∷ 13 ∷ 14 ∷ 15 ∷ 16 ∷ 17 ∷ 18 ∷ []

@@ -1,7 +1,8 @@
 //! Why a packet, or the answer to it, ended without being sent.
 
 ghost use Rattle.std.specs.Prelude.{◌≡◌};
-ghost use Rattle.pipe_parts.specs.Causes.{cause_in, why_of};
+ghost use Rattle.pipe_parts.specs.Causes.{cause_in};
+ghost use Rattle.router_rules.specs.Causes.{booked_as};
 
 use process_packet::Cause as Reason;
 
@@ -28,7 +29,7 @@ pub enum Cause {
 
 /// Why a packet, or the answer to it, ended without being sent, as one of all causes.
 pub fn reason(cause: Cause) -> Reason
-    ensures { result ≡ why_of (cause_in cause) }
+    ensures { result ≡ booked_as (cause_in cause) }
 {
     match cause {
         Cause::Ruled(reason) => reason,

@@ -11,7 +11,8 @@ use Rattle.packet_ledger.specs.Amounts.{add_each, count_at, nothing, plus}
 use Rattle.packet_ledger.specs.Share.{Held, new_share, counting, emptied, with_fate, with_received, with_sent, with_answered}
 use Rattle.router_rules.specs.Rules.{kinds}
 use Rattle.stage_laws.specs.Counting.{Count, Received, Sent, Replied, Dropped}
-use Rattle.router_laws.specs.Shares.{cause_in, counts_at, times, Counts, raise, raise_all}
+use Rattle.router_rules.specs.Causes.{booked_as}
+use Rattle.router_laws.specs.Shares.{counts_at, times, Counts, raise, raise_all}
 
 no : (a b : ℕ) → (a ≡ b → ⊥) → cond (eqb a b) 1 0 ≡ zero
 no a b n = ap (λ (c : Bool). cond c 1 0) (ne_eqb a b n)
@@ -122,8 +123,8 @@ counts_raised share raised Received is = changed share raised Received (with_rec
 counts_raised share raised Sent is = changed share raised Sent (with_sent share.counts) is (sent_at share.counts) is.held
 counts_raised share raised Replied is = changed share raised Replied (with_answered share.counts) is (answered_at share.counts) is.held
 counts_raised share raised (Dropped c) is =
-    changed share raised (Dropped c) (with_fate (cause_in c) share.counts) is (fate_at share.counts (cause_in c) is.held)
-    (set_long share.counts.dropped (number_of (cause_in c) - 1) (dropped_for share.counts (cause_in c) + 1) ∙ is.held)
+    changed share raised (Dropped c) (with_fate (booked_as c) share.counts) is (fate_at share.counts (booked_as c) is.held)
+    (set_long share.counts.dropped (number_of (booked_as c) - 1) (dropped_for share.counts (booked_as c) + 1) ∙ is.held)
 
 pub counts_all : (share : Held) (raised ks : List (Count kinds)) → Counts share raised → Counts (raise_all ks share) (raised ++ ks)
 counts_all share raised [] is = subst (λ xs. Counts share xs) (sym (append-nil raised)) is

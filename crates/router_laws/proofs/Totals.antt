@@ -25,7 +25,8 @@ use Rattle.stage_laws.specs.Forwards.{Handed}
 use Rattle.stage_laws.specs.Counting.{Count, Received, Sent, Replied, Dropped}
 use Rattle.stage_laws.specs.Reasons.{HasReasons}
 use Rattle.stage_laws.specs.Causes.{when, was_counted, counted_in, was_sent, was_replied, was_refused, all_counts, by_cause, received_count, ruled_count, no_buffer_count, went_count, swept_count, is_received, is_sent, is_replied, is_dropped, HasCounts}
-use Rattle.router_laws.specs.Shares.{cause_in, place_of, counts_at, times}
+use Rattle.router_rules.specs.Causes.{booked_as}
+use Rattle.router_laws.specs.Shares.{place_of, counts_at, times}
 use Rattle.router_laws.specs.Totals.{AreCounted, totals_of, same_cause, decided_count, HasTotals}
 use Rattle.stage_laws.proofs.Sums.{over}
 use Rattle.router_laws.proofs.Shares.{sum_at, sum_long, nothing_at, number_small}
@@ -188,13 +189,13 @@ one_place Received = sum_below 18 (λ j. counts_at (3 + j) Received) (λ j. 0) (
 one_place Sent = sum_below 18 (λ j. counts_at (3 + j) Sent) (λ j. 0) (λ j lt. ap (λ (b : Bool). cond b 1 0) (ne_eqb 1 (3 + j) (λ e. omega arith))) ∙ sum_zero 18
 one_place Replied = sum_below 18 (λ j. counts_at (3 + j) Replied) (λ j. 0) (λ j lt. ap (λ (b : Bool). cond b 1 0) (ne_eqb 2 (3 + j) (λ e. omega arith))) ∙ sum_zero 18
 one_place (Dropped c) =
-    let n : ℕ = number_of (cause_in c) in
-    let small = number_small (cause_in c) in
-    sum_below 18 (λ j. counts_at (3 + j) (Dropped c)) (λ j. cond (eqb (n - 1) j) 1 0) (λ j lt. ap (λ (b : Bool). cond b 1 0) (same j (cases_eq (number_of (cause_in c) - 1) j))) ∙ sum_one 18 (n - 1) 1 (omega arith)
+    let n : ℕ = number_of (booked_as c) in
+    let small = number_small (booked_as c) in
+    sum_below 18 (λ j. counts_at (3 + j) (Dropped c)) (λ j. cond (eqb (n - 1) j) 1 0) (λ j lt. ap (λ (b : Bool). cond b 1 0) (same j (cases_eq (number_of (booked_as c) - 1) j))) ∙ sum_one 18 (n - 1) 1 (omega arith)
   where
-    same : (j : ℕ) → (number_of (cause_in c) - 1 ≡ j) ⊎ (number_of (cause_in c) - 1 ≡ j → ⊥) → eqb (2 + number_of (cause_in c)) (3 + j) ≡ eqb (number_of (cause_in c) - 1) j
-    same j (inl e) = let s = number_small (cause_in c) in eq-eqb (2 + number_of (cause_in c)) (3 + j) (omega arith) ∙ sym (eq-eqb (number_of (cause_in c) - 1) j e)
-    same j (inr n) = let s = number_small (cause_in c) in ne_eqb (2 + number_of (cause_in c)) (3 + j) (λ e. n (omega arith)) ∙ sym (ne_eqb (number_of (cause_in c) - 1) j n)
+    same : (j : ℕ) → (number_of (booked_as c) - 1 ≡ j) ⊎ (number_of (booked_as c) - 1 ≡ j → ⊥) → eqb (2 + number_of (booked_as c)) (3 + j) ≡ eqb (number_of (booked_as c) - 1) j
+    same j (inl e) = let s = number_small (booked_as c) in eq-eqb (2 + number_of (booked_as c)) (3 + j) (omega arith) ∙ sym (eq-eqb (number_of (booked_as c) - 1) j e)
+    same j (inr n) = let s = number_small (booked_as c) in ne_eqb (2 + number_of (booked_as c)) (3 + j) (λ e. n (omega arith)) ∙ sym (ne_eqb (number_of (booked_as c) - 1) j n)
 
 all_dropped : (ks : List (Count kinds)) → sum_to 18 (λ j. times (3 + j) ks) ≡ count is_dropped ks
 all_dropped ks = sum_total 18 (λ j. counts_at (3 + j)) ks ∙ total_same (λ k. sum_to 18 (λ j. counts_at (3 + j) k)) (λ k. cond (is_dropped k) 1 0) ks one_place ∙ sym (count-total is_dropped ks)
@@ -204,19 +205,19 @@ place_received : (k : Count kinds) → counts_at 0 k ≡ cond (is_received k) 1 
 place_received Received = refl
 place_received Sent = refl
 place_received Replied = refl
-place_received (Dropped c) = ap (λ (b : Bool). cond b 1 0) (ne_eqb (2 + number_of (cause_in c)) 0 (λ e. omega arith))
+place_received (Dropped c) = ap (λ (b : Bool). cond b 1 0) (ne_eqb (2 + number_of (booked_as c)) 0 (λ e. omega arith))
 
 place_sent : (k : Count kinds) → counts_at 1 k ≡ cond (is_sent k) 1 0
 place_sent Received = refl
 place_sent Sent = refl
 place_sent Replied = refl
-place_sent (Dropped c) = ap (λ (b : Bool). cond b 1 0) (ne_eqb (2 + number_of (cause_in c)) 1 (λ e. omega arith))
+place_sent (Dropped c) = ap (λ (b : Bool). cond b 1 0) (ne_eqb (2 + number_of (booked_as c)) 1 (λ e. omega arith))
 
 place_replied : (k : Count kinds) → counts_at 2 k ≡ cond (is_replied k) 1 0
 place_replied Received = refl
 place_replied Sent = refl
 place_replied Replied = refl
-place_replied (Dropped c) = ap (λ (b : Bool). cond b 1 0) (ne_eqb (2 + number_of (cause_in c)) 2 (λ e. let s = (number_small (cause_in c)).0 in omega arith))
+place_replied (Dropped c) = ap (λ (b : Bool). cond b 1 0) (ne_eqb (2 + number_of (booked_as c)) 2 (λ e. let s = (number_small (booked_as c)).0 in omega arith))
 
 times_as : (i : ℕ) (test : Count kinds → Bool) → ((k : Count kinds) → counts_at i k ≡ cond (test k) 1 0) → (ks : List (Count kinds)) → times i ks ≡ count test ks
 times_as i test same ks = total_same (counts_at i) (λ k. cond (test k) 1 0) ks same ∙ sym (count-total test ks)

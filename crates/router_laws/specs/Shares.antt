@@ -1,32 +1,19 @@
 -- What was ever counted on a share, posted or not.
 use Rattle.std.specs.Prelude.{◌≡◌, ◌+◌, ◌==◌, ℕ, List, [], ◌∷◌, length, if◌then◌else◌}
 use Rattle.pipe_order.specs.Counts.{total}
-use Rattle.pipe_order.specs.World.{Cause as Ended}
 use Rattle.process_packet.specs.Cause.{number_of}
-use Rattle.process_packet.specs.declared.cause.Cause.{Cause}
-use Rattle.process_packet.specs.declared.cause.Cause.TheVariants as cause
 use Rattle.packet_ledger.specs.Amounts.{count_at}
 use Rattle.packet_ledger.specs.Share.{Held, counting, with_answered, with_fate, with_received, with_sent}
+use Rattle.router_rules.specs.Causes.{booked_as}
 use Rattle.router_rules.specs.Rules.{kinds}
 use Rattle.stage_laws.specs.Counting.{Count, Received, Sent, Replied, Dropped}
-
--- a cause of the pipeline, as the book has it
-abbrev pub cause_in : Ended kinds → Cause
-cause_in (Ended.Ruled why) = why
-cause_in Ended.ProcessorFull = cause.ProcessorFull
-cause_in Ended.LinkFull = cause.LinkFull
-cause_in Ended.AnswerFull = cause.AnswerFull
-cause_in Ended.NoMemory = cause.NoMemory
-cause_in Ended.Closed = cause.Closed
-cause_in Ended.SendFailed = cause.SendFailed
-cause_in Ended.NoBuffer = cause.NoBuffer
 
 -- the place of a count among those of the book: received, sent, answered, and then cause by cause
 abbrev pub place_of : Count kinds → ℕ
 place_of Received = 0
 place_of Sent = 1
 place_of Replied = 2
-place_of (Dropped c) = 2 + number_of (cause_in c)
+place_of (Dropped c) = 2 + number_of (booked_as c)
 
 abbrev pub counts_at : ℕ → Count kinds → ℕ
 counts_at i k = if place_of k == i then 1 else 0
@@ -46,7 +33,7 @@ abbrev pub raise : Count kinds → Held → Held
 raise Received s = counting s (with_received 1 s.counts)
 raise Sent s = counting s (with_sent s.counts)
 raise Replied s = counting s (with_answered s.counts)
-raise (Dropped c) s = counting s (with_fate (cause_in c) s.counts)
+raise (Dropped c) s = counting s (with_fate (booked_as c) s.counts)
 
 abbrev pub raise_all : List (Count kinds) → Held → Held
 raise_all [] s = s
