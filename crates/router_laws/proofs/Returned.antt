@@ -182,8 +182,7 @@ module _ {T : Type 0} (shows : Handed kinds → T) (c : Config) (b : Returned T)
     outer = outer;
     controller_count = h.controller_count;
     controller = h.marks;
-    low_closed = h.low_closed;
-    high_closed = h.high_closed;
+    closes = h.closes;
     processors_close_none = λ i j p s at got. let q = left (IsProcessorOf c) ps b.processors pr i p at in h.processors_close_none i j q.0 s q.1.0 (ap (λ (l : List (Sender (Outgoing kinds))). slice_get l j) (sym q.1.1.links) ∙ got);
     slow_closes_none = λ j s got. h.slow_closes_none j s (ap (λ (l : List (Sender (Outgoing kinds))). slice_get l j) (sym so.links) ∙ got);
   }

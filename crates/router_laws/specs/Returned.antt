@@ -1,5 +1,5 @@
 -- The running theorem, as far as it speaks of lists: workers as they came back, and what they did.
-use Rattle.std.specs.Prelude.{◌≡◌, ◌<◌, ◌+◌, ◌*◌, ◌&&◌, ℕ, Bool, false, List, [], ◌∷◌, ◌++◌, map, length, Option, Some, None, slice_get}
+use Rattle.std.specs.Prelude.{◌≡◌, ◌<◌, ◌+◌, ◌*◌, ℕ, Bool, false, List, [], ◌∷◌, ◌++◌, map, length, Option, Some, None, slice_get}
 use Rattle.pipe_order.specs.Counts.{count}
 use Rattle.pipe_order.specs.Item.{Arrival, Outgoing}
 use Rattle.pipe_order.specs.Deeds.{payloads, has_mark, Each, Deed, done_items}
@@ -9,7 +9,7 @@ use Rattle.process_packet.specs.declared.config.Config.{Config}
 use Rattle.packet_ledger.specs.Share.{Held, forwarded}
 use Rattle.ruled_pipe.specs.Producer.{Sender}
 use Rattle.ruled_pipe.specs.Consumer.{Taker}
-use Rattle.router_rules.specs.Links.{has_two_bands, interface_at, link_count}
+use Rattle.router_rules.specs.Links.{interface_at, link_count}
 use Rattle.router_rules.specs.Rules.{kinds, rules}
 use Rattle.stage_laws.specs.Ends.{pushes}
 use Rattle.stage_laws.specs.Works.{Keeps}
@@ -85,7 +85,8 @@ link_rows b = map (λ (p : ProcessorBack). p.links) b.processors ++ (b.slow.link
 abbrev pub shares_of : {T : Type 0} → Returned T → List Held
 shares_of b = map (λ (r : ReceiverBack). r.share) b.receivers ++ (map (λ (p : ProcessorBack). p.share) b.processors ++ (b.slow.share ∷ map (λ f. f.share) b.forwarders))
 
--- What workers, pipes and the controller give.
+-- What workers, pipes and the controller give, which closed the links' pipes of some numbers: link l's at 2 * l, its high band's
+-- at 2 * l + 1.
 pub record HaveReturned {T : Type 0} (shows : Handed kinds → T) (c : Config) (b : Returned T) (closed : ℕ → Bool) : Type 0 where
   pub receivers : AllAt (IsBackReceiver c) 0 b.receivers
   pub processors : AllAt (IsBackProcessor c) 0 b.processors
@@ -102,8 +103,7 @@ pub record HaveReturned {T : Type 0} (shows : Handed kinds → T) (c : Config) (
   pub high : (l : ℕ) (f : ForwarderBack T) → slice_get b.forwarders l ≡ Some f → (row : List (Sender (Outgoing kinds))) × IsColumn (2 * l + 1) (link_rows b) row × TookAll row (pushes f.high.taken)
   -- the controller pushes only marks, and it alone pushes closing marks
   pub marks : (j : ℕ) (s : Sender (Outgoing kinds)) → slice_get b.controller j ≡ Some s → payloads (pushes s.offers) ≡ []
-  pub low_closed : (l : ℕ) (s : Sender (Outgoing kinds)) → slice_get b.controller (2 * l) ≡ Some s → has_mark (pushes s.offers) ≡ closed l
-  pub high_closed : (l : ℕ) (s : Sender (Outgoing kinds)) → slice_get b.controller (2 * l + 1) ≡ Some s → has_mark (pushes s.offers) ≡ (closed l && has_two_bands c l)
+  pub closes : (j : ℕ) (s : Sender (Outgoing kinds)) → slice_get b.controller j ≡ Some s → has_mark (pushes s.offers) ≡ closed j
   pub processors_close_none : (i j : ℕ) (p : ProcessorBack) (s : Sender (Outgoing kinds)) → slice_get b.processors i ≡ Some p → slice_get p.links j ≡ Some s → has_mark (pushes s.offers) ≡ false
   pub slow_closes_none : (j : ℕ) (s : Sender (Outgoing kinds)) → slice_get b.slow.links j ≡ Some s → has_mark (pushes s.offers) ≡ false
 

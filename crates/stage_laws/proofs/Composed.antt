@@ -383,8 +383,8 @@ module _ {K : Kinds} (R : Rules K) (w : Workers K) (closed : ℕ → Bool) (h : 
     outer_marks = λ j lt. ap (λ (es : List (Pushed (Outgoing K))). payloads (of_producer (R.processors + 1) es)) (at_pipe R passed j) ∙ only_marks j lt;
     outer_none = λ j p lt ge. ap (of_producer p) (at_pipe R passed j) ∙ by_nobody j p lt ge;
     sinks = sinks;
-    low_shut = λ l lt. let m = marks_are (2 * l) (omega arith) in ap has_mark (low_passed l) ∙ m.1.1 ∙ h.low_closed l m.0 m.1.0;
-    high_shut = λ l lt. let m = marks_are (2 * l + 1) (omega arith) in ap has_mark (high_passed l) ∙ m.1.1 ∙ h.high_closed l m.0 m.1.0;
+    low_shut = λ l lt. let m = marks_are (2 * l) (omega arith) in ap has_mark (low_passed l) ∙ m.1.1 ∙ h.closes (2 * l) m.0 m.1.0;
+    high_shut = λ l lt. let m = marks_are (2 * l + 1) (omega arith) in ap has_mark (high_passed l) ∙ m.1.1 ∙ h.closes (2 * l + 1) m.0 m.1.0;
     unlacked = λ i lt. let f = processor i lt in
         subst (λ (x : List (Deed K.Reason (Arrival K))). Each (λ (d : Deed K.Reason (Arrival K)). LacksNothing d.end) x) (sym (read_is (λ (p : Processor K). p.log) w.processors i f.0 f.1)) (h.processors i f.0 f.1).0.ample;
     unlacked_slow = h.slow.0.ample;

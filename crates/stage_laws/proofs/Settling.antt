@@ -1,5 +1,5 @@
 -- Of workers that have ended each packet stands at one place, and the order holds.
-use Rattle.std.proofs.Common.{◌≡◌, ◌⊎◌, inl, inr, ℕ, suc, ◌+◌, ◌-◌, ◌<◌, ◌≤◌, ◌&&◌, Bool, true, false, List, [], ◌∷◌, ◌++◌, refl, sym, ◌∙◌, ap, ap₂, subst, arith, eqb}
+use Rattle.std.proofs.Common.{◌*◌, ◌≡◌, ◌⊎◌, inl, inr, ℕ, suc, ◌+◌, ◌-◌, ◌<◌, ◌≤◌, Bool, true, false, List, [], ◌∷◌, ◌++◌, refl, sym, ◌∙◌, ap, ap₂, subst, arith, eqb}
 use Rattle.std.proofs.lemmas.Bool.{cases_lt, cases_eq, ne_eqb}
 use Rattle.std.proofs.lemmas.Grind.{flat_map-append}
 use Rattle.pipe_order.specs.Kinds.{Kinds}
@@ -97,11 +97,11 @@ module _ {K : Kinds} (R : Rules K) (v : Views K) (s : SlowViews K) (went : ℕ �
   pub order : SettlesInOrder R v
   order = settles_order R v lawful e.settled
 
-  pub not_closed : (l : ℕ) → l < R.links → closed l ≡ false → (v.swept (link_pipe R false l) ≡ []) × (v.swept (link_pipe R true l) ≡ [])
-  not_closed l lt none = (
-    order.open_pipe (link_pipe R false l) (omega arith, omega arith) (e.low_shut l lt ∙ none),
-    order.open_pipe (link_pipe R true l) (omega arith, omega arith) (e.high_shut l lt ∙ ap (λ (b : Bool). b && R.two_bands l) none),
-  )
+  pub low_open : (l : ℕ) → l < R.links → closed (2 * l) ≡ false → v.swept (link_pipe R false l) ≡ []
+  low_open l lt none = order.open_pipe (link_pipe R false l) (omega arith, omega arith) (e.low_shut l lt ∙ none)
+
+  pub high_open : (l : ℕ) → l < R.links → closed (2 * l + 1) ≡ false → v.swept (link_pipe R true l) ≡ []
+  high_open l lt none = order.open_pipe (link_pipe R true l) (omega arith, omega arith) (e.high_shut l lt ∙ none)
 
   -- what leaves is a packet's or an answer's, in its own pipe
   abbrev pub IsRight : ℕ → Outgoing K → Type 0
@@ -186,7 +186,8 @@ module _ {K : Kinds} (R : Rules K) (v : Views K) (s : SlowViews K) (went : ℕ �
     packets = λ q at. each_map (λ o h. h.0) (v.handed q ++ v.swept q) (right_at q at);
     answers = λ q at. each_map (λ o h. h.1) (v.handed q ++ v.swept q) (right_at q at);
     own_pipe = λ q at. each_map (λ o h. h.2) (v.handed q ++ v.swept q) (right_at q at);
-    not_closed = not_closed;
+    low_open = low_open;
+    high_open = high_open;
   }
 
 pub ends : (K : Kinds) → Ends K

@@ -151,8 +151,7 @@ module _ (id : TableId) where
         (column 1 (link_ends w), (refl, (refl, (refl, tt))), (below_three (λ p. of_producer p (passed_at w.forwarders 1) ≡ offers_at (column 1 (link_ends w)) p) refl refl refl, λ p ge. none_from 3 p (passed_at w.forwarders 1) refl ge));
     controller_count = refl;
     controller = two (λ j s. payloads (pushes s.offers) ≡ []) _ _ refl refl;
-    low_closed = λ l s at. two (λ j s. has_mark (pushes s.offers) ≡ true) _ _ refl refl (2 * l) s at;
-    high_closed = λ l s at. two (λ j s. has_mark (pushes s.offers) ≡ true) _ _ refl refl (2 * l + 1) s at;
+    closes = two (λ j s. has_mark (pushes s.offers) ≡ true) _ _ refl refl;
     processors_close_none = λ i j p s at got. one (λ i p. (j : ℕ) (s : Sender (Outgoing samples)) → slice_get p.links j ≡ Some s → has_mark (pushes s.offers) ≡ false) _ (two (λ j s. has_mark (pushes s.offers) ≡ false) _ _ refl refl) i p at j s got;
     slow_closes_none = two (λ j s. has_mark (pushes s.offers) ≡ false) _ _ refl refl;
   }

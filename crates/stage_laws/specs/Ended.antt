@@ -1,5 +1,5 @@
 -- What holds of a running pipeline that has ended: the premises that the workers give, and what follows.
-use Rattle.std.specs.Prelude.{◌≡◌, ◌<◌, ◌≤◌, ◌+◌, ℕ, Bool, true, false, ◌&&◌, List, [], ◌++◌}
+use Rattle.std.specs.Prelude.{◌≡◌, ◌<◌, ◌≤◌, ◌+◌, ◌*◌, ℕ, Bool, true, false, List, [], ◌++◌}
 use Rattle.pipe_order.specs.Kinds.{Kinds}
 use Rattle.pipe_order.specs.Item.{Arrival, Outgoing, Out}
 use Rattle.pipe_order.specs.Rules.{Rules, Sends, Asks, Replies, IsLawful}
@@ -13,7 +13,8 @@ use Rattle.stage_laws.specs.Receives.{IsClear}
 use Rattle.stage_laws.specs.Forwards.{Handed, handed_items, WentOn}
 use Rattle.stage_laws.specs.Weighed.{IsPlaced}
 
--- ---- the premises, over the gathered views
+-- ---- the premises, over the gathered views; closed tells which of the links' pipes were closed, link l's at 2 * l and, of the
+-- high band, at 2 * l + 1
 
 pub record Ended {K : Kinds} (R : Rules K) (v : Views K) (s : SlowViews K) (went : ℕ → List (Handed K)) (closed : ℕ → Bool) : Type 0 where
   pub settled : Settled R v
@@ -26,9 +27,9 @@ pub record Ended {K : Kinds} (R : Rules K) (v : Views K) (s : SlowViews K) (went
   pub outer_marks : (j : ℕ) → j < link_pipes R → payloads (of_producer (R.processors + 1) (v.forwarded (place_of R j))) ≡ []
   pub outer_none : (j p : ℕ) → j < link_pipes R → R.processors + 2 ≤ p → of_producer p (v.forwarded (place_of R j)) ≡ []
   pub sinks : (l : ℕ) → l < R.links → WentOn (v.forwarded (link_pipe R false l)) (v.forwarded (link_pipe R true l)) (handed_items (went l))
-  -- who closed: the controller alone, both bands
-  pub low_shut : (l : ℕ) → l < R.links → v.shut (link_pipe R false l) ≡ closed l
-  pub high_shut : (l : ℕ) → l < R.links → v.shut (link_pipe R true l) ≡ (closed l && R.two_bands l)
+  -- who closed: the controller alone, each band by a mark of its own
+  pub low_shut : (l : ℕ) → l < R.links → v.shut (link_pipe R false l) ≡ closed (2 * l)
+  pub high_shut : (l : ℕ) → l < R.links → v.shut (link_pipe R true l) ≡ closed (2 * l + 1)
   -- from the pool of buffers on processors and the slow path lack nothing
   pub unlacked : (i : ℕ) → i < R.processors → Each (λ (d : Deed K.Reason (Arrival K)). LacksNothing d.end) (v.worked i)
   pub unlacked_slow : Each (λ (d : Deed K.Reason (Question K)). LacksNothing d.end) s.worked
@@ -52,7 +53,9 @@ pub record HasEnded {K : Kinds} (R : Rules K) (v : Views K) (s : SlowViews K) (w
   pub answers : (q : ℕ) → IsLinkPipe R q → Each (IsAnswerTo R v) (v.handed q ++ v.swept q)
   -- each in the pipe of its link and its band
   pub own_pipe : (q : ℕ) → IsLinkPipe R q → Each (λ (o : Outgoing K). home R (Out o) ≡ q) (v.handed q ++ v.swept q)
-  pub not_closed : (l : ℕ) → l < R.links → closed l ≡ false → (v.swept (link_pipe R false l) ≡ []) × (v.swept (link_pipe R true l) ≡ [])
+  -- of a band that was never closed nothing is swept
+  pub low_open : (l : ℕ) → l < R.links → closed (2 * l) ≡ false → v.swept (link_pipe R false l) ≡ []
+  pub high_open : (l : ℕ) → l < R.links → closed (2 * l + 1) ≡ false → v.swept (link_pipe R true l) ≡ []
 
 -- Of workers that keep their laws over pipes that hold nothing any more.
 abbrev pub Ends : Kinds → Type 0

@@ -1,5 +1,5 @@
 -- The second pass: the workers as they came back, and what is read off them.
-use Rattle.std.specs.Prelude.{◌≡◌, ◌<◌, ◌+◌, ◌-◌, ◌*◌, ◌&&◌, nat_lt, ℕ, zero, suc, Bool, false, List, [], ◌∷◌, ◌++◌, map, length, Some, None, slice_get, if◌then◌else◌}
+use Rattle.std.specs.Prelude.{◌≡◌, ◌<◌, ◌+◌, ◌-◌, ◌*◌, nat_lt, ℕ, zero, suc, Bool, false, List, [], ◌∷◌, ◌++◌, map, length, Some, None, slice_get, if◌then◌else◌}
 use Rattle.ruled_pipe.specs.Producer.{Sender}
 use Rattle.ruled_pipe.specs.Consumer.{Taker}
 use Rattle.pipe_order.specs.Kinds.{Kinds}
@@ -122,7 +122,7 @@ module _ {K : Kinds} where
   abbrev pub link_ends : Workers K → List (List (Sender (Outgoing K)))
   link_ends w = map (λ (p : Processor K). p.links) w.processors ++ (w.slow.links ∷ w.controller ∷ [])
 
--- What all workers and pipes give.
+-- What all workers and pipes give; the controller closed the links' pipes of some numbers.
 pub record HaveEnded {K : Kinds} (R : Rules K) (w : Workers K) (closed : ℕ → Bool) : Type 0 where
   pub receiver_count : length w.receivers ≡ R.links
   pub processor_count : length w.processors ≡ R.processors
@@ -139,8 +139,7 @@ pub record HaveEnded {K : Kinds} (R : Rules K) (w : Workers K) (closed : ℕ →
   -- the controller pushes only marks, and it alone pushes closing marks
   pub controller_count : length w.controller ≡ link_pipes R
   pub controller : (j : ℕ) (s : Sender (Outgoing K)) → slice_get w.controller j ≡ Some s → payloads (pushes s.offers) ≡ []
-  pub low_closed : (l : ℕ) (s : Sender (Outgoing K)) → slice_get w.controller (2 * l) ≡ Some s → has_mark (pushes s.offers) ≡ closed l
-  pub high_closed : (l : ℕ) (s : Sender (Outgoing K)) → slice_get w.controller (2 * l + 1) ≡ Some s → has_mark (pushes s.offers) ≡ (closed l && R.two_bands l)
+  pub closes : (j : ℕ) (s : Sender (Outgoing K)) → slice_get w.controller j ≡ Some s → has_mark (pushes s.offers) ≡ closed j
   pub processors_close_none : (i j : ℕ) (p : Processor K) (s : Sender (Outgoing K)) → slice_get w.processors i ≡ Some p → slice_get p.links j ≡ Some s → has_mark (pushes s.offers) ≡ false
   pub slow_closes_none : (j : ℕ) (s : Sender (Outgoing K)) → slice_get w.slow.links j ≡ Some s → has_mark (pushes s.offers) ≡ false
 
