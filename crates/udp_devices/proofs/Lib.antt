@@ -1,0 +1,2 @@
+mod Octets
+mod Bound

@@ -1,0 +1,4 @@
+pub mod Address
+pub mod Ends
+pub mod Devices
+pub mod Binding

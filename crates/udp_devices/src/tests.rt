@@ -1,0 +1,173 @@
+use super::{Ends, UdpSink, UdpSource, open_link};
+use process_packet::{Ip, Underlay};
+use router_rules::Outgoing;
+use stage_parts::{NextLen, Sink, Source};
+use std::test::*;
+use std::time::Clock;
+
+/// An end at an address of this machine alone, at a port that the system picks.
+const HERE: Ends = Ends {
+    local: Underlay {
+        ip: Ip::V4([127, 0, 0, 1]),
+        port: 0,
+    },
+    remote: None,
+};
+
+/// The same in the other version.
+const HERE_BY_6: Ends = Ends {
+    local: Underlay {
+        ip: Ip::V6([0, 0, 0, 0, 0, 0, 0, 0, 0, 0, 0, 0, 0, 0, 0, 1]),
+        port: 0,
+    },
+    remote: None,
+};
+
+/// What leaves for an address.
+fn leaving(to: Option<Underlay>) -> Outgoing {
+    Outgoing {
+        arrived: 1,
+        number: 1,
+        answer: false,
+        to,
+    }
+}
+
+/// Whether the sink takes so many bytes for an address.
+fn takes(sink: &mut UdpSink, to: Option<Underlay>, bytes: &[u8]) -> bool {
+    sink.failures() < 5 && sink.send(&leaving(to), bytes).is_ok()
+}
+
+/// Whether the source gives so many bytes of 7 from there, now or after a wait; the buffer has room for one
+/// byte more than the longest datagram.
+fn gives<R: Clock + Drop>(source: &mut UdpSource<R>, from: Underlay, len: usize) -> bool {
+    let mut buffer = [0u8; 9217];
+    if !source.wait_for_one() || source.failures() > 5 {
+        return false;
+    }
+    match source.next_into(&mut buffer) {
+        NextLen::Datagram {
+            len: arrived,
+            from: sender,
+            now,
+        } => {
+            arrived == len
+                && sender == from
+                && now > 1_600_000_000
+                && buffer.iter().take(len).all(|byte| *byte == 7)
+        }
+        _ => false,
+    }
+}
+
+/// Whether nothing is there.
+fn is_quiet<R: Clock + Drop>(source: &mut UdpSource<R>) -> bool {
+    let mut buffer = [0u8; 9217];
+    source.failures() < 5 && source.next_into(&mut buffer) == NextLen::Quiet
+}
+
+/// Whether datagrams of so many bytes cross from one socket to another of the same kind.
+fn crosses(rt: &HostRuntime, ends: Ends) -> Result<bool, Fail> {
+    let (reader, mut sink) = open_link(rt, ends)?;
+    let (mut source, _) = open_link(rt, ends)?;
+    let (Some(from), Some(at)) = (reader.address(), source.address()) else {
+        return Ok(false);
+    };
+    let bytes = [7u8; 9300];
+    let mut good = is_quiet(&mut source);
+    for (sent, read) in [(0, 0), (1, 1), (9216, 9216), (9217, 9217), (9300, 9217)] {
+        good = good && takes(&mut sink, Some(at), &bytes[..sent]) && gives(&mut source, from, read);
+    }
+    Ok(good && is_quiet(&mut source) && sink.failures() == 0 && source.failures() == 0)
+}
+
+#[test]
+fn datagrams_cross(rt: HostRuntime) -> Result<(), Fail> {
+    assert!(rt; crosses(&rt, HERE)?);
+    assert!(rt; crosses(&rt, HERE_BY_6)?);
+    Ok(())
+}
+
+/// An address of documentation, which no machine has.
+const ELSEWHERE: Underlay = Underlay {
+    ip: Ip::V4([192, 0, 2, 1]),
+    port: 40000,
+};
+
+/// Whether what leaves goes nowhere: the sink fails, and its count is one more.
+fn goes_nowhere(sink: &mut UdpSink, to: Option<Underlay>) -> bool {
+    let before = sink.failures();
+    !takes(sink, to, b"abc") && sink.failures() == before.wrapping_add(1)
+}
+
+/// Whether nothing leaves for another IP version, or where neither the datagram nor the link names an
+/// address, or for more bytes than a datagram has.
+fn fails_well(rt: &HostRuntime) -> Result<bool, Fail> {
+    let (_, mut sink) = open_link(rt, HERE)?;
+    let (_, mut sink_by_6) = open_link(rt, HERE_BY_6)?;
+    let too_long = [0u8; 65508];
+    Ok(
+        goes_nowhere(&mut sink, None)
+            && goes_nowhere(&mut sink, Some(HERE_BY_6.local))
+            && goes_nowhere(&mut sink_by_6, Some(ELSEWHERE))
+            && sink.failures() < 5
+            && sink.send(&leaving(Some(ELSEWHERE)), &too_long).is_err()
+            && sink.failures() == 3,
+    )
+}
+
+#[test]
+fn what_has_no_way_fails(rt: HostRuntime) -> Result<(), Fail> {
+    assert!(rt; fails_well(&rt)?);
+    Ok(())
+}
+
+/// Whether there is no socket at an address that is taken, nor at one of another machine.
+fn is_refused(rt: &HostRuntime) -> Result<bool, Fail> {
+    let (source, _sink) = open_link(rt, HERE)?;
+    let Some(taken) = source.address() else {
+        return Ok(false);
+    };
+    let twice = Ends {
+        local: taken,
+        remote: None,
+    };
+    let elsewhere = Ends {
+        local: ELSEWHERE,
+        remote: None,
+    };
+    Ok(open_link(rt, twice).is_err() && open_link(rt, elsewhere).is_err())
+}
+
+#[test]
+fn addresses_may_be_had_by_others(rt: HostRuntime) -> Result<(), Fail> {
+    assert!(rt; is_refused(&rt)?);
+    Ok(())
+}
+
+/// Whether what leaves by a link to another AS goes to its other end, and nothing comes back from there
+/// where nobody listens.
+fn goes_to_the_other_end(rt: &HostRuntime) -> Result<bool, Fail> {
+    let (mut far, _) = open_link(rt, HERE)?;
+    let Some(remote) = far.address() else {
+        return Ok(false);
+    };
+    let ends = Ends {
+        local: HERE.local,
+        remote: Some(remote),
+    };
+    let (mut near, mut sink) = open_link(rt, ends)?;
+    let Some(from) = near.address() else {
+        return Ok(false);
+    };
+    let crossed = takes(&mut sink, None, &[7, 7, 7]) && gives(&mut far, from, 3);
+    let _ = far;
+    let dead = takes(&mut sink, None, b"abc") && is_quiet(&mut near) && takes(&mut sink, None, b"");
+    Ok(crossed && dead && sink.failures() == 0 && near.failures() == 0)
+}
+
+#[test]
+fn a_link_has_one_other_end(rt: HostRuntime) -> Result<(), Fail> {
+    assert!(rt; goes_to_the_other_end(&rt)?);
+    Ok(())
+}

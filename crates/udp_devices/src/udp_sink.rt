@@ -1,0 +1,92 @@
+//! Where what leaves by a link goes.
+
+ghost use Rattle.std.specs.Prelude.{◌≡◌, ◌+◌, ◌-◌, ◌^◌, ◌<◌, ℕ, List, Option, None, is_ok, false, if◌then◌else◌};
+ghost use Rattle.stage_laws.specs.Forwards.{AddsTo};
+ghost use Rattle.stage_parts.specs.Told.{telling};
+ghost use Rattle.udp_devices.specs.Devices.{Sending};
+ghost use Rattle.udp_devices.specs.Ends.{destination};
+
+use crate::address::socket_address;
+use crate::ends::{Ends, destination};
+use crate::readiness::wait_for_room;
+use process_packet::Underlay;
+use router_rules::Outgoing;
+use stage_parts::{Sink, SinkFault};
+use std::io::ErrorKind;
+use std::marker::Model;
+use std::net::UdpSocket;
+
+/// Sends by a socket that isn't connected. Contracts see the ends of its link, and how often it failed.
+#[derive(Drop)]
+pub struct UdpSink {
+    socket: UdpSocket,
+    ends: Ends,
+    failed: u64,
+}
+
+impl Model for UdpSink {
+    ghost use Rattle.udp_devices.specs.Devices.{Sending};
+
+    ghost Value = { Sending };
+
+    ghost view = { λ s. record { ends = s.ends; failed = s.failed } };
+}
+
+/// Whether the system took the datagram. Where it had no room, it is waited for once.
+fn sends(socket: &UdpSocket, bytes: &[u8], to: Underlay) -> bool {
+    let address = socket_address(to);
+    match socket.send_to(bytes, address) {
+        Ok(count) => count == bytes.len(),
+        Err(error) if error.kind() == ErrorKind::WouldBlock => {
+            wait_for_room(socket) && socket.send_to(bytes, address).is_ok()
+        }
+        Err(_) => false,
+    }
+}
+
+impl UdpSink {
+    /// A sink over the socket of the link with these ends.
+    pub(crate) fn of(socket: UdpSocket, ends: Ends) -> UdpSink
+        ensures { result ≡ record { ends = ends; failed = 0 } }
+    {
+        UdpSink {
+            socket,
+            ends,
+            failed: 0,
+        }
+    }
+
+    /// Whether the datagram has a destination, and the system took it.
+    fn is_sent(&self, to: Option<Underlay>, bytes: &[u8]) -> bool
+        ensures { destination self.now.ends to ≡ None → result ≡ false }
+    {
+        match destination(&self.ends, to) {
+            Some(to) => sends(&self.socket, bytes, to),
+            None => false,
+        }
+    }
+}
+
+impl Sink for UdpSink {
+    ghost told = { λ s. None };
+
+    ghost failed = { λ s. s.failed };
+
+    fn send(&mut self, out: &Outgoing, bytes: &[u8]) -> Result<(), SinkFault>
+        requires { self.old.failed < 2 ^ 64 - 1 }
+        ensures failed { self.new.failed ≡ self.old.failed + (if is_ok result then 0 else 1) }
+        ensures told { AddsTo None (telling out.now bytes.now (is_ok result)) None }
+        ensures ends { self.new.ends ≡ self.old.ends }
+        ensures nowhere { destination self.old.ends out.now.to ≡ None → is_ok result ≡ false }
+    {
+        if self.is_sent(out.to, bytes) {
+            return Ok(());
+        }
+        self.failed += 1;
+        Err(SinkFault)
+    }
+
+    fn failures(&self) -> u64 {
+        self.failed
+    }
+}

@@ -1,0 +1,110 @@
+//! Where a link's datagrams come from.
+
+ghost use Rattle.std.specs.Prelude.{◌≡◌, ◌+◌, ◌-◌, ◌^◌, ◌<◌, ℕ, List, Option, None, length};
+ghost use Rattle.stage_laws.specs.Forwards.{AddsTo};
+ghost use Rattle.stage_parts.specs.Heard.{failures_of, fits, heard};
+
+use crate::address::underlay_of;
+use crate::readiness::wait_for_datagram;
+use process_packet::Underlay;
+use stage_parts::{NextLen, Source};
+use std::io::ErrorKind;
+use std::marker::Model;
+use std::net::{SocketAddr, UdpSocket};
+use std::time::{Clock, SystemTime, UNIX_EPOCH};
+
+/// Reads a socket without waiting, and the machine's clock. It never answers that there will be none any
+/// more. Contracts see how often it failed.
+#[derive(Drop)]
+pub struct UdpSource<R: Clock + Drop> {
+    clock: R,
+    socket: UdpSocket,
+    failed: u64,
+}
+
+impl<R: Clock + Drop> Model for UdpSource<R> {
+    ghost use Rattle.std.specs.Prelude.{ℕ};
+
+    ghost Value = { ℕ };
+
+    ghost view = { λ s. s.failed };
+}
+
+/// The machine's clock, in whole seconds since 1970; none where it can't be read.
+fn now_of<R: Clock>(clock: &R) -> Option<u64> {
+    let now = SystemTime::now(clock).ok()?;
+    let since = now.duration_since(UNIX_EPOCH).ok()?;
+    Some(since.as_secs())
+}
+
+/// The datagram of so many bytes, from there, that was read now.
+fn arrived<R: Clock>(clock: &R, len: usize, from: SocketAddr) -> NextLen
+    requires { len < 9218 }
+    ensures { fits result }
+{
+    match now_of(clock) {
+        Some(now) => NextLen::Datagram {
+            len,
+            from: underlay_of(from),
+            now,
+        },
+        None => NextLen::Failed,
+    }
+}
+
+/// What the socket gives at the moment.
+fn read_one<R: Clock>(clock: &R, socket: &UdpSocket, buffer: &mut [u8]) -> NextLen
+    requires { length buffer.old ≡ 9217 }
+    ensures same { length buffer.new ≡ length buffer.old }
+    ensures fits { fits result }
+{
+    match socket.recv_from(buffer) {
+        Ok((len, from)) => arrived(clock, len, from),
+        Err(error) if error.kind() == ErrorKind::WouldBlock => NextLen::Quiet,
+        Err(_) => NextLen::Failed,
+    }
+}
+
+impl<R: Clock + Drop> UdpSource<R> {
+    /// A source over a socket that doesn't wait.
+    pub(crate) fn of(clock: R, socket: UdpSocket) -> UdpSource<R>
+        ensures { result ≡ 0 }
+    {
+        UdpSource {
+            clock,
+            socket,
+            failed: 0,
+        }
+    }
+
+    /// The address at which the socket stands; none where the system doesn't tell.
+    pub fn address(&self) -> Option<Underlay> {
+        match self.socket.local_addr() {
+            Ok(address) => Some(underlay_of(address)),
+            Err(_) => None,
+        }
+    }
+
+    /// Waits until there is a datagram, for 100 milliseconds at most. False where it can't be waited for.
+    pub fn wait_for_one(&self) -> bool {
+        wait_for_datagram(&self.socket)
+    }
+}
+
+impl<R: Clock + Drop> Source for UdpSource<R> {
+    ghost told = { λ s. None };
+
+    ghost failed = { λ s. s };
+
+    fn next_into(&mut self, buffer: &mut [u8]) -> NextLen {
+        let answer = read_one(&self.clock, &self.socket, buffer);
+        if answer == NextLen::Failed {
+            self.failed += 1;
+        }
+        answer
+    }
+
+    fn failures(&self) -> u64 {
+        self.failed
+    }
+}
