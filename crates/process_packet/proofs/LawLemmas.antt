@@ -219,7 +219,7 @@ delivers false false true four six None q out to p sent = absurd (answered_not_s
 delivers false false true four six (Some at) q out to p sent = let same = same_sent 0 out (Some at) to q p sent in (sym same.link, same.packet)
 delivers false false false four six o q out to p sent = absurd (answered_not_sent (parameter 21 9) out to p sent)
 
-delivered_inside : (n : Network) (q : Packet) (out : ℕ) (to : Option Underlay) (p : Packet) → delivered n q ≡ Sent out to p → (out ≡ 0) × (q ≡ p)
+pub delivered_inside : (n : Network) (q : Packet) (out : ℕ) (to : Option Underlay) (p : Packet) → delivered n q ≡ Sent out to p → (out ≡ 0) × (q ≡ p)
 delivered_inside n q out to p sent =
     let host = q.header.destination in
     delivers (host.kind == 0 && host_code host == 0) (host.kind == 0 && host_code host == 3) (host.kind == 1 && host_code host == 0)

@@ -10,3 +10,10 @@ pub mod PassingLemmas
 pub mod LawLemmas
 pub mod AgreementLemmas
 pub mod ProblemLemmas
+pub mod Coming
+pub mod RowsPassed
+pub mod AuthorisedLemmas
+pub mod HostLemmas
+pub mod DeliveredLemmas
+pub mod KeptLemmas
+pub mod WaysLemmas

@@ -17,3 +17,6 @@ pub mod Laws
 pub mod Net
 pub mod Agreement
 pub mod Problems
+pub mod Shown
+pub mod Hosts
+pub mod Ways

@@ -1,7 +1,10 @@
 //! What the decision table says as a whole: nothing here runs.
 
+ghost use Rattle.process_packet.specs.Hosts.{DeliveredToItsHost, HostsAreReached};
 ghost use Rattle.process_packet.specs.Laws.{AnswersAreSound, NextPlaceIsNext, NothingElseChanges, OnlyAuthorised, OnlyLawfulWays};
 ghost use Rattle.process_packet.specs.Problems.{ProblemsAreLawful};
+ghost use Rattle.process_packet.specs.Shown.{AllAuthorisedAreSent};
+ghost use Rattle.process_packet.specs.Ways.{SentByThreeWays};
 
 /// A packet is sent only if it has no fault, no more bytes than any link carries and the payload length that
 /// it tells; the hop field at its cursor was within its time, named the link by which the packet came from
@@ -42,4 +45,29 @@ pub fn answers_are_sound()
 /// the link by which it came from outside, and carried its MAC.
 pub fn problems_are_lawful()
     ensures { ProblemsAreLawful }
+{}
+
+/// A packet that shows all that it must show is sent, unless it asks a router here to answer: to its host
+/// where it is for this AS, else by its egress interface, or to the router of the AS that has this
+/// interface.
+pub fn authorised_is_sent()
+    ensures { AllAuthorisedAreSent }
+{}
+
+/// A packet is sent by one of three ways: to its own host, by a link of this router with the cursor at the
+/// next hop of its path, or as it stands to the router of the AS that has its egress interface.
+pub fn sent_by_three_ways()
+    ensures { SentByThreeWays }
+{}
+
+/// What comes from outside, is for this AS and is sent goes to its own destination: on link 0, to the host's
+/// address and the port where hosts listen, or to the address of the service.
+pub fn delivers_to_its_host()
+    ensures { DeliveredToItsHost }
+{}
+
+/// A packet that is delivered goes to its destination's host, at the port where hosts listen, or to the
+/// address of the service.
+pub fn hosts_are_reached()
+    ensures { HostsAreReached }
 {}

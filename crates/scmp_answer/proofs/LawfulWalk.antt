@@ -15,7 +15,7 @@ use Rattle.scmp_answer.specs.Reply.{answer_packet, is_left_unanswered, reply, se
 use Rattle.scmp_answer.specs.Reply as answers
 use Rattle.scmp_answer.specs.WayBack.{has_no_way_back, is_external, is_first_of_segment, way_back}
 use Rattle.walk_laws.specs.PathSegments.{PathSegment, route_over}
-use Rattle.walk_laws.specs.Hosts.{IsReachedAt}
+use Rattle.process_packet.specs.Hosts.{IsReachedAt}
 use Rattle.walk_laws.specs.LawfulStart.{IsIpHost, IsKnown, ReachesHost, SetsOutOn, WalksBy}
 use Rattle.scmp_answer.specs.Walked.{IsAnswerable, IsLawfulStop, IsAnswered, IsAskedOnTheWay, IsCarriedBack, IsWalked}
 use Rattle.process_packet.specs.Net.{Agrees, Net, Router, router_at}
@@ -23,12 +23,12 @@ use Rattle.walk_laws.specs.Domain.{IsOf}
 use Rattle.walk_laws.specs.Domain.{domain_of}
 use Rattle.scmp_answer.specs.Returns.{ComesBack}
 use Rattle.walk_laws.specs.Route.{IsOn, IsRoute, Route, end_of}
-use Rattle.walk_laws.specs.Shown.{is_for_us, turned}
+use Rattle.process_packet.specs.Shown.{is_for_us, turned}
 use Rattle.walk_laws.specs.Stands.{PacketAt, IsHostOf, IsUnasked, Stands, place_of}
 use Rattle.walk_laws.specs.Start.{outset}
 use Rattle.walk_laws.specs.Stop.{IsAsked, progress, standing, verdict_at}
 use Rattle.walk_laws.specs.Walk.{IsDelivered, Walks}
-use Rattle.walk_laws.proofs.HostLemmas.{is_reached}
+use Rattle.process_packet.proofs.HostLemmas.{is_reached}
 use Rattle.walk_laws.proofs.LeavesLemmas.{same_router}
 use Rattle.walk_laws.proofs.LawfulLemmas.{end_is, its_route, sets_out}
 use Rattle.scmp_answer.proofs.ReturnLemmas.{comes_back}

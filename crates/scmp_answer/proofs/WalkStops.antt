@@ -22,7 +22,7 @@ use Rattle.process_packet.specs.declared.underlay.Underlay.{Underlay}
 use Rattle.process_packet.proofs.AgreementLemmas.{as_decides, end_decides, underlay_decides}
 use Rattle.walk_laws.specs.LawfulStart.{LawfulStart, ReachesHost, WalksBy}
 use Rattle.walk_laws.specs.PathSegments.{PathSegment}
-use Rattle.walk_laws.specs.Shown.{is_for_us}
+use Rattle.process_packet.specs.Shown.{is_for_us}
 use Rattle.walk_laws.specs.Stands.{PacketAt}
 use Rattle.walk_laws.specs.Stop.{IsCarried, standing, verdict_at}
 use Rattle.walk_laws.proofs.CarryLemmas.{of_one, same_number}

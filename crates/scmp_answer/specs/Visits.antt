@@ -8,7 +8,7 @@ use Rattle.process_packet.specs.declared.arrival.Arrival.{Arrival}
 use Rattle.process_packet.specs.declared.decision.Decision.TheVariants as decision
 use Rattle.process_packet.specs.declared.underlay.Underlay.{Underlay}
 use Rattle.walk_laws.specs.Domain.{domain_of}
-use Rattle.walk_laws.specs.Hosts.{IsReachedAt}
+use Rattle.process_packet.specs.Hosts.{IsReachedAt}
 use Rattle.walk_laws.specs.Stands.{IsHostOf, PacketAt}
 use Rattle.scmp_answer.specs.Stops.{Came}
 use Rattle.scmp_answer.specs.Walked.{IsLawfulStop}

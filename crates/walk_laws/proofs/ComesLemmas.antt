@@ -15,8 +15,8 @@ use Rattle.process_packet.specs.Net.{Agrees, AreOfOneAS, Net, Router}
 use Rattle.walk_laws.specs.Domain.{IsOf}
 use Rattle.walk_laws.proofs.NetLemmas.{ListsAt, listed_at}
 use Rattle.walk_laws.specs.Route.{IsHopOf, IsOn, IsRoute, Route, way_in}
-use Rattle.walk_laws.proofs.Coming.{ComesAsItShould}
-use Rattle.walk_laws.specs.Shown.{turned}
+use Rattle.process_packet.proofs.Coming.{ComesAsItShould}
+use Rattle.process_packet.specs.Shown.{turned}
 use Rattle.walk_laws.specs.Stands.{PacketAt, IdsStand, IsFromEntry, IsOnItsWay, StandsInside, StandsOutside, place_of}
 use Rattle.walk_laws.specs.Stop.{standing}
 use Rattle.walk_laws.proofs.IdLemmas.{hop_is, ids_turned, size_is}

@@ -12,7 +12,7 @@ use Rattle.walk_laws.specs.Example.{example_net, hop_0, hop_1, hop_2, info_along
 use Rattle.walk_laws.specs.ExampleHops.{example_packet, example_path, example_start}
 use Rattle.walk_laws.specs.PathSegments.{AreUnexpired, IsBeaconed, IsPathOver, met, part, stretch_of}
 use Rattle.walk_laws.specs.Examples.{moment}
-use Rattle.walk_laws.specs.Hosts.{IsReachedAt}
+use Rattle.process_packet.specs.Hosts.{IsReachedAt}
 use Rattle.walk_laws.specs.LawfulStart.{IsIpHost, IsKnown, LawfulStart}
 use Rattle.process_packet.specs.Net.{Router}
 use Rattle.walk_laws.specs.Domain.{Domain}

@@ -19,16 +19,16 @@ use Rattle.process_packet.specs.Net.{Agrees, Joined, Net, Router, end_at, router
 use Rattle.walk_laws.specs.Domain.{IsOf}
 use Rattle.walk_laws.proofs.NetLemmas.{ListsAt, listed_at}
 use Rattle.walk_laws.specs.Route.{IsBefore, Crosses, IsHopOf, IsOn, IsRoute, Route, after, way_in, way_out}
-use Rattle.walk_laws.proofs.Coming.{ComesAsItShould}
-use Rattle.walk_laws.specs.Shown.{StandsToLeave, asks_entry, asks_exit, is_for_us, packet_at, turned}
+use Rattle.process_packet.proofs.Coming.{ComesAsItShould}
+use Rattle.process_packet.specs.Shown.{StandsToLeave, asks_entry, asks_exit, is_for_us, packet_at, turned}
 use Rattle.walk_laws.specs.Stands.{PacketAt, IdsStand, IsOnItsWay, Stands}
 use Rattle.walk_laws.specs.Stop.{GoesOn, IsAsked, IsCarried}
-use Rattle.walk_laws.proofs.RowsPassed.{replies_at_exit, sent_by_link, sent_to_sibling}
+use Rattle.process_packet.proofs.RowsPassed.{replies_at_exit, sent_by_link, sent_to_sibling}
 use Rattle.walk_laws.proofs.IdLemmas.{hop_is, ids_left, size_is}
 use Rattle.walk_laws.proofs.ReadLemmas.{along_read, egress_read, end_read, goes_further, is_no_end, other_flag_read}
 use Rattle.walk_laws.proofs.ComesLemmas.{of_one_as}
 use Rattle.walk_laws.proofs.IdLemmas as chained_fits
-use Rattle.walk_laws.proofs.KeptLemmas.{IsKept, out_kept}
+use Rattle.process_packet.proofs.KeptLemmas.{IsKept, out_kept}
 
 pub same_router : (net : Net) (r q : ℕ) (x y : Router) → router_at net r ≡ Some x → router_at net q ≡ Some y → r ≡ q → x ≡ y
 same_router net r q x y one other same = let is : Some x ≡ Some y = sym one ∙ ap (router_at net) same ∙ other in cc

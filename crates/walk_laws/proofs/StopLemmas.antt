@@ -21,13 +21,13 @@ use Rattle.process_packet.specs.Standing.{hop, ingress, ingress_alert, Standing,
 use Rattle.process_packet.specs.Net.{Agrees, Net, Router, router_at}
 use Rattle.walk_laws.specs.Domain.{IsOf}
 use Rattle.walk_laws.specs.Route.{IsBefore, IsHopOf, IsOn, IsRoute, Joins, Route, after, info_of, last_in, way_in}
-use Rattle.walk_laws.proofs.Coming.{ComesAsItShould}
-use Rattle.walk_laws.specs.Shown.{StandsToLeave, asks_entry, is_for_us, turned}
+use Rattle.process_packet.proofs.Coming.{ComesAsItShould}
+use Rattle.process_packet.specs.Shown.{StandsToLeave, asks_entry, is_for_us, turned}
 use Rattle.walk_laws.specs.Stands.{PacketAt, IsOnItsWay, Stands, StandsInside, StandsOutside, place_of}
 use Rattle.walk_laws.specs.Stop.{GoesOn, IsAsked, progress, standing, verdict_at}
-use Rattle.walk_laws.proofs.RowsPassed.{delivers, replies_at_entry}
+use Rattle.process_packet.proofs.RowsPassed.{delivers, replies_at_entry}
 use Rattle.walk_laws.proofs.IdLemmas.{hop_is, ids_over, not_along, size_is, turned_id}
-use Rattle.walk_laws.proofs.KeptLemmas.{IsKept, place_kept, turned_kept}
+use Rattle.process_packet.proofs.KeptLemmas.{IsKept, place_kept, turned_kept}
 use Rattle.walk_laws.proofs.AddressLemmas.{ends as local_end}
 use Rattle.walk_laws.proofs.ReadLemmas.{flag_read, along_read, followed_read, goes_further, is_followed_by, is_no_end, last_read, mac_read, unexpired_read}
 use Rattle.walk_laws.proofs.ComesLemmas.{comes_inside, comes_outside, external, ids_in, ids_same_in, internal}

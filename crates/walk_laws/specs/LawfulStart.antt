@@ -8,14 +8,14 @@ use Rattle.process_packet.specs.Request.{is_request}
 use Rattle.process_packet.specs.Rows.{Sent}
 use Rattle.walk_laws.specs.Stretch.{beta_met}
 use Rattle.walk_laws.specs.PathSegments.{AreUnexpired, PathSegment, IsMet, IsPathOver, met, part, route_over, segments_of, stretch_of}
-use Rattle.walk_laws.specs.Hosts.{IsReachedAt}
+use Rattle.process_packet.specs.Hosts.{IsReachedAt}
 use Rattle.process_packet.specs.Net.{Agrees, Net, Router, router_at}
 use Rattle.walk_laws.specs.Domain.{IsOf}
 use Rattle.walk_laws.specs.Domain.{domain_of}
 use Rattle.walk_laws.specs.Route.{IsRoute}
 use Rattle.walk_laws.specs.Start.{outset}
 use Rattle.walk_laws.specs.Stands.{PacketAt, IsHostOf}
-use Rattle.walk_laws.specs.Shown.{is_for_us}
+use Rattle.process_packet.specs.Shown.{is_for_us}
 use Rattle.walk_laws.specs.Stop.{IsCarried, standing, verdict_at}
 use Rattle.walk_laws.specs.Walk.{Walks}
 

@@ -1,4 +1,3 @@
-pub mod Shown
 pub mod Domain
 pub mod Route
 pub mod Stands
@@ -6,7 +5,6 @@ pub mod Stop
 pub mod Walk
 pub mod Start
 pub mod Stretch
-pub mod Hosts
 pub mod Example
 pub mod PathSegments
 pub mod LawfulStart

@@ -12,7 +12,7 @@ use Rattle.process_packet.specs.Request.{is_request}
 use Rattle.process_packet.specs.Standing.{Standing, packet}
 use Rattle.process_packet.specs.Net.{Agrees, AreOfOneAS, Joined, Net, Router, end_at, router_at}
 use Rattle.walk_laws.specs.Route.{IsOn, IsRoute, Route, hop_of}
-use Rattle.walk_laws.specs.Shown.{is_for_us, turned}
+use Rattle.process_packet.specs.Shown.{is_for_us, turned}
 use Rattle.walk_laws.specs.Stands.{PacketAt, Stands, place_of}
 
 -- a packet that comes so, as the rows of the decision see it

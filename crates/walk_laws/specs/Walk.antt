@@ -8,7 +8,7 @@ use Rattle.process_packet.specs.Rows.{Sent, delivered}
 use Rattle.process_packet.specs.Standing.{packet}
 use Rattle.process_packet.specs.Net.{Agrees, Net, Router, router_at}
 use Rattle.walk_laws.specs.Route.{IsRoute, Route}
-use Rattle.walk_laws.specs.Shown.{turned}
+use Rattle.process_packet.specs.Shown.{turned}
 use Rattle.walk_laws.specs.Stands.{PacketAt, IsUnasked, Stands, place_of}
 use Rattle.walk_laws.specs.Stop.{IsAsked, IsCarried, standing, verdict_at}
 

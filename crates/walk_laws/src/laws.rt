@@ -2,21 +2,12 @@
 
 ghost use Rattle.walk_laws.specs.Configured.{LinksAreNumbered};
 ghost use Rattle.walk_laws.specs.Examples.{ExamplesAreLawful};
-ghost use Rattle.walk_laws.specs.Hosts.{DeliveredToItsHost, HostsAreReached};
 ghost use Rattle.walk_laws.specs.LawfulStart.{HopsMakeRoutes};
 ghost use Rattle.walk_laws.specs.Route.{RoutesTurn};
-ghost use Rattle.walk_laws.specs.Shown.{AllAuthorisedAreSent};
 ghost use Rattle.walk_laws.specs.Start.{PathsAreWalked};
 ghost use Rattle.walk_laws.specs.Stop.{CarriedToOne, OneStop};
 ghost use Rattle.walk_laws.specs.Stretch.{BeaconedHopsHold, StretchesHold};
 ghost use Rattle.walk_laws.specs.Walk.{RoutesAreWalked};
-
-/// A packet that shows all that it must show is sent, unless it asks a router here to answer: to its host
-/// where it is for this AS, else by its egress interface, or to the router of the AS that has this
-/// interface.
-pub fn authorised_is_sent()
-    ensures { AllAuthorisedAreSent }
-{}
 
 /// A packet that stands on a route is delivered at the route's last hop. At any other one it is sent
 /// on, and stands on the route where it comes to.
@@ -52,12 +43,6 @@ pub fn beaconed_hops_hold()
     ensures { BeaconedHopsHold }
 {}
 
-/// A packet that is delivered goes to its destination's host, at the port where hosts listen, or to the
-/// address of the service.
-pub fn hosts_are_reached()
-    ensures { HostsAreReached }
-{}
-
 /// In a net that agrees, a packet that is sent comes to one router only, the same way: a walk is one.
 pub fn carried_to_one()
     ensures { CarriedToOne }
@@ -77,10 +62,4 @@ pub fn examples_are_lawful()
 /// Each link of a configuration has a number from 1 on.
 pub fn links_are_numbered()
     ensures { LinksAreNumbered }
-{}
-
-/// What comes from outside, is for this AS and is sent goes to its own destination: on link 0, to the host's
-/// address and the port where hosts listen, or to the address of the service.
-pub fn delivers_to_its_host()
-    ensures { DeliveredToItsHost }
 {}

@@ -15,9 +15,9 @@ use Rattle.process_packet.specs.declared.neighbours.Service.{Service}
 use Rattle.process_packet.specs.declared.underlay.Ip.TheVariants.{V4, V6}
 use Rattle.process_packet.specs.declared.underlay.Underlay.{Underlay}
 use Rattle.process_packet.proofs.LawLemmas.{came_in, told}
-use Rattle.walk_laws.specs.Hosts.{DeliveredToItsHost, IsReachedAt, IsSentToHost}
-use Rattle.walk_laws.specs.Shown.{AuthorisedIsSent, asks_entry, is_for_us, turned}
-use Rattle.walk_laws.proofs.AuthorisedLemmas.{authorised_sent}
+use Rattle.process_packet.specs.Hosts.{DeliveredToItsHost, IsReachedAt, IsSentToHost}
+use Rattle.process_packet.specs.Shown.{AuthorisedIsSent, asks_entry, is_for_us, turned}
+use Rattle.process_packet.proofs.AuthorisedLemmas.{authorised_sent}
 
 both : (a b : Bool) → (a && b) ≡ true → (a ≡ true) × (b ≡ true)
 both true b is = (refl, is)
@@ -52,7 +52,7 @@ by_kind n a q p out to false false true e f g is =
     to_its_service n a q p out to (eqb-true a.kind 1 k.0) (eqb-true (host_code a) 0 k.1) (service n (number_at a.host 0 2)) refl is
 by_kind n a q p out to false false false e f g is = absurd cc
 
-delivered_so : (n : Network) (q p : Packet) (out : ℕ) (to : Option Underlay) → delivered n q ≡ Sent out to p → IsSentToHost n q.header.destination out to
+pub delivered_so : (n : Network) (q p : Packet) (out : ℕ) (to : Option Underlay) → delivered n q ≡ Sent out to p → IsSentToHost n q.header.destination out to
 delivered_so n q p out to is = let a = q.header.destination in by_kind n a q p out to (a.kind == 0 && host_code a == 0) (a.kind == 0 && host_code a == 3) (a.kind == 1 && host_code a == 0) refl refl refl is
 
 -- a packet that asks is answered, and not sent

@@ -4,9 +4,9 @@ use Rattle.process_packet.specs.Decide.{verdict}
 use Rattle.process_packet.specs.Laws.{IsAuthorised}
 use Rattle.process_packet.specs.Network.{is_local}
 use Rattle.process_packet.specs.Standing.{Standing, arrives, is_authentic, is_external, is_first_of_path}
-use Rattle.walk_laws.specs.Shown.{AllAuthorisedAreSent}
-use Rattle.walk_laws.proofs.Coming.{ComesAsItShould}
-use Rattle.walk_laws.proofs.RowsPassed.{delivers, replies_at_entry, replies_at_exit, sent_by_link, sent_to_sibling, turned_is}
+use Rattle.process_packet.specs.Shown.{AllAuthorisedAreSent}
+use Rattle.process_packet.proofs.Coming.{ComesAsItShould}
+use Rattle.process_packet.proofs.RowsPassed.{delivers, replies_at_entry, replies_at_exit, sent_by_link, sent_to_sibling, turned_is}
 
 source_lawful : (external first local : Bool) → (external ≡ true → local ≡ false) → (external ≡ false → first ≡ true → local ≡ true)
     → (if external then not local else (not first || local)) ≡ true
@@ -14,7 +14,7 @@ source_lawful true first local elsewhere here = ap not (elsewhere refl)
 source_lawful false true local elsewhere here = here refl refl
 source_lawful false false local elsewhere here = refl
 
-comes_so : (s : Standing) → IsAuthorised s → ComesAsItShould s
+pub comes_so : (s : Standing) → IsAuthorised s → ComesAsItShould s
 comes_so s is = record {
   short = is.short;
   sound = is.sound;
