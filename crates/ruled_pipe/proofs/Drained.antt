@@ -116,7 +116,7 @@ module _ {T : Type 0} where
       let same = ap ends_in (of_here h.from h hs refl) in
       absurd (omega arith)
 
-  pub drained : (n : ℕ) (senders : List (Sender T)) (taken held : List (Entry T)) → IsWhole n senders taken held → EachEndsWithMark senders → ends_in taken ≡ length senders → held ≡ []
+  pub drained : (n : ℕ) (senders : List (Sender T)) (taken held : List (Entry T)) → IsWhole n senders taken held → EachEndsWithMark senders → length senders ≤ ends_in taken → held ≡ []
   drained n senders taken held whole marked all =
       let count = by_producers ends_in (λ (e : Entry T). end_of e.load) refl (λ x xs. refl) (length senders) (taken ++ held) whole.carried in
       let each = sum_same (length senders) (λ p. ends_in (of_producer p (taken ++ held))) (λ _. 1)
