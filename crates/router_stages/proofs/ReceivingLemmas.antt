@@ -22,7 +22,7 @@ use Rattle.stage_parts.specs.Outlet.{Offering}
 use Rattle.stage_parts.specs.Outlets.{AreFresh, AreOpen, Trying, senders}
 use Rattle.stage_parts.proofs.EndLemmas.{gave_sent, kept_away, gave_open, kept_open, senders_long, tried_each, fresh_open, fresh_senders}
 use Rattle.router_stages.specs.Intake.{Intake, EndedAs, PassedIn, place}
-use Rattle.router_stages.specs.Receiving.{KeepsReceiving, last_number, with_processors, with_share}
+use Rattle.router_stages.specs.Receiving.{KeepsReceiving, is_datagram, last_number, with_processors, with_share}
 use Rattle.router_stages.proofs.PoolLemmas.{another_looks, none_looks}
 
 module _ (x : Arrival kinds) (old new : Intake) (some : 0 < length old.processors) where
@@ -65,17 +65,19 @@ module _ (told told' : Option (List Heard)) (number : ℕ) where
         (subst (λ (i : ℕ). P mid.config mid.link i new.share) (sym passed.same.2) (subst (λ (s : Held). P mid.config mid.link mid.interface s) (sym passed.share) law)));
     unended = λ e. open_of (arrival mid.link mid.interface (number + 1) from now bytes) mid new some passed.outcome passed.ended (subst (λ (i : Intake). AreOpen i.processors) (sym is) (k.unended going));
     few = λ e. let f = k.few going in grind arith;
+    quiet = λ e. inl (grind arith);
   }
 
   -- another answer
-  pub keeps_answer : (ended after : Bool) (old mid : Intake) (h : Heard) → ((n : ℕ) → given old.link old.interface n (h ∷ []) ≡ []) → ended ≡ false → mid ≡ old → AddsTo told h told' → KeepsReceiving told number ended old
+  pub keeps_answer : (ended after : Bool) (old mid : Intake) (h : Heard) → ((n : ℕ) → given old.link old.interface n (h ∷ []) ≡ []) → is_datagram h ≡ false → ended ≡ false → mid ≡ old → AddsTo told h told' → KeepsReceiving told number ended old
       → KeepsReceiving told' number after mid
-  keeps_answer ended after old mid h none going is adds k =
+  keeps_answer ended after old mid h none silent going is adds k =
       subst (λ (i : Intake). KeepsReceiving told' number after i) (sym is)
       (record {
         law = hears_nothing old.config old.link old.interface number told told' old.stock.free.looks (senders old.processors) (senders old.processors) old.share h none adds k.law;
         unended = λ e. k.unended going;
         few = λ e. k.few going;
+        quiet = λ e. inr (λ hs t. let a = adds hs t in (a.0, h, a.2, silent));
       })
 
 -- marks that were tried
@@ -87,13 +89,14 @@ keeps_ending told number ended all old new met tried same k =
       law = hears_tried old.config old.link old.interface number told told old.stock.free.looks (senders old.processors) (senders new.processors) old.share (tried_each (λ j. true) old.processors new.processors tried.tried) k.law;
       unended = λ e. absurd (let z : true ≡ false = sym met ∙ e in cc);
       few = λ e. absurd (let z : true ≡ false = sym met ∙ e in cc);
+      quiet = k.quiet;
     })
 
 -- a post
 pub keeps_posted : (told : Option (List Heard)) (number : ℕ) (ended : Bool) (old new : Intake) → (new ≡ with_share (emptied old.share) old) ⊎ (new ≡ old) → KeepsReceiving told number ended old → KeepsReceiving told number ended new
 keeps_posted told number ended old new (inl is) k =
     subst (λ (i : Intake). KeepsReceiving told number ended i) (sym is)
-    (record { law = hears_posted old.config old.link old.interface number told told old.stock.free.looks (senders old.processors) (senders old.processors) old.share k.law; unended = k.unended; few = k.few })
+    (record { law = hears_posted old.config old.link old.interface number told told old.stock.free.looks (senders old.processors) (senders old.processors) old.share k.law; unended = k.unended; few = k.few; quiet = k.quiet })
 keeps_posted told number ended old new (inr is) k = subst (λ (i : Intake). KeepsReceiving told number ended i) (sym is) k
 
 -- nothing came yet
@@ -105,4 +108,9 @@ keeps_first told side unlooked unraised fresh untold = record {
       (subst (λ (s : Held). IsReceiving side.config side.link side.interface 0 told [] (senders side.processors) s) (sym unraised) law);
   unended = λ e. fresh_open side.processors fresh;
   few = λ e. omega arith;
+  quiet = λ e. absurd cc;
 }
+
+-- a wait
+pub keeps_waited : (told told' : Option (List Heard)) (number : ℕ) (ended : Bool) (side : Intake) → told' ≡ told → KeepsReceiving told number ended side → KeepsReceiving told' number ended side
+keeps_waited told told' number ended side same k = subst (λ (t : Option (List Heard)). KeepsReceiving t number ended side) (sym same) k

@@ -1,5 +1,5 @@
 -- What contracts see of a receiver, and what a turn does.
-use Rattle.std.specs.Prelude.{◌≡◌, ◌⊎◌, ◌+◌, ◌-◌, ◌^◌, ◌<◌, ◌==◌, ℕ, Bool, true, false, List, [], ◌∷◌, Option, Some, None, if◌then◌else◌}
+use Rattle.std.specs.Prelude.{◌≡◌, ◌⊎◌, ◌+◌, ◌-◌, ◌^◌, ◌<◌, ◌==◌, ℕ, Bool, true, false, List, [], ◌∷◌, ◌++◌, Option, Some, None, if◌then◌else◌}
 use Rattle.packet_ledger.specs.Share.{Held, emptied, new_share}
 use Rattle.pipe_order.specs.Item.{Arrival}
 use Rattle.process_packet.specs.declared.config.Config.{Config}
@@ -38,6 +38,20 @@ failures_in WasAtEnd = 0
 -- the last number that it gives
 abbrev pub last_number : ℕ
 last_number = 2 ^ 56
+
+abbrev pub is_datagram : Heard → Bool
+is_datagram (Gave from now bytes) = true
+is_datagram WasQuiet = false
+is_datagram HadFailed = false
+is_datagram WasAtEnd = false
+
+-- what was told last is no datagram
+abbrev pub LastIsNone : List Heard → Type 0
+LastIsNone hs = (before : List Heard) × (h : Heard) × (hs ≡ before ++ h ∷ []) × (is_datagram h ≡ false)
+
+-- it ends at its last number, or at an answer that is no datagram
+abbrev pub EndsQuietly : ℕ → Option (List Heard) → Type 0
+EndsQuietly number told = (number ≡ last_number) ⊎ ((hs : List Heard) → told ≡ Some hs → LastIsNone hs)
 
 -- after the end of a worker: it has ended once all its marks are there
 abbrev pub ending : Bool → Turn
@@ -85,6 +99,10 @@ module _ {S : Type 0} where
         ⊎ ((old.ended ≡ false) × (failed old.source ≡ 2 ^ 64 - 1) × (turn ≡ Quiet) × (new ≡ old))
         ⊎ ((old.ended ≡ false) × ((h : Heard) × Asked h old.source new.source × Heeds turn h old new))
 
+    -- it waited for its source, which told nothing new
+    abbrev pub Waited : Receiving S → Receiving S → Type 0
+    Waited old new = (told new.source ≡ told old.source) × (failed new.source ≡ failed old.source) × (new ≡ record { number = old.number; source = new.source; ended = old.ended; side = old.side })
+
   -- its counts are posted
   abbrev pub posted : Receiving S → Receiving S
   posted r = with_side (with_share (emptied r.side.share) r.side) r
@@ -94,3 +112,4 @@ pub record KeepsReceiving (told : Option (List Heard)) (number : ℕ) (ended : B
   pub law : IsReceiving side.config side.link side.interface number told side.stock.free.looks (senders side.processors) side.share
   pub unended : ended ≡ false → AreOpen side.processors
   pub few : ended ≡ false → number < last_number
+  pub quiet : ended ≡ true → EndsQuietly number told

@@ -1,12 +1,12 @@
 //! A receiver.
 
-ghost use Rattle.std.specs.Prelude.{◌≡◌, ◌⊎◌, ◌<◌, MatchBool, Some, [], length};
+ghost use Rattle.std.specs.Prelude.{◌≡◌, ◌⊎◌, ◌<◌, true, MatchBool, Some, [], length};
 ghost use Rattle.std.specs.Arc.{arc_value};
 ghost use Rattle.packet_ledger.specs.Share.{HasRoom, emptied, new_share};
 ghost use Rattle.router_laws.specs.Heard.{ToldNothing};
 ghost use Rattle.router_laws.specs.Keeping.{IsReceiving};
 ghost use Rattle.router_rules.specs.Links.{link_count};
-ghost use Rattle.router_stages.specs.Receiving.{Received, first_receiving, posted};
+ghost use Rattle.router_stages.specs.Receiving.{EndsQuietly, Received, Waited, first_receiving, posted};
 ghost use Rattle.stage_parts.specs.Outlets.{AreFresh, senders};
 
 use crate::intake::Intake;
@@ -138,6 +138,16 @@ impl<N: Router, R: Wait + Copy, S: Source> Receiver<N, R, S> {
         }
     }
 
+    /// Waits as its source does, before its end, and says whether it waited.
+    pub fn wait(&mut self) -> bool
+        ensures { Waited S.told S.failed self.old self.new }
+    {
+        if self.ended {
+            return false;
+        }
+        self.source.wait()
+    }
+
     /// Posts its counts into the book, where there is room.
     pub fn post(&mut self, book: &Book<N>)
         ensures { (self.new ≡ posted self.old) ⊎ (self.new ≡ self.old) }
@@ -149,6 +159,7 @@ impl<N: Router, R: Wait + Copy, S: Source> Receiver<N, R, S> {
     pub fn into_parts(self) -> (S, Vec<Outlet<Packet<N>>>, Consumer<Buffer>, Share<N>)
         ensures parts { (result.0 ≡ self.source) × (result.1.items ≡ self.side.processors) × (result.2 ≡ self.side.stock.free) × (result.3 ≡ self.side.share) }
         ensures law { IsReceiving self.side.config self.side.link self.side.interface self.number (S.told self.source) self.side.stock.free.looks (senders self.side.processors) self.side.share }
+        ensures quiet { self.ended ≡ true → EndsQuietly self.number (S.told self.source) }
     {
         let Receiver {
             stop: _,

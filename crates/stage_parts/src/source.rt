@@ -45,6 +45,15 @@ pub trait Source {
         ensures failed { failed self.new ≡ failed self.old + failures_of result }
         ensures told { AddsTo (told self.old) (heard buffer.new result) (told self.new) };
 
+    /// Waits until there may be a datagram, and says whether it waited: at false its caller has to wait
+    /// in a way of its own. It may return at any moment, and is to return within a tenth of a second.
+    fn wait(&mut self) -> bool
+        ensures told { told self.new ≡ told self.old }
+        ensures failed { failed self.new ≡ failed self.old }
+    {
+        false
+    }
+
     /// How often it failed.
     fn failures(&self) -> u64
         ensures { result ≡ failed self.now };
