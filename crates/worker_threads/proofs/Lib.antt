@@ -1,0 +1,5 @@
+pub mod SameLemmas
+pub mod ReceiverLemmas
+pub mod ExitLemmas
+pub mod ForwarderLemmas
+pub mod BackLemmas

@@ -1,0 +1,8 @@
+use Rattle.worker_threads.proofs.ExitLemmas.{processor_posted, processor_still}
+use Rattle.worker_threads.proofs.processor.ProcessorWork.post.Goals as goal
+
+pub returns-clause-same : goal.returns-clause-same
+returns-clause-same g c = processor_posted c.args.self.now c.post.new.self c.post.ensures
+
+pub returns-clause-ended : goal.returns-clause-ended
+returns-clause-ended g c = processor_still c.args.self.now c.post.new.self c.post.ensures

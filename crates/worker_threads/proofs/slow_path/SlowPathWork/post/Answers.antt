@@ -1,0 +1,8 @@
+use Rattle.worker_threads.proofs.ExitLemmas.{slow_posted, slow_still}
+use Rattle.worker_threads.proofs.slow_path.SlowPathWork.post.Goals as goal
+
+pub returns-clause-same : goal.returns-clause-same
+returns-clause-same g c = slow_posted c.args.self.now c.post.new.self c.post.ensures
+
+pub returns-clause-ended : goal.returns-clause-ended
+returns-clause-ended g c = slow_still c.args.self.now c.post.new.self c.post.ensures

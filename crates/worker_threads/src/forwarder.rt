@@ -1,0 +1,38 @@
+//! A forwarder, as the loop of a thread drives it.
+
+use crate::work::Work;
+use packet_ledger::Book;
+use router_stages::{Forwarder, Turn};
+use stage_parts::{Router, Sink};
+use std::sync::Wait;
+
+impl<N: Router, R: Wait + Copy, K: Sink> Work<N> for Forwarder<N, R, K> {
+    ghost use Rattle.packet_ledger.specs.Share.{HasRoom};
+    ghost use Rattle.worker_threads.specs.Workers.{IsSameForwarder, ForwarderEnded, forwarder_self, forwarder_then};
+
+    ghost same = { λ a b. IsSameForwarder a b };
+
+    ghost may_turn = { λ f. HasRoom f.side.share.counts };
+
+    ghost has_ended = { λ f. ForwarderEnded f };
+
+    fn has_room(&self) -> bool {
+        self.has_room()
+    }
+
+    fn make_turn(&mut self) -> Turn {
+        self.turn()
+    }
+
+    fn wait(&mut self) -> bool {
+        false
+    }
+
+    fn post(&mut self, book: &Book<N>) {
+        self.post(book)
+    }
+
+    ghost same_self = { λ x. forwarder_self x };
+
+    ghost same_then = { λ x y z p q. forwarder_then x y z p q };
+}

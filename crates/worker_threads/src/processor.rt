@@ -1,0 +1,38 @@
+//! A processor, as the loop of a thread drives it.
+
+use crate::work::Work;
+use packet_ledger::Book;
+use router_stages::{Processor, Turn};
+use stage_parts::{Gate, Router};
+use std::sync::Wait;
+
+impl<N: Router, R: Wait + Copy, G: Gate + Drop> Work<N> for Processor<N, R, G> {
+    ghost use Rattle.packet_ledger.specs.Share.{HasRoom};
+    ghost use Rattle.worker_threads.specs.Workers.{IsSameProcessor, ProcessorEnded, processor_self, processor_then};
+
+    ghost same = { λ a b. IsSameProcessor a b };
+
+    ghost may_turn = { λ w. HasRoom w.side.share.counts };
+
+    ghost has_ended = { λ w. ProcessorEnded w };
+
+    fn has_room(&self) -> bool {
+        self.has_room()
+    }
+
+    fn make_turn(&mut self) -> Turn {
+        self.turn()
+    }
+
+    fn wait(&mut self) -> bool {
+        false
+    }
+
+    fn post(&mut self, book: &Book<N>) {
+        self.post(book)
+    }
+
+    ghost same_self = { λ x. processor_self x };
+
+    ghost same_then = { λ x y z p q. processor_then x y z p q };
+}

@@ -1,0 +1,38 @@
+//! A receiver, as the loop of a thread drives it.
+
+use crate::work::Work;
+use packet_ledger::Book;
+use router_stages::{Receiver, Turn};
+use stage_parts::{Router, Source};
+use std::sync::Wait;
+
+impl<N: Router, R: Wait + Copy, S: Source> Work<N> for Receiver<N, R, S> {
+    ghost use Rattle.packet_ledger.specs.Share.{HasRoom};
+    ghost use Rattle.worker_threads.specs.Workers.{IsSameReceiver, ReceiverEnded, receiver_self, receiver_then};
+
+    ghost same = { λ a b. IsSameReceiver a b };
+
+    ghost may_turn = { λ r. HasRoom r.side.share.counts };
+
+    ghost has_ended = { λ r. ReceiverEnded r };
+
+    fn has_room(&self) -> bool {
+        self.has_room()
+    }
+
+    fn make_turn(&mut self) -> Turn {
+        self.turn()
+    }
+
+    fn wait(&mut self) -> bool {
+        self.wait()
+    }
+
+    fn post(&mut self, book: &Book<N>) {
+        self.post(book)
+    }
+
+    ghost same_self = { λ x. receiver_self x };
+
+    ghost same_then = { λ x y z p q. receiver_then x y z p q };
+}

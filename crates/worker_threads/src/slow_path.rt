@@ -1,0 +1,38 @@
+//! The slow path, as the loop of a thread drives it.
+
+use crate::work::Work;
+use packet_ledger::Book;
+use router_stages::{SlowPath, Turn};
+use stage_parts::Router;
+use std::sync::Wait;
+
+impl<N: Router, R: Wait + Copy> Work<N> for SlowPath<N, R> {
+    ghost use Rattle.packet_ledger.specs.Share.{HasRoom};
+    ghost use Rattle.worker_threads.specs.Workers.{IsSameSlowPath, SlowPathEnded, slow_self, slow_then};
+
+    ghost same = { λ a b. IsSameSlowPath a b };
+
+    ghost may_turn = { λ a. HasRoom a.side.share.counts };
+
+    ghost has_ended = { λ a. SlowPathEnded a };
+
+    fn has_room(&self) -> bool {
+        self.has_room()
+    }
+
+    fn make_turn(&mut self) -> Turn {
+        self.turn()
+    }
+
+    fn wait(&mut self) -> bool {
+        false
+    }
+
+    fn post(&mut self, book: &Book<N>) {
+        self.post(book)
+    }
+
+    ghost same_self = { λ x. slow_self x };
+
+    ghost same_then = { λ x y z p q. slow_then x y z p q };
+}

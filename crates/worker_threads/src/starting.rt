@@ -1,0 +1,154 @@
+//! Threads for all workers, or none.
+
+ghost use Rattle.std.specs.Prelude.{◌≡◌, ◌≤◌, [], IfOk, length, map, vec_capacity};
+
+use crate::orders::Orders;
+use crate::thread::{Handle, ThreadFault, start_worker};
+use crate::work::Work;
+use packet_ledger::Ledger;
+use std::sync::Wait;
+use std::thread::Threads;
+use std::time::Clock;
+
+/// Workers of one kind, orders for the thread of each, and room for the threads' handles.
+#[derive(Drop)]
+pub struct Team<N: Ledger, W: Work<N>> {
+    pub workers: Vec<W>,
+    pub orders: Vec<Orders<N>>,
+    pub room: Vec<Handle<N, W>>,
+}
+
+// At `Err` one thread was refused, and those that were made are given.
+fn start_each<N, W, R>(rt: R, team: Team<N, W>) -> Result<Vec<Handle<N, W>>, Vec<Handle<N, W>>>
+where
+    N: Ledger + Send + Sync + 'static,
+    W: Work<N> + Send + Drop + 'static,
+    R: Threads + Wait + Clock + Copy + Send + 'static,
+    requires room { (team.room.items ≡ []) × (length team.workers.items ≤ vec_capacity team.room) }
+    ensures { IfOk result (λ hs. map (λ h. h.promise.0.value) hs.items ≡ team.workers.items) }
+{
+    let Team {
+        workers,
+        mut orders,
+        room: mut handles,
+    } = team;
+    for worker in workers {
+        let Some(own) = orders.pop() else {
+            return Err(handles);
+        };
+        match start_worker(rt, own, worker) {
+            Ok(handle) => handles.push_reserved(handle),
+            Err(_) => return Err(handles),
+        }
+    }
+    Ok(handles)
+}
+
+// Tells the threads to give up, and joins them.
+fn give_up<N, W, R>(rt: &R, orders: &Orders<N>, handles: Vec<Handle<N, W>>)
+where
+    N: Ledger,
+    W: Work<N> + Drop,
+    R: Threads + Wait,
+{
+    orders.give_up();
+    for handle in handles {
+        let _ = handle.join(rt);
+    }
+}
+
+/// A thread of its own for each worker of a team, which holds until it is told to run. At `Err` one was
+/// refused: the others gave up and were joined, and no thread is left. Under the same orders no thread
+/// of another team runs then. It takes no memory.
+pub fn start_all<N, W, R>(
+    rt: R,
+    orders: &Orders<N>,
+    team: Team<N, W>,
+) -> Result<Vec<Handle<N, W>>, ThreadFault>
+where
+    N: Ledger + Send + Sync + 'static,
+    W: Work<N> + Send + Drop + 'static,
+    R: Threads + Wait + Clock + Copy + Send + 'static,
+    requires room { (team.room.items ≡ []) × (length team.workers.items ≤ vec_capacity team.room) }
+    ensures { IfOk result (λ hs. map (λ h. h.promise.0.value) hs.items ≡ team.workers.items) }
+{
+    match start_each(rt, team) {
+        Ok(handles) => Ok(handles),
+        Err(some) => {
+            give_up(&rt, orders, some);
+            Err(ThreadFault)
+        }
+    }
+}
+
+/// The threads of two kinds of workers.
+#[derive(Drop)]
+pub struct Both<N: Ledger, V: Work<N>, W: Work<N>> {
+    pub first: Vec<Handle<N, V>>,
+    pub second: Vec<Handle<N, W>>,
+}
+
+/// Threads for the workers of two teams, or none.
+pub fn start_both<N, V, W, R>(
+    rt: R,
+    orders: &Orders<N>,
+    first: Team<N, V>,
+    second: Team<N, W>,
+) -> Result<Both<N, V, W>, ThreadFault>
+where
+    N: Ledger + Send + Sync + 'static,
+    V: Work<N> + Send + Drop + 'static,
+    W: Work<N> + Send + Drop + 'static,
+    R: Threads + Wait + Clock + Copy + Send + 'static,
+    requires first { (first.room.items ≡ []) × (length first.workers.items ≤ vec_capacity first.room) }
+    requires second { (second.room.items ≡ []) × (length second.workers.items ≤ vec_capacity second.room) }
+    ensures first { IfOk result (λ b. map (λ h. h.promise.0.value) b.first.items ≡ first.workers.items) }
+    ensures second { IfOk result (λ b. map (λ h. h.promise.0.value) b.second.items ≡ second.workers.items) }
+{
+    let first = start_all(rt, orders, first)?;
+    match start_all(rt, orders, second) {
+        Ok(second) => Ok(Both { first, second }),
+        Err(fault) => {
+            give_up(&rt, orders, first);
+            Err(fault)
+        }
+    }
+}
+
+/// Threads for the workers of four teams, or none. Where all are there they are told to run.
+pub fn start_four<N, A, B, C, D, R>(
+    rt: R,
+    orders: &Orders<N>,
+    one: (Team<N, A>, Team<N, B>),
+    other: (Team<N, C>, Team<N, D>),
+) -> Result<(Both<N, A, B>, Both<N, C, D>), ThreadFault>
+where
+    N: Ledger + Send + Sync + 'static,
+    A: Work<N> + Send + Drop + 'static,
+    B: Work<N> + Send + Drop + 'static,
+    C: Work<N> + Send + Drop + 'static,
+    D: Work<N> + Send + Drop + 'static,
+    R: Threads + Wait + Clock + Copy + Send + 'static,
+    requires one { (one.0.room.items ≡ []) × (length one.0.workers.items ≤ vec_capacity one.0.room) }
+    requires two { (one.1.room.items ≡ []) × (length one.1.workers.items ≤ vec_capacity one.1.room) }
+    requires three { (other.0.room.items ≡ []) × (length other.0.workers.items ≤ vec_capacity other.0.room) }
+    requires four { (other.1.room.items ≡ []) × (length other.1.workers.items ≤ vec_capacity other.1.room) }
+    ensures one { IfOk result (λ r. map (λ h. h.promise.0.value) r.0.first.items ≡ one.0.workers.items) }
+    ensures two { IfOk result (λ r. map (λ h. h.promise.0.value) r.0.second.items ≡ one.1.workers.items) }
+    ensures three { IfOk result (λ r. map (λ h. h.promise.0.value) r.1.first.items ≡ other.0.workers.items) }
+    ensures four { IfOk result (λ r. map (λ h. h.promise.0.value) r.1.second.items ≡ other.1.workers.items) }
+{
+    let front = start_both(rt, orders, one.0, one.1)?;
+    match start_both(rt, orders, other.0, other.1) {
+        Ok(back) => {
+            orders.run();
+            Ok((front, back))
+        }
+        Err(fault) => {
+            let Both { first, second } = front;
+            give_up(&rt, orders, first);
+            give_up(&rt, orders, second);
+            Err(fault)
+        }
+    }
+}

@@ -1,0 +1,183 @@
+//! Small workers, in threads, to their ends.
+
+ghost use Rattle.std.specs.Prelude.{◌≡◌, ◌≤◌, [], IfOk, length, vec_capacity};
+
+use crate::{HOLD, Handle, Orders, Team, Work, join_all, start_four};
+use packet_ledger::{Blank, Book, Ledger, Share};
+use router_stages::Turn;
+use std::alloc::{AllocError, Global};
+use std::marker::Brand;
+use std::sync::atomic::AtomicU64;
+use std::sync::{Arc, Wait};
+use std::test::*;
+use std::thread::Threads;
+use std::time::Clock;
+
+// It counts so many as received, one in a turn, is quiet so often, and has ended.
+#[derive(Drop)]
+struct Countdown<L: Ledger, R> {
+    rt: R,
+    left: u64,
+    quiet: u64,
+    share: Share<L>,
+}
+
+impl<L: Ledger, R: Wait> Work<L> for Countdown<L, R> {
+    ghost use Rattle.std.specs.Prelude.{◌≡◌, ◌+◌, ◌≤◌, ◌^◌};
+
+    ghost same = { λ a b. Unit {0} };
+
+    ghost may_turn = { λ a. a.share.counts.received + 1 ≤ 2 ^ 100 };
+
+    ghost has_ended = { λ a. a.left ≡ 0 };
+
+    fn has_room(&self) -> bool {
+        self.share.has_room()
+    }
+
+    fn make_turn(&mut self) -> Turn {
+        if self.left > 0 {
+            self.left -= 1;
+            self.share.received(1);
+            return Turn::Did;
+        }
+        if self.quiet > 0 {
+            self.quiet -= 1;
+            return Turn::Quiet;
+        }
+        Turn::Ended
+    }
+
+    fn wait(&mut self) -> bool {
+        false
+    }
+
+    fn post(&mut self, book: &Book<L>) {
+        book.post(&self.rt, &mut self.share);
+    }
+
+    ghost same_self = { λ x. tt };
+
+    ghost same_then = { λ x y z p q. tt };
+}
+
+// So many workers, with shares taken off a list.
+fn team<L: Ledger, R: Wait + Copy>(
+    rt: R,
+    alloc: Global,
+    orders: &Orders<L>,
+    shares: &mut Vec<Share<L>>,
+    count: usize,
+) -> Result<Team<L, Countdown<L, R>>, AllocError>
+    ensures { IfOk result (λ t. (t.room.items ≡ []) × (length t.workers.items ≤ vec_capacity t.room)) }
+{
+    let mut workers = Vec::new(alloc);
+    let mut own = Vec::new(alloc);
+    for _ in 0..count {
+        if let Some(share) = shares.pop() {
+            workers.push(Countdown {
+                rt,
+                left: 3000,
+                quiet: 25,
+                share,
+            })?;
+        }
+        own.push(orders.another()?)?;
+    }
+    let room = Vec::with_capacity(alloc, workers.len())?;
+    Ok(Team {
+        workers,
+        orders: own,
+        room,
+    })
+}
+
+// Whether a worker came to its end and posted all that it counted.
+fn is_over<L: Ledger, R>(worker: &Countdown<L, R>) -> bool {
+    worker.left == 0 && worker.quiet == 0 && worker.share.posted().received == 3000
+}
+
+// How many workers came back, each over.
+fn joined<L, R>(
+    rt: &R,
+    alloc: Global,
+    handles: Vec<Handle<L, Countdown<L, R>>>,
+) -> Result<usize, AllocError>
+where
+    L: Ledger,
+    R: Threads + Wait + Clock + Drop,
+{
+    let room = Vec::with_capacity(alloc, handles.len())?;
+    let back = join_all(rt, handles, room);
+    for worker in back.iter() {
+        if !is_over(worker) {
+            return Ok(0);
+        }
+    }
+    Ok(back.len())
+}
+
+// Four teams, one of them empty: how many came back.
+fn four_teams<L, R>(
+    rt: R,
+    alloc: Global,
+    blank: Blank,
+) -> Result<(usize, usize, usize, usize), AllocError>
+where
+    L: Ledger + Send + Sync + 'static,
+    R: Threads + Wait + Clock + Copy + Send + Drop + 'static,
+    requires name { blank.table ≡ L.table }
+    requires six { L.workers ≡ 6 }
+{
+    let (book, mut shares) = Book::<L>::new(alloc, blank, 6)?;
+    let word = Arc::new(alloc, AtomicU64::new(HOLD))?;
+    let book = Arc::new(alloc, book)?;
+    let orders = Orders { word, book };
+    let one = team(rt, alloc, &orders, &mut shares, 3)?;
+    let two = team(rt, alloc, &orders, &mut shares, 2)?;
+    let three = team(rt, alloc, &orders, &mut shares, 1)?;
+    let four = team(rt, alloc, &orders, &mut shares, 0)?;
+    let Ok((front, back)) = start_four(rt, &orders, (one, two), (three, four)) else {
+        return Ok((9, 9, 9, 9));
+    };
+    let one = joined(&rt, alloc, front.first)?;
+    let two = joined(&rt, alloc, front.second)?;
+    let three = joined(&rt, alloc, back.first)?;
+    let four = joined(&rt, alloc, back.second)?;
+    Ok((one, two, three, four))
+}
+
+#[test]
+fn workers_come_back(rt: HostRuntime) -> Result<(), Fail> {
+    let blank = Blank::new(rt.alloc())?;
+    let counts = four_teams::<Brand, _>(rt, rt.alloc(), blank)?;
+    assert_eq!(rt; counts, (3, 2, 1, 0));
+    Ok(())
+}
+
+// A team with orders for fewer threads than it has workers is refused, and no thread is left.
+fn one_short<L, R>(rt: R, alloc: Global, blank: Blank) -> Result<bool, AllocError>
+where
+    L: Ledger + Send + Sync + 'static,
+    R: Threads + Wait + Clock + Copy + Send + Drop + 'static,
+    requires name { blank.table ≡ L.table }
+    requires six { L.workers ≡ 6 }
+{
+    let (book, mut shares) = Book::<L>::new(alloc, blank, 6)?;
+    let word = Arc::new(alloc, AtomicU64::new(HOLD))?;
+    let book = Arc::new(alloc, book)?;
+    let orders = Orders { word, book };
+    let one = team(rt, alloc, &orders, &mut shares, 3)?;
+    let two = team(rt, alloc, &orders, &mut shares, 1)?;
+    let mut three = team(rt, alloc, &orders, &mut shares, 2)?;
+    let _ = three.orders.pop();
+    let four = team(rt, alloc, &orders, &mut shares, 0)?;
+    Ok(start_four(rt, &orders, (one, two), (three, four)).is_err())
+}
+
+#[test]
+fn a_refused_thread_ends_all(rt: HostRuntime) -> Result<(), Fail> {
+    let blank = Blank::new(rt.alloc())?;
+    assert!(rt; one_short::<Brand, _>(rt, rt.alloc(), blank)?);
+    Ok(())
+}

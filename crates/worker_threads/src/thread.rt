@@ -1,0 +1,180 @@
+//! A worker in a thread of its own.
+
+ghost use Rattle.std.specs.Prelude.{◌≡◌, IfOk, IfSome, true};
+
+use crate::idle::Idle;
+use crate::orders::{GIVE_UP, HOLD, Orders};
+use crate::work::Work;
+use packet_ledger::{Book, Ledger};
+use router_stages::Turn;
+use std::marker::PhantomData;
+use std::snapshot::Snapshot;
+use std::sync::Wait;
+use std::sync::atomic::{AtomicU64, Ordering};
+use std::thread::{Builder, Promise, PromisedHandle, Threads};
+use std::time::Clock;
+
+/// So many bytes has a thread's stack.
+pub const STACK: usize = 512 * 1024;
+
+// So many turns that did something come between two that post.
+const TURNS: u32 = 1023;
+
+/// That a worker comes back ended, the same but for what it did. Only one whose thread was told to give
+/// up before its first turn doesn't come back.
+#[derive(Drop)]
+pub struct WillEnd<N, W>(pub Snapshot<W>, pub PhantomData<N>);
+
+impl<N: Ledger, W: Work<N>> Promise<Option<W>> for WillEnd<N, W> {
+    ghost use Rattle.std.specs.Prelude.{IfSome};
+
+    ghost kept_by = { λ p r. IfSome r (λ w. W.same p.0.value w × W.has_ended w) };
+}
+
+// Waiting, and turns since the last post.
+#[derive(Drop)]
+struct Pace {
+    idle: Idle,
+    turns: u32,
+}
+
+impl Pace {
+    fn new() -> Pace {
+        Pace {
+            idle: Idle::new(),
+            turns: 0,
+        }
+    }
+
+    // There was something to do. Whether it is time to post.
+    fn did(&mut self) -> bool {
+        self.idle.reset();
+        if self.turns < TURNS {
+            self.turns += 1;
+            return false;
+        }
+        self.turns = 0;
+        true
+    }
+}
+
+// Posts where it is time to.
+fn post_if<N: Ledger, W: Work<N>>(worker: &mut W, book: &Book<N>, due: bool)
+    ensures { W.same worker.old worker.new }
+{
+    if due {
+        worker.post(book);
+    }
+}
+
+// Waits where there was nothing to do.
+fn rest<N: Ledger, W: Work<N>, R: Clock>(rt: &R, worker: &mut W, pace: &mut Pace)
+    ensures { W.same worker.old worker.new }
+{
+    if !worker.wait() {
+        pace.idle.rest(rt);
+    }
+}
+
+// One turn, and what it asks for. Whether the worker has ended.
+fn advance<N: Ledger, W: Work<N>, R: Clock>(
+    rt: &R,
+    worker: &mut W,
+    book: &Book<N>,
+    pace: &mut Pace,
+) -> bool
+    ensures same { W.same worker.old worker.new }
+    ensures ended { result ≡ true → W.has_ended worker.new }
+{
+    if !worker.has_room() {
+        worker.post(book);
+        pace.idle.rest(rt);
+        return false;
+    }
+    match worker.make_turn() {
+        Turn::Did => {
+            post_if(worker, book, pace.did());
+            false
+        }
+        Turn::Quiet => {
+            rest(rt, worker, pace);
+            false
+        }
+        Turn::Ended => {
+            worker.post(book);
+            true
+        }
+    }
+}
+
+/// Makes turns to the worker's end.
+pub fn work_on<N: Ledger, W: Work<N>, R: Wait + Clock>(rt: &R, book: &Book<N>, worker: W) -> W
+    ensures same { W.same worker result }
+    ensures ended { W.has_ended result }
+{
+    let mut worker = worker;
+    let mut pace = Pace::new();
+    for _ in rt.forever() {
+        if advance(rt, &mut worker, book, &mut pace) {
+            return worker;
+        }
+    }
+    unreachable!()
+}
+
+// Waits until all threads are made. False where one couldn't be.
+fn may_begin<R: Wait + Clock>(rt: &R, word: &AtomicU64) -> bool {
+    let mut idle = Idle::new();
+    for _ in rt.forever() {
+        let now = word.load(Ordering::SeqCst);
+        if now == GIVE_UP {
+            return false;
+        }
+        if now != HOLD {
+            return true;
+        }
+        idle.rest(rt);
+    }
+    unreachable!()
+}
+
+fn work_once_told<N: Ledger, W: Work<N> + Drop, R: Wait + Clock>(
+    rt: &R,
+    orders: &Orders<N>,
+    worker: W,
+) -> Option<W>
+    ensures { IfSome result (λ w. W.same worker w × W.has_ended w) }
+{
+    if may_begin(rt, &orders.word) {
+        Some(work_on(rt, &orders.book, worker))
+    } else {
+        None
+    }
+}
+
+/// A thread of a worker, which holds until it is told to run, and what it promises.
+pub type Handle<N, W> = PromisedHandle<Option<W>, WillEnd<N, W>>;
+
+/// No thread could be made.
+#[derive(Clone, Copy, Debug, PartialEq, Eq)]
+pub struct ThreadFault;
+
+/// A thread of the worker's own, which waits for its orders. It takes no memory of the allocator.
+pub fn start_worker<N, W, R>(
+    rt: R,
+    orders: Orders<N>,
+    worker: W,
+) -> Result<Handle<N, W>, ThreadFault>
+where
+    N: Ledger + Send + Sync + 'static,
+    W: Work<N> + Send + Drop + 'static,
+    R: Threads + Wait + Clock + Copy + Send + 'static,
+    ensures { IfOk result (λ h. h.promise.0.value ≡ worker) }
+{
+    let promise = WillEnd(Snapshot::of(&worker), PhantomData);
+    let builder = Builder::new().stack_size(STACK);
+    match builder.spawn_with(&rt, promise, move || work_once_told(&rt, &orders, worker)) {
+        Ok(handle) => Ok(handle),
+        Err(_) => Err(ThreadFault),
+    }
+}

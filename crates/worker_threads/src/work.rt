@@ -1,0 +1,41 @@
+//! What the loop of a thread asks of a worker, whichever it is.
+
+ghost use Rattle.std.specs.Prelude.{◌≡◌, true};
+
+use packet_ledger::{Book, Ledger};
+use router_stages::Turn;
+
+/// A worker that makes turns to its end, and posts into the book `N`.
+pub trait Work<N: Ledger> {
+    /// What no turn, no wait and no post changes.
+    ghost same: { Self → Self → Type 0 };
+
+    /// Each of its counts can still be raised.
+    ghost may_turn: { Self → Type 0 };
+
+    /// It took all end marks, and all its own are there.
+    ghost has_ended: { Self → Type 0 };
+
+    /// Whether each of its counts can still be raised.
+    fn has_room(&self) -> bool
+        ensures { result ≡ true → may_turn self.now };
+
+    fn make_turn(&mut self) -> Turn
+        requires { may_turn self.old }
+        ensures same { same self.old self.new }
+        ensures ended { result ≡ Turn.Ended → has_ended self.new };
+
+    /// Waits until there may be something to do, in a way of its own, and says whether it did. It may
+    /// return at any moment.
+    fn wait(&mut self) -> bool
+        ensures { same self.old self.new };
+
+    /// Posts its counts, where the book has room.
+    fn post(&mut self, book: &Book<N>)
+        ensures same { same self.old self.new }
+        ensures ended { has_ended self.old → has_ended self.new };
+
+    ghost same_self: { (x : Self) → same x x };
+
+    ghost same_then: { (x y z : Self) → same x y → same y z → same x z };
+}
