@@ -1,0 +1,4 @@
+pub mod RowLemmas
+pub mod SettledLemmas
+pub mod HandingLemmas
+pub mod ShuttingLemmas

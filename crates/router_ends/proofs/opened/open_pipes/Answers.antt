@@ -1,0 +1,15 @@
+use Rattle.std.proofs.Common.{List, [], ◌∷◌, length, sym, ap, subst, ◌∙◌, arith, length-append}
+use Rattle.ruled_pipe.specs.Pipe.{Shape}
+use Rattle.router_ends.specs.Rows.{AreWide}
+use Rattle.router_ends.proofs.RowLemmas.{wide_more}
+use Rattle.router_ends.proofs.opened.open_pipes.Goals as goal
+
+pub loop-k-preserved : goal.loop-k-preserved
+loop-k-preserved g c =
+    let at = c.loop-k in
+    let p = c.in_ok-opened.ensures.pipe in
+    let cap = c.args.capacity in (
+      c.in_ok-opened.ensures.producers ∙ at.invariant.0,
+      ap length p.1 ∙ (let l = at.invariant.1 in omega (arith, length-append at.opened.pipes (p.0 ∷ []))),
+      subst (λ (l : List Shape). AreWide cap l) (sym p.1) (wide_more cap at.opened.pipes p.0 at.invariant.2 p.3),
+    )

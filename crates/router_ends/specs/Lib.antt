@@ -1,0 +1,4 @@
+pub mod Rows
+pub mod Settled
+pub mod Handing
+pub mod Shutting
