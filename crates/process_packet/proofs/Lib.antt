@@ -17,3 +17,6 @@ pub mod HostLemmas
 pub mod DeliveredLemmas
 pub mod KeptLemmas
 pub mod WaysLemmas
+pub mod ByteLemmas
+pub mod LawfulLemmas
+pub mod WhatLeavesLemmas

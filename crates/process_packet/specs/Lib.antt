@@ -20,3 +20,4 @@ pub mod Problems
 pub mod Shown
 pub mod Hosts
 pub mod Ways
+pub mod WhatLeaves

@@ -5,6 +5,7 @@ ghost use Rattle.process_packet.specs.Laws.{AnswersAreSound, NextPlaceIsNext, No
 ghost use Rattle.process_packet.specs.Problems.{ProblemsAreLawful};
 ghost use Rattle.process_packet.specs.Shown.{AllAuthorisedAreSent};
 ghost use Rattle.process_packet.specs.Ways.{SentByThreeWays};
+ghost use Rattle.process_packet.specs.WhatLeaves.{WhatLeavesIsLawful};
 
 /// A packet is sent only if it has no fault, no more bytes than any link carries and the payload length that
 /// it tells; the hop field at its cursor was within its time, named the link by which the packet came from
@@ -70,4 +71,11 @@ pub fn delivers_to_its_host()
 /// address of the service.
 pub fn hosts_are_reached()
     ensures { HostsAreReached }
+{}
+
+/// What leaves is a lawful packet: the next reader finds no fault in the bytes, and reads just the packet that
+/// the decision sends. They are as many as came, and at most five differ: the cursor's, and the two of the
+/// identifiers of the segment by which the packet came and of the one by which it leaves.
+pub fn what_leaves_is_lawful()
+    ensures { WhatLeavesIsLawful }
 {}
