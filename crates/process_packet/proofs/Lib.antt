@@ -20,3 +20,4 @@ pub mod WaysLemmas
 pub mod ByteLemmas
 pub mod LawfulLemmas
 pub mod WhatLeavesLemmas
+pub mod ChainingLemmas

@@ -21,3 +21,4 @@ pub mod Shown
 pub mod Hosts
 pub mod Ways
 pub mod WhatLeaves
+pub mod Chaining

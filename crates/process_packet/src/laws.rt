@@ -1,5 +1,6 @@
 //! What the decision table says as a whole: nothing here runs.
 
+ghost use Rattle.process_packet.specs.Chaining.{NoHopIsSplicedIn};
 ghost use Rattle.process_packet.specs.Hosts.{DeliveredToItsHost, HostsAreReached};
 ghost use Rattle.process_packet.specs.Laws.{AnswersAreSound, NextPlaceIsNext, NothingElseChanges, OnlyAuthorised, OnlyLawfulWays};
 ghost use Rattle.process_packet.specs.Problems.{ProblemsAreLawful};
@@ -78,4 +79,12 @@ pub fn hosts_are_reached()
 /// identifiers of the segment by which the packet came and of the one by which it leaves.
 pub fn what_leaves_is_lawful()
     ensures { WhatLeavesIsLawful }
+{}
+
+/// Over two stops no hop is spliced in. Where one router sends a packet by a link and another one sends on what
+/// came to it, the hop field accepted next is the next one of the segment, and carries the MAC for the
+/// identifier chained from the hop field that was accepted before, and for the same timestamp; against the
+/// direction of construction it is the other way round. Within the AS it is the very same hop.
+pub fn no_hop_is_spliced_in()
+    ensures { NoHopIsSplicedIn }
 {}
