@@ -21,3 +21,4 @@ pub mod ByteLemmas
 pub mod LawfulLemmas
 pub mod WhatLeavesLemmas
 pub mod ChainingLemmas
+pub mod PointerLemmas

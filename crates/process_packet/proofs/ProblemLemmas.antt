@@ -24,25 +24,25 @@ use Rattle.process_packet.proofs.PassingLemmas.{and_not, not_false, parameter}
 use Rattle.process_packet.proofs.TurningLemmas.{turned_stays}
 
 -- a problem that is told is such
-abbrev IsTold : (Problem → Type 0) → Verdict → Type 0
+abbrev pub IsTold : (Problem → Type 0) → Verdict → Type 0
 IsTold K (Sent out to p) = Unit {0}
 IsTold K (Answered q) = K q
 IsTold K (Dropped c) = Unit {0}
 
-abbrev Tells : (Problem → Type 0) → Turn → List Row → Type 0
+abbrev pub Tells : (Problem → Type 0) → Turn → List Row → Type 0
 Tells K t rows = IsTold K (verdict_of (then_rows t rows))
 
-row_of : (K : Problem → Type 0) (b : Bool) (v : Verdict) (s : Standing) (rows : List Row) → (b ≡ true → IsTold K v) → (b ≡ false → Tells K (GoesOn s) rows)
+pub row_of : (K : Problem → Type 0) (b : Bool) (v : Verdict) (s : Standing) (rows : List Row) → (b ≡ true → IsTold K v) → (b ≡ false → Tells K (GoesOn s) rows)
     → Tells K (ends_where b v s) rows
 row_of K true v s rows here after = here refl
 row_of K false v s rows here after = after refl
 
-row_within : (K : Problem → Type 0) (b : Bool) (v : Verdict) (s : Standing) (within rows : List Row) → (b ≡ true → IsTold K v)
+pub row_within : (K : Problem → Type 0) (b : Bool) (v : Verdict) (s : Standing) (within rows : List Row) → (b ≡ true → IsTold K v)
     → (b ≡ false → Tells K (then_rows (GoesOn s) within) rows) → Tells K (then_rows (ends_where b v s) within) rows
 row_within K true v s within rows here after = here refl
 row_within K false v s within rows here after = after refl
 
-row_faulty : (K : Problem → Type 0) (f : Option Fault) (s : Standing) (rows : List Row) → Tells K (GoesOn s) rows → Tells K (faulty f s) rows
+pub row_faulty : (K : Problem → Type 0) (f : Option Fault) (s : Standing) (rows : List Row) → Tells K (GoesOn s) rows → Tells K (faulty f s) rows
 row_faulty K None s rows after = after
 row_faulty K (Some f) s rows after = tt
 
@@ -59,7 +59,7 @@ told_delivery K false true c four six o p k j = tt
 told_delivery K false false true four six o p k j = told_service K p o k
 told_delivery K false false false four six o p k j = j
 
-told_delivered : (K : Problem → Type 0) (n : Network) (p : Packet) → K (record { kind = 1; code = 0; pointer = 0 }) → K (parameter 21 9) → IsTold K (delivered n p)
+pub told_delivered : (K : Problem → Type 0) (n : Network) (p : Packet) → K (record { kind = 1; code = 0; pointer = 0 }) → K (parameter 21 9) → IsTold K (delivered n p)
 told_delivered K n p k j =
     let a = p.header.destination in
     told_delivery K (a.kind == 0 && host_code a == 0) (a.kind == 0 && host_code a == 3) (a.kind == 1 && host_code a == 0)
@@ -73,7 +73,7 @@ told_on : (K : Problem → Type 0) (p : Packet) (o : Option Underlay) → IsTold
 told_on K p None = tt
 told_on K p (Some at) = tt
 
-told_leave : (K : Problem → Type 0) (b : Bool) (u w : Standing)
+pub told_leave : (K : Problem → Type 0) (b : Bool) (u w : Standing)
     → Tells K (if b then Ends (sent_out w (egress u)) else Ends (sent_on (packet u) (option_map sibling_at (sibling u.network (egress u))))) []
 told_leave K true u w = told_out K (is_last_of_path w) (egress u) (packet (with_place w (next_place w.path.segments w.path.place)))
 told_leave K false u w = told_on K (packet u) (option_map sibling_at (sibling u.network (egress u)))

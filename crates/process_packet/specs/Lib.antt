@@ -22,3 +22,4 @@ pub mod Hosts
 pub mod Ways
 pub mod WhatLeaves
 pub mod Chaining
+pub mod Pointers

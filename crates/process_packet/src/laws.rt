@@ -3,6 +3,7 @@
 ghost use Rattle.process_packet.specs.Chaining.{NoHopIsSplicedIn};
 ghost use Rattle.process_packet.specs.Hosts.{DeliveredToItsHost, HostsAreReached};
 ghost use Rattle.process_packet.specs.Laws.{AnswersAreSound, NextPlaceIsNext, NothingElseChanges, OnlyAuthorised, OnlyLawfulWays};
+ghost use Rattle.process_packet.specs.Pointers.{PointersAreRight};
 ghost use Rattle.process_packet.specs.Problems.{ProblemsAreLawful};
 ghost use Rattle.process_packet.specs.Shown.{AllAuthorisedAreSent};
 ghost use Rattle.process_packet.specs.Ways.{SentByThreeWays};
@@ -87,4 +88,11 @@ pub fn what_leaves_is_lawful()
 /// direction of construction it is the other way round. Within the AS it is the very same hop.
 pub fn no_hop_is_spliced_in()
     ensures { NoHopIsSplicedIn }
+{}
+
+/// The pointer of a parameter problem lies inside the header, at the field that its code names: the hop field
+/// or the info field that was refused, the domain of the source or of the destination, the kinds of the hosts,
+/// or the datagram's beginning for a wrong size.
+pub fn pointers_are_right()
+    ensures { PointersAreRight }
 {}

@@ -37,7 +37,7 @@ pub use front::LONGEST_DATAGRAM;
 pub use laws::{
     answers_are_sound, authorised_is_sent, delivers_to_its_host, hosts_are_reached,
     next_place_is_next, no_hop_is_spliced_in, nothing_else_changes, only_authorised,
-    only_lawful_ways, problems_are_lawful, sent_by_three_ways,
+    only_lawful_ways, pointers_are_right, problems_are_lawful, sent_by_three_ways,
     what_leaves_is_lawful,
 };
 pub use neighbours::{Bands, Link, Service, Sibling};
