@@ -1,0 +1,14 @@
+//! Tests of the workers by turns, over a configuration that is read from its text. Nothing here runs in
+//! the router.
+#![tactic(auto)]
+
+#[cfg(test)]
+mod ends;
+#[cfg(test)]
+mod run;
+#[cfg(test)]
+mod seats;
+#[cfg(test)]
+mod start;
+#[cfg(test)]
+mod turns;

@@ -1,0 +1,153 @@
+//! A run of workers, turn by turn.
+
+ghost use Rattle.std.specs.Prelude.{◌≡◌, ◌<◌, ◌≤◌, Some, length, true};
+ghost use Rattle.std.specs.Arc.{arc_value};
+ghost use Rattle.router_rules.specs.Links.{link_count};
+
+use crate::start::{Open, start};
+use packet_ledger::{Blank, Book, Share};
+use process_packet::Totals;
+use router_rules::Shared;
+use router_stages::{Forwarder, Processor, Receiver, SlowPath, Turn};
+use ruled_pipe::{Mark, Producer};
+use stage_parts::{ListSink, ListSource, Next, Parcel, Router};
+use std::alloc::Global;
+use std::marker::Brand;
+use std::process::Abort;
+use std::sync::{Arc, Wait};
+
+/// What a run is given beside the source's answers.
+#[derive(Clone, Copy)]
+pub struct Plan {
+    /// The link of the forwarder: 1 or 2.
+    pub link: u16,
+    /// How many free buffers there are beside the receiver's.
+    pub buffers: usize,
+    /// How many entries each pipe holds, up to 65,536.
+    pub capacity: usize,
+    /// At which of its calls the sink fails.
+    pub fails: &'static [u64],
+    /// A letter a turn: R for the receiver, P the processor, S the slow path, F the forwarder; a small letter
+    /// where it is to be quiet. At C a closing mark is pushed into the pipe of the forwarder's low band.
+    pub turns: &'static str,
+}
+
+/// What came of it.
+#[derive(Drop)]
+pub struct Outcome {
+    pub totals: Totals,
+    pub sink: ListSink,
+    /// Whether each turn went as its letter says.
+    pub as_told: bool,
+}
+
+/// The workers, and the end by which the forwarder's pipe is closed.
+#[derive(Drop)]
+pub struct Workers<N: Router, R> {
+    pub rt: R,
+    pub receiver: Receiver<N, R, ListSource>,
+    pub processor: Processor<N, R, Open>,
+    pub slow_path: SlowPath<N, R>,
+    pub forwarder: Forwarder<N, R, ListSink>,
+    pub controller: Producer<Parcel<N>>,
+}
+
+// Whether the turn was as its letter says.
+fn was(turn: Turn, letter: u8) -> bool {
+    match turn {
+        Turn::Did => letter.is_ascii_uppercase(),
+        Turn::Quiet => letter.is_ascii_lowercase(),
+        Turn::Ended => false,
+    }
+}
+
+impl<N: Router, R: Wait + Copy> Workers<N, R> {
+    fn turn(&mut self, letter: u8) -> bool {
+        match letter.to_ascii_uppercase() {
+            b'R' => self.receiver.has_room() && was(self.receiver.turn(), letter),
+            b'P' => self.processor.has_room() && was(self.processor.turn(), letter),
+            b'S' => self.slow_path.has_room() && was(self.slow_path.turn(), letter),
+            b'F' => self.forwarder.has_room() && was(self.forwarder.turn(), letter),
+            _ => self.controller.mark(&self.rt, Mark::Close).is_ok(),
+        }
+    }
+
+    fn turns(&mut self, letters: &str) -> bool {
+        let mut as_told = true;
+        for letter in letters.bytes() {
+            as_told &= self.turn(letter);
+        }
+        as_told
+    }
+}
+
+// What is left of the workers: the sink and their counts.
+fn parts_of<N: Router, R: Abort + Wait + Copy>(
+    rt: &R,
+    alloc: Global,
+    workers: Workers<N, R>,
+) -> (ListSink, Vec<Share<N>>)
+    ensures { length result.1.items ≡ 4 }
+{
+    let Workers {
+        rt: _,
+        receiver,
+        processor,
+        slow_path,
+        forwarder,
+        controller: _,
+    } = workers;
+    let a = receiver.into_parts().3;
+    let b = processor.into_parts().4;
+    let c = slow_path.into_parts().3;
+    let (sink, _, _, _, d) = forwarder.into_parts();
+    let shares = Vec::from_array(alloc, [a, b, c, d]).expect(rt, "memory");
+    (sink, shares)
+}
+
+fn play<N: Router, R: Abort + Wait + Copy>(
+    rt: R,
+    alloc: Global,
+    blank: Blank,
+    shared: Arc<Shared, Global>,
+    answers: Vec<Next>,
+    plan: Plan,
+) -> Outcome
+    requires name { blank.table ≡ N.table }
+    requires workers { N.workers ≡ 4 }
+    requires config { N.config ≡ Some (arc_value shared).config }
+    requires small { (link_count (arc_value shared).config ≡ 4) × ((arc_value shared).config.processors ≡ 1) }
+    requires capacity { (0 < plan.capacity) × (plan.capacity ≤ 65536) }
+{
+    let (book, shares) = Book::<N>::new(alloc, blank, 4).expect(&rt, "memory");
+    let mut workers = start(rt, alloc, &shared, answers, plan, shares);
+    let as_told = workers.turns(plan.turns);
+    let (sink, shares) = parts_of(&rt, alloc, workers);
+    Outcome {
+        totals: book.close(&rt, shares),
+        sink,
+        as_told,
+    }
+}
+
+// Whether there are four links and one processor.
+fn is_small(shared: &Shared) -> bool
+    ensures { result ≡ true → (link_count shared.now.config ≡ 4) × (shared.now.config.processors ≡ 1) }
+{
+    shared.ports.count() == 4 && shared.config.processors == 1
+}
+
+/// Runs the workers of a router with this configuration, of four links and one processor.
+pub fn run<R: Abort + Wait + Copy>(
+    rt: R,
+    alloc: Global,
+    shared: Shared,
+    answers: Vec<Next>,
+    plan: Plan,
+) -> Outcome {
+    assert!(rt; is_small(&shared));
+    assert!(rt; plan.capacity > 0 && plan.capacity <= 65536);
+    let shared = Arc::new(alloc, shared).expect(&rt, "memory");
+    let blank = Blank::new(alloc).expect(&rt, "memory");
+    play::<Brand, R>(rt, alloc, blank, shared, answers, plan)
+}

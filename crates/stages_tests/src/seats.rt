@@ -1,0 +1,105 @@
+//! What a worker that passes packets on is given.
+
+ghost use Rattle.std.specs.Prelude.{◌≡◌, ◌+◌, ◌<◌, All, length};
+ghost use Rattle.packet_ledger.specs.Share.{new_share};
+ghost use Rattle.stage_parts.specs.Outlets.{AreFresh};
+ghost use Rattle.stages_tests.specs.Ends.{IsFresh, IsNew};
+
+use crate::ends::{ends_of, next_outlet, next_producer};
+use packet_ledger::Share;
+use ruled_pipe::Producer;
+use stage_parts::{Buffer, Outlet, Parcel, Router};
+use std::alloc::Global;
+use std::marker::Model;
+use std::process::Abort;
+
+/// New ends of the pipes of four links and of their free buffers, and new counts.
+#[derive(Drop)]
+pub struct Seat<N: Router> {
+    pub links: Vec<Outlet<Parcel<N>>>,
+    pub free: Vec<Producer<Buffer>>,
+    pub share: Share<N>,
+}
+
+impl<N: Router> Model for Seat<N> {
+    ghost use Rattle.std.specs.Prelude.{◌≡◌, length};
+    ghost use Rattle.packet_ledger.specs.Share.{new_share};
+    ghost use Rattle.stage_parts.specs.Outlets.{AreFresh};
+
+    ghost Value = { Unit {0} };
+
+    ghost view = { λ s. tt };
+
+    ghost invariant = { λ s. (length s.links.items ≡ 8) × AreFresh s.links.items × (length s.free.items ≡ 4) × (s.share ≡ new_share) };
+}
+
+// Ends of the pipes of four links: but for those of link 1 or 2, of a pipe that nobody empties.
+fn new_links<T: Drop, R: Abort>(
+    rt: &R,
+    alloc: Global,
+    link: u16,
+    low: Outlet<T>,
+    high: Outlet<T>,
+) -> Vec<Outlet<T>>
+    requires { IsFresh low × IsFresh high }
+    ensures { (length result.items ≡ 8) × AreFresh result.items }
+{
+    let (mut spares, _) = ends_of::<T, R>(rt, alloc, 1, 6);
+    let a = next_outlet(&mut spares);
+    let b = next_outlet(&mut spares);
+    let c = next_outlet(&mut spares);
+    let d = next_outlet(&mut spares);
+    let e = next_outlet(&mut spares);
+    let f = next_outlet(&mut spares);
+    let ends = if link == 1 {
+        [a, b, low, high, c, d, e, f]
+    } else {
+        [a, b, c, d, low, high, e, f]
+    };
+    Vec::from_array(alloc, ends).expect(rt, "memory")
+}
+
+/// Ends of the pipes of four links' free buffers: but for that of link 1, of a pipe that nobody empties.
+pub fn new_returns<R: Abort>(rt: &R, alloc: Global, one: Producer<Buffer>) -> Vec<Producer<Buffer>>
+    ensures { length result.items ≡ 4 }
+{
+    let (mut spares, _) = ends_of::<Buffer, R>(rt, alloc, 1, 3);
+    let a = next_producer(&mut spares);
+    let b = next_producer(&mut spares);
+    let c = next_producer(&mut spares);
+    Vec::from_array(alloc, [a, one, b, c]).expect(rt, "memory")
+}
+
+/// The next new counts.
+pub fn next_share<N: Router>(shares: &mut Vec<Share<N>>) -> Share<N>
+    requires new { All (λ s. s ≡ new_share) shares.old.items }
+    requires some { 0 < length shares.old.items }
+    ensures next { result ≡ new_share }
+    ensures rest { All (λ s. s ≡ new_share) shares.new.items }
+    ensures fewer { length shares.new.items + 1 ≡ length shares.old.items }
+{
+    match shares.pop() {
+        Some(share) => share,
+        None => unreachable!(),
+    }
+}
+
+/// What a worker is given that feeds the pipes of a link's low and high band.
+pub fn new_seat<N: Router, R: Abort>(
+    rt: &R,
+    alloc: Global,
+    link: u16,
+    low: Outlet<Parcel<N>>,
+    high: Outlet<Parcel<N>>,
+    one: Producer<Buffer>,
+    share: Share<N>,
+) -> Seat<N>
+    requires ends { IsFresh low × IsFresh high }
+    requires share { share ≡ new_share }
+{
+    Seat {
+        links: new_links(rt, alloc, link, low, high),
+        free: new_returns(rt, alloc, one),
+        share,
+    }
+}

@@ -1,0 +1,178 @@
+//! The workers for datagrams from link 1, with ends of new pipes.
+
+ghost use Rattle.std.specs.Prelude.{◌≡◌, ◌<◌, ◌≤◌, Some, [], All, false, length};
+ghost use Rattle.std.specs.Arc.{arc_value};
+ghost use Rattle.packet_ledger.specs.Share.{new_share};
+ghost use Rattle.router_rules.specs.Links.{link_count};
+ghost use Rattle.stages_tests.specs.Ends.{IsFresh, IsNew, IsNewBand};
+
+use crate::ends::{ends_of, next_outlet, next_producer, pipe_of_one};
+use crate::run::{Plan, Workers};
+use crate::seats::{Seat, new_returns, new_seat, next_share};
+use packet_ledger::Share;
+use router_rules::{Shared, Worker};
+use router_stages::{Band, Forwarder, Processor, Receiver, SlowPath};
+use ruled_pipe::{Consumer, Producer};
+use stage_parts::{
+    Buffer, Gate, Inlet, ListSink, ListSource, Next, Outlet, Packet, Parcel, Question, Router,
+};
+use std::alloc::Global;
+use std::process::Abort;
+use std::sync::atomic::AtomicU64;
+use std::sync::{Arc, Wait};
+
+/// Admits all.
+#[derive(Drop)]
+pub struct Open;
+
+impl Gate for Open {
+    ghost use Rattle.std.specs.Prelude.{◌≡◌, true};
+
+    ghost answers = { λ g worker link number admitted. admitted ≡ true };
+
+    fn admits(&self, worker: Worker, link: u16, number: u64) -> bool {
+        let _ = (worker, link, number);
+        true
+    }
+}
+
+fn share_of<R: Abort>(rt: &R, shared: &Arc<Shared, Global>) -> Arc<Shared, Global>
+    ensures { arc_value result ≡ arc_value shared.now }
+{
+    Arc::try_clone(shared).expect(rt, "memory")
+}
+
+// Link 1's receiver.
+fn receiver<N: Router, R: Abort + Wait + Copy>(
+    rt: R,
+    alloc: Global,
+    shared: &Arc<Shared, Global>,
+    answers: Vec<Next>,
+    free: Consumer<Buffer>,
+    processor: Outlet<Packet<N>>,
+    share: Share<N>,
+) -> Receiver<N, R, ListSource>
+    requires config { N.config ≡ Some (arc_value shared.now).config }
+    requires small { (link_count (arc_value shared.now).config ≡ 4) × ((arc_value shared.now).config.processors ≡ 1) }
+    requires free { free.looks ≡ [] }
+    requires processor { IsFresh processor }
+    requires share { share ≡ new_share }
+{
+    let shared = share_of(&rt, shared);
+    let stop = Arc::new(alloc, AtomicU64::new(0)).expect(&rt, "memory");
+    let first = Buffer::new(alloc).expect(&rt, "memory");
+    let source = ListSource::new(answers);
+    let processors = Vec::from_array(alloc, [processor]).expect(&rt, "memory");
+    Receiver::new(rt, shared, stop, 1, source, first, free, processors, share)
+}
+
+fn processor<N: Router, R: Abort + Wait + Copy>(
+    rt: R,
+    alloc: Global,
+    shared: &Arc<Shared, Global>,
+    packets: Inlet<Packet<N>>,
+    slow: Outlet<Question<N>>,
+    seat: Seat<N>,
+) -> Processor<N, R, Open>
+    requires config { N.config ≡ Some (arc_value shared.now).config }
+    requires small { link_count (arc_value shared.now).config ≡ 4 }
+    requires packets { packets.taken ≡ [] }
+    requires slow { IsFresh slow }
+{
+    let shared = share_of(&rt, shared);
+    let gate = Arc::new(alloc, Open).expect(&rt, "memory");
+    let Seat { links, free, share } = seat;
+    Processor::new(rt, shared, 0, gate, packets, links, slow, free, share)
+}
+
+fn slow_path<N: Router, R: Abort + Wait + Copy>(
+    rt: R,
+    shared: &Arc<Shared, Global>,
+    questions: Inlet<Question<N>>,
+    seat: Seat<N>,
+) -> SlowPath<N, R>
+    requires config { N.config ≡ Some (arc_value shared.now).config }
+    requires small { link_count (arc_value shared.now).config ≡ 4 }
+    requires questions { questions.taken ≡ [] }
+{
+    let shared = share_of(&rt, shared);
+    let Seat { links, free, share } = seat;
+    SlowPath::new(rt, shared, questions, links, free, share)
+}
+
+fn forwarder<N: Router, R: Abort + Wait + Copy>(
+    rt: R,
+    alloc: Global,
+    shared: &Arc<Shared, Global>,
+    plan: Plan,
+    low: Band<N>,
+    high: Band<N>,
+    one: Producer<Buffer>,
+    share: Share<N>,
+) -> Forwarder<N, R, ListSink>
+    requires config { N.config ≡ Some (arc_value shared.now).config }
+    requires small { link_count (arc_value shared.now).config ≡ 4 }
+    requires bands { IsNewBand low × IsNewBand high }
+    requires share { share ≡ new_share }
+{
+    let shared = share_of(&rt, shared);
+    let fails = Vec::from_slice(alloc, plan.fails).expect(&rt, "memory");
+    let sink = ListSink::new(alloc, fails);
+    let free = new_returns(&rt, alloc, one);
+    Forwarder::new(rt, shared, plan.link, low, high, sink, free, share)
+}
+
+fn fill<R: Abort + Wait>(rt: &R, alloc: Global, stock: Producer<Buffer>, buffers: usize) {
+    let mut stock = stock;
+    for _ in 0..buffers {
+        let _ = stock.offer(rt, Buffer::new(alloc).expect(rt, "memory"));
+    }
+}
+
+/// The workers of a plan, with as many free buffers as it says.
+pub fn start<N: Router, R: Abort + Wait + Copy>(
+    rt: R,
+    alloc: Global,
+    shared: &Arc<Shared, Global>,
+    answers: Vec<Next>,
+    plan: Plan,
+    shares: Vec<Share<N>>,
+) -> Workers<N, R>
+    requires config { N.config ≡ Some (arc_value shared.now).config }
+    requires small { (link_count (arc_value shared.now).config ≡ 4) × ((arc_value shared.now).config.processors ≡ 1) }
+    requires capacity { (0 < plan.capacity) × (plan.capacity ≤ 65536) }
+    requires shares { All (λ s. s ≡ new_share) shares.items × (length shares.items ≡ 4) }
+{
+    let mut shares = shares;
+    let (mut frees, free) = ends_of::<Buffer, R>(&rt, alloc, 64, 4);
+    fill(&rt, alloc, next_producer(&mut frees), plan.buffers);
+    let (mut lows, low) = ends_of::<Parcel<N>, R>(&rt, alloc, plan.capacity, 3);
+    let (mut highs, high) = ends_of::<Parcel<N>, R>(&rt, alloc, plan.capacity, 2);
+    let (outlet, packets) = pipe_of_one(&rt, alloc, plan.capacity);
+    let (slow, questions) = pipe_of_one(&rt, alloc, plan.capacity);
+    let share = next_share(&mut shares);
+    let receiver = receiver(rt, alloc, shared, answers, free, outlet, share);
+    let share = next_share(&mut shares);
+    let one = next_producer(&mut frees);
+    let ends = (next_outlet(&mut lows), next_outlet(&mut highs));
+    let seat = new_seat(&rt, alloc, plan.link, ends.0, ends.1, one, share);
+    let processor = processor(rt, alloc, shared, packets, slow, seat);
+    let share = next_share(&mut shares);
+    let one = next_producer(&mut frees);
+    let ends = (next_outlet(&mut lows), next_outlet(&mut highs));
+    let seat = new_seat(&rt, alloc, plan.link, ends.0, ends.1, one, share);
+    let slow_path = slow_path(rt, shared, questions, seat);
+    let share = next_share(&mut shares);
+    let one = next_producer(&mut frees);
+    let low = Band::of(low, 3);
+    let high = Band::of(high, 2);
+    let forwarder = forwarder(rt, alloc, shared, plan, low, high, one, share);
+    Workers {
+        rt,
+        receiver,
+        processor,
+        slow_path,
+        forwarder,
+        controller: next_producer(&mut lows),
+    }
+}

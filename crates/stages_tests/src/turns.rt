@@ -1,0 +1,241 @@
+//! Runs of the workers, turn by turn. Where a growth is refused a run ends for want of memory, but where it is
+//! refused to the sink, that sink fails once more.
+
+ghost use Rattle.std.specs.Prelude.{◌<◌};
+
+use crate::run::{Outcome, Plan, run};
+use process_packet::{Ip, Totals, Underlay};
+use router_config::read_config;
+use router_rules::Shared;
+use sample_packets::{
+    ANSWER, CONFIGURATION, FIRST, IN_TIME, LATE, MAC_AT, OTHER_MAC, PAYLOAD_AT, with_bytes,
+};
+use stage_parts::{Next, Sent, Sink};
+use std::alloc::{AllocError, Global};
+use std::process::Abort;
+use std::sync::Wait;
+use std::test::*;
+
+const NEAR: Underlay = Underlay {
+    ip: Ip::V4([10, 1, 0, 2]),
+    port: 40000,
+};
+
+const NOTHING: Totals = Totals {
+    received: 0,
+    sent: 0,
+    answered: 0,
+    dropped: [0; 18],
+};
+
+const FULL_PROCESSOR: usize = 11;
+
+const CLOSED: usize = 15;
+
+const SEND_FAILED: usize = 16;
+
+const NO_BUFFER: usize = 17;
+
+// Link 2's forwarder, four buffers beside the receiver's, four entries in each pipe, and a sink that never fails.
+fn plan(turns: &'static str) -> Plan {
+    Plan {
+        link: 2,
+        buffers: 4,
+        capacity: 4,
+        fails: &[],
+        turns,
+    }
+}
+
+fn datagram(alloc: Global, bytes: &[u8], now: u64) -> Result<Next, AllocError> {
+    let bytes = Vec::from_slice(alloc, bytes)?;
+    Ok(Next::Datagram {
+        bytes,
+        from: NEAR,
+        now,
+    })
+}
+
+// The first datagram, so often.
+fn firsts(alloc: Global, count: usize) -> Result<Vec<Next>, AllocError> {
+    let mut answers = Vec::new(alloc);
+    for _ in 0..count {
+        answers.push(datagram(alloc, &FIRST, IN_TIME)?)?;
+    }
+    Ok(answers)
+}
+
+// What came of a run of the router that a text configures.
+fn ran<R: AllocGlobal + Abort + Wait + Copy>(
+    rt: R,
+    text: &str,
+    answers: Result<Vec<Next>, AllocError>,
+    plan: Plan,
+) -> Outcome {
+    let config = read_config(rt.alloc(), text).expect(&rt, "configuration");
+    let answers = answers.expect(&rt, "memory");
+    run(rt, rt.alloc(), Shared::new(config), answers, plan)
+}
+
+// Whether just the packets of link 1 with these numbers were taken.
+fn took(list: &[Sent], numbers: &[u64]) -> bool {
+    let mut taken = 0usize;
+    let mut good = true;
+    for sent in list {
+        if sent.took {
+            good &= sent.out.arrived == 1 && numbers.get(taken).copied() == Some(sent.out.number);
+            taken = taken.wrapping_add(1);
+        }
+    }
+    good && taken == numbers.len()
+}
+
+// Whether one that was to be sent was counted as refused by the sink.
+fn is_one_less(totals: &Totals, wanted: &Totals) -> bool {
+    totals.sent.wrapping_add(1) == wanted.sent
+        && totals.dropped[SEND_FAILED] == wanted.dropped[SEND_FAILED].wrapping_add(1)
+}
+
+// Whether all turns went as told, the sink was handed these packets, and these are the totals.
+fn is(outcome: &Outcome, numbers: &[u64], wanted: &Totals) -> bool {
+    let went = match outcome.sink.told() {
+        Some(list) => took(list, numbers) && outcome.totals == *wanted,
+        None => is_one_less(&outcome.totals, wanted),
+    };
+    outcome.as_told && went
+}
+
+fn totals(received: u128, sent: u128, cause: usize, count: u128) -> Totals
+    requires { cause < 18 }
+{
+    let mut totals = NOTHING;
+    totals.received = received;
+    totals.sent = sent;
+    totals.dropped[cause] = count;
+    totals
+}
+
+#[test]
+fn a_full_processor_pipe_refuses(rt: HostRuntime) {
+    let mut plan = plan("RRPRFPF");
+    plan.capacity = 1;
+    let outcome = ran(rt, CONFIGURATION, firsts(rt.alloc(), 3), plan);
+    assert!(rt; is(&outcome, &[1, 3], &totals(3, 2, FULL_PROCESSOR, 1)));
+}
+
+#[test]
+fn without_a_buffer_packets_are_dropped(rt: HostRuntime) {
+    let mut plan = plan("RRRPFRPF");
+    plan.buffers = 1;
+    let outcome = ran(rt, CONFIGURATION, firsts(rt.alloc(), 4), plan);
+    assert!(rt; is(&outcome, &[1, 4], &totals(4, 2, NO_BUFFER, 2)));
+}
+
+#[test]
+fn a_refused_packet_is_dropped(rt: HostRuntime) {
+    let mut plan = plan("RRRPPPFFF");
+    plan.fails = &[2];
+    let outcome = ran(rt, CONFIGURATION, firsts(rt.alloc(), 3), plan);
+    assert!(rt; is(&outcome, &[1, 3], &totals(3, 2, SEND_FAILED, 1)));
+}
+
+#[test]
+fn after_a_closing_mark_a_packet_is_swept(rt: HostRuntime) {
+    let outcome = ran(rt, CONFIGURATION, firsts(rt.alloc(), 2), plan("RRPCPFFF"));
+    assert!(rt; is(&outcome, &[1], &totals(2, 1, CLOSED, 1)));
+}
+
+fn with_a_failure(alloc: Global) -> Result<Vec<Next>, AllocError> {
+    let mut answers = firsts(alloc, 1)?;
+    answers.push(Next::Failed)?;
+    answers.push(datagram(alloc, &FIRST, IN_TIME)?)?;
+    Ok(answers)
+}
+
+#[test]
+fn a_failing_source_is_passed_over(rt: HostRuntime) {
+    let answers = with_a_failure(rt.alloc());
+    let outcome = ran(rt, CONFIGURATION, answers, plan("RrRPPpFFf"));
+    assert!(rt; is(&outcome, &[1, 2], &totals(2, 2, 0, 0)));
+}
+
+fn is_answer(bytes: &[u8], quote: &[u8]) -> bool {
+    let front = with_bytes(ANSWER, MAC_AT, &OTHER_MAC);
+    match bytes.strip_prefix(&front[..PAYLOAD_AT]) {
+        Some(payload) => match payload.strip_prefix(b"\x04\x34\xe2\xbd\x00\x00\x00\x3c") {
+            Some(quoted) => quoted == quote,
+            None => false,
+        },
+        None => false,
+    }
+}
+
+// Whether a sink took the answer to packet 1 of link 1 alone, which quotes a datagram.
+fn answered(list: &[Sent], quote: &[u8]) -> bool {
+    match list {
+        [sent] => {
+            sent.took
+                && sent.out.arrived == 1
+                && sent.out.number == 1
+                && sent.out.answer
+                && is_answer(sent.bytes.as_slice(), quote)
+        }
+        _ => false,
+    }
+}
+
+// Whether the sink took the answer that quotes a datagram, or couldn't keep it.
+fn is_answered(outcome: &Outcome, quote: &[u8]) -> bool {
+    let mut wanted = NOTHING;
+    wanted.received = 1;
+    let went = match outcome.sink.told() {
+        Some(list) => {
+            wanted.answered = 1;
+            answered(list, quote)
+        }
+        None => {
+            wanted.dropped[SEND_FAILED] = 1;
+            outcome.sink.failures() == 1
+        }
+    };
+    outcome.as_told && went && outcome.totals == wanted
+}
+
+fn only(alloc: Global, next: Result<Next, AllocError>) -> Result<Vec<Next>, AllocError> {
+    let mut answers = Vec::new(alloc);
+    answers.push(next?)?;
+    Ok(answers)
+}
+
+#[test]
+fn an_expired_packet_is_answered(rt: HostRuntime) {
+    let other = with_bytes(FIRST, MAC_AT, &OTHER_MAC);
+    let answers = only(rt.alloc(), datagram(rt.alloc(), &other, LATE));
+    let mut plan = plan("RPSFf");
+    plan.link = 1;
+    let outcome = ran(rt, CONFIGURATION, answers, plan);
+    assert!(rt; is_answered(&outcome, &other));
+}
+
+/// The same router, whose link 2 has two bands.
+const TWO_BANDS: &str =
+    "version = 2\nisd_as = \"1-ff00:0:110\"\nkey = \"2b7e151628aed2a6abf7158809cf4f3c\"\n\
+    internal = \"10.0.0.1:30000\"\ninternal_bands = 1\nhost_port = 30041\nprocessors = 1\ncapacity = 4\nseed = 0\nlink = [\n\
+    {id=1, kind=\"parent\", local=\"10.1.0.1:40000\", remote=\"10.1.0.2:40000\", bands=1},\n\
+    {id=2, kind=\"child\", local=\"10.2.0.1:40000\", remote=\"10.2.0.2:40000\", bands=2},\n\
+    {id=3, kind=\"core\", local=\"10.3.0.1:40000\", remote=\"10.3.0.2:40000\", bands=1}]\n\
+    sibling = []\nservice = []\n";
+
+fn with_an_urgent_one(alloc: Global) -> Result<Vec<Next>, AllocError> {
+    let urgent = with_bytes(FIRST, 0, b"\x0b\x80\x00\x01");
+    let mut answers = firsts(alloc, 1)?;
+    answers.push(datagram(alloc, &urgent, IN_TIME)?)?;
+    Ok(answers)
+}
+
+#[test]
+fn the_high_band_goes_first(rt: HostRuntime) {
+    let answers = with_an_urgent_one(rt.alloc());
+    let outcome = ran(rt, TWO_BANDS, answers, plan("RRPPFF"));
+    assert!(rt; is(&outcome, &[2, 1], &totals(2, 2, 0, 0)));
+}
