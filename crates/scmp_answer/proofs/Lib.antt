@@ -11,3 +11,4 @@ pub mod LawfulWalk
 pub mod StopsLemmas
 pub mod CarriedLemmas
 pub mod WalkStops
+pub mod UnansweredLemmas

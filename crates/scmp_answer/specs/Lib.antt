@@ -8,3 +8,4 @@ pub mod Walked
 pub mod Stops
 pub mod Coming
 pub mod Visits
+pub mod Unanswered

@@ -1,6 +1,7 @@
 //! What becomes of packets that set out lawfully, and of the answers to them: nothing here runs.
 
 ghost use Rattle.scmp_answer.specs.Returns.{AnswersComeBack, AnswersStandToo, RoutersAnswerFromHome};
+ghost use Rattle.scmp_answer.specs.Unanswered.{ErrorsAreLeftUnanswered};
 ghost use Rattle.scmp_answer.specs.Walked.{LawfulStartsAreWalked, RequestsAreWalked};
 
 /// What takes the way back of a packet that stands on a route, and is for where the route begins,
@@ -31,4 +32,10 @@ pub fn requests_are_walked()
 /// The address from which a router answers is one of its AS.
 pub fn routers_answer_from_home()
     ensures { RoutersAnswerFromHome }
+{}
+
+/// No SCMP error message is answered: wherever an answer of type 1 or 4 comes to and isn't sent on there, it is
+/// dropped, whatever the problem.
+pub fn errors_are_left_unanswered()
+    ensures { ErrorsAreLeftUnanswered }
 {}

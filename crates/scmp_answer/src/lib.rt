@@ -17,8 +17,8 @@ mod writing;
 
 pub use answering::{LONGEST_ANSWER, answer, answer_into};
 pub use laws::{
-    answers_come_back, answers_stand_too, lawful_starts_are_walked, requests_are_walked,
-    routers_answer_from_home,
+    answers_come_back, answers_stand_too, errors_are_left_unanswered, lawful_starts_are_walked,
+    requests_are_walked, routers_answer_from_home,
 };
 pub use outcome::{AnswerLen, Answered};
 pub use stop::Stop;
