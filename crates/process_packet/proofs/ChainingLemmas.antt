@@ -1,5 +1,5 @@
 -- The hop field accepted next is chained to the one accepted before.
-use Rattle.std.proofs.Common.{◌≡◌, ◌≢◌, ◌<◌, ◌+◌, ◌==◌, ◌&&◌, not, ℕ, Bool, true, false, List, length, Option, Some, None, refl, sym, ap, ap₂, subst, ◌∙◌, arith, if◌then◌else◌}
+use Rattle.std.proofs.Common.{◌≡◌, ◌≢◌, ◌<◌, ◌+◌, ◌==◌, ◌&&◌, not, ℕ, Bool, true, false, List, length, Option, Some, None, refl, sym, ap, ap₂, subst, ◌∙◌, if◌then◌else◌}
 use Rattle.std.specs.Prelude.{bit_xor}
 use Rattle.std.specs.Int.Bits.{xor_assoc, xor_self}
 use Rattle.std.proofs.lemmas.Bool.{ne_eqb}
@@ -9,7 +9,6 @@ use Rattle.hop_check.specs.Mac.{chain}
 use Rattle.path_fields.specs.InPlace.{with_segment_id}
 use Rattle.scion_packet.specs.Packet.{Packet, packet_of}
 use Rattle.scion_packet.specs.Path.{HopField, InfoField, Place, Segment, place_at}
-use Rattle.scion_packet.specs.Places as places
 use Rattle.scion_packet.specs.Places.{hop_there, info_there}
 use Rattle.process_packet.specs.declared.decision.Decision.TheVariants as decision
 use Rattle.process_packet.specs.declared.underlay.Underlay.{Underlay}
@@ -25,7 +24,7 @@ use Rattle.process_packet.specs.Ways.{IsSentBy}
 use Rattle.process_packet.specs.WhatLeaves.{LeavesWhole}
 use Rattle.process_packet.proofs.AlikeLemmas.{alike_set, info_set}
 use Rattle.process_packet.proofs.LawLemmas.{came_in, told}
-use Rattle.process_packet.proofs.LawfulLemmas.{IsOnPath, is_on, lawful_exit}
+use Rattle.process_packet.proofs.LawfulLemmas.{IsOnPath, lawful_exit}
 use Rattle.process_packet.proofs.RowsPassed.{turned_is}
 use Rattle.process_packet.proofs.WaysLemmas.{sent_by}
 use Rattle.process_packet.proofs.WhatLeavesLemmas.{leaves_whole}

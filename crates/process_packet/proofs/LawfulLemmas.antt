@@ -1,11 +1,10 @@
 -- A packet that is sent is a lawful one, as long as the one that came.
-use Rattle.std.proofs.Common.{◌≡◌, ◌⊎◌, ◌≤◌, ◌<◌, ◌+◌, ◌*◌, ◌^◌, ◌&&◌, not, ℕ, zero, suc, Bool, true, false, List, [], ◌∷◌, length, Option, Some, None, refl, sym, ap, subst, ◌∙◌, arith, if◌then◌else◌, inl, inr}
+use Rattle.std.proofs.Common.{◌≡◌, ◌⊎◌, ◌<◌, ◌+◌, ◌^◌, ◌&&◌, not, ℕ, zero, suc, Bool, true, false, List, [], ◌∷◌, length, Option, Some, None, refl, sym, ap, subst, ◌∙◌, arith, if◌then◌else◌, inl, inr}
 use Rattle.std.specs.List.{AllByRecursion}
 use Rattle.std.proofs.lemmas.Bool.{cases_lt}
 use Rattle.std.proofs.lemmas.Bool.Decides.{Decides-eqb, Decides-ltb}
 use Rattle.std.proofs.lemmas.Nat.{xor_of_16}
 use Rattle.field_rows.specs.Place.{IsBytes, number_at}
-use Rattle.hop_check.specs.Mac.{chain}
 use Rattle.path_fields.specs.InPlace.{with_segment_id}
 use Rattle.scion_packet.specs.Laws.{FieldsStand}
 use Rattle.scion_packet.specs.Lengths.{first_hop, hop_place, segment_count}
@@ -18,7 +17,6 @@ use Rattle.scion_packet.proofs.Offsets.{fields_stand}
 use Rattle.scion_packet.proofs.PacketLaws.{both_pass, packet_spelled, part-are}
 use Rattle.scion_packet.proofs.Parts.{path_are}
 use Rattle.process_packet.specs.declared.underlay.Underlay.{Underlay}
-use Rattle.process_packet.specs.Laws.{changes}
 use Rattle.process_packet.specs.Network.{Network}
 use Rattle.process_packet.specs.Shown.{StandsToLeave, sent_along, turned}
 use Rattle.process_packet.specs.Sight.{IsAlike, with_id}
@@ -72,6 +70,20 @@ id_fits : (ss : List Segment) (k i : ℕ) → AllByRecursion IsSegment ss → (i
 id_fits [] k i all = omega arith
 id_fits (s ∷ ss) zero i all = all.0.info.1.1.0.0
 id_fits (s ∷ ss) (suc k) i all = id_fits ss k i all.1
+
+-- the MAC of each hop field of a datagram is bytes
+pub macs_are_bytes : (bytes : List ℕ) → IsBytes bytes → first_fault bytes ≡ None → (at : Place) → IsOnPath (packet_of bytes).path.segments at
+    → IsBytes (hop_there (packet_of bytes).path.segments at).mac
+macs_are_bytes bytes are sound at on =
+    let path = path_bytes bytes in
+    let stand : FieldsStand path = fields_stand path (path_are bytes are) (both_pass bytes sound).1 in
+    let count = stand.count in
+    let there = on.there in
+    let inside = on.inside in
+    let few : at.segment < segment_count (lengths_of path) = omega arith in
+    let size = stand.hops at.segment few in
+    let place = hop_place (lengths_of path) (first_hop (lengths_of path) at.segment + at.position) in
+    subst (λ (h : HopField). IsBytes h.mac) (sym (stand.hop at.segment at.position few (omega arith))) (part-are path (place + 6) 6 (path_are bytes are))
 
 -- ---- from where it arrives to where it leaves
 
@@ -132,20 +144,6 @@ module _ (n : Network) (from : ℕ) (source : Underlay) (moment : ℕ) (bytes : 
   pub spelled : Spells bytes (packet s)
   spelled = packet_spelled bytes are sound
 
-  stand : FieldsStand (path_bytes bytes)
-  stand = fields_stand (path_bytes bytes) (path_are bytes are) (both_pass bytes sound).1
-
-  mac_are : (at : Place) → IsOnPath s.path.segments at → IsBytes (hop_there s.path.segments at).mac
-  mac_are at on =
-      let path = path_bytes bytes in
-      let count = stand.count in
-      let there = on.there in
-      let inside = on.inside in
-      let few : at.segment < segment_count (lengths_of path) = omega arith in
-      let size = stand.hops at.segment few in
-      let place = hop_place (lengths_of path) (first_hop (lengths_of path) at.segment + at.position) in
-      subst (λ (h : HopField). IsBytes h.mac) (sym (stand.hop at.segment at.position few (omega arith))) (part-are path (place + 6) 6 (path_are bytes are))
-
   -- the identifier chained at any place of the path, with other identifiers of two bytes
   chain_fits : (v : Standing) (k : ℕ) → IsPath v.path → IsAlike k s.path.segments v.path.segments → chained_id v < 2 ^ 16
   chain_fits v k lawful alike =
@@ -156,7 +154,7 @@ module _ (n : Network) (from : ℕ) (source : Underlay) (moment : ℕ) (bytes : 
       let count = alike.count in
       let size = alike.hops at.segment in
       let before : IsOnPath s.path.segments at = record { there = omega arith; inside = omega arith } in
-      let mac : IsBytes (hop_there v.path.segments at).mac = subst (λ (h : HopField). IsBytes h.mac) (sym (alike.hop at)) (mac_are at before) in
+      let mac : IsBytes (hop_there v.path.segments at).mac = subst (λ (h : HopField). IsBytes h.mac) (sym (alike.hop at)) (macs_are_bytes bytes are sound at before) in
       let two : number_at (hop_there v.path.segments at).mac 0 2 < 256 ^ 2 = number-lt (hop_there v.path.segments at).mac 0 2 mac in
       xor_of_16 (info_there v.path.segments at).segment_id (number_at (hop_there v.path.segments at).mac 0 2) (id_fits v.path.segments at.segment at.position lawful.segments) (omega arith)
 

@@ -1,5 +1,5 @@
 -- Row after row: where the pointer of what each of them may tell points.
-use Rattle.std.proofs.Common.{◌≡◌, ◌⊎◌, ◌≤◌, ◌<◌, ◌+◌, ◌-◌, ◌*◌, ◌&&◌, ◌==◌, not, nat_lt, ℕ, Bool, true, false, List, [], ◌∷◌, length, drop, Option, Some, None, refl, sym, ap, ap₂, subst, ◌∙◌, arith, if◌then◌else◌, inl, inr, length-drop}
+use Rattle.std.proofs.Common.{◌≡◌, ◌≤◌, ◌<◌, ◌+◌, ◌-◌, ◌*◌, ◌&&◌, ◌==◌, not, nat_lt, ℕ, Bool, true, false, List, [], ◌∷◌, length, drop, None, refl, sym, ap₂, subst, ◌∙◌, arith, if◌then◌else◌, inl, inr, length-drop}
 use Rattle.std.specs.Prelude.{is_some}
 use Rattle.std.proofs.lemmas.Bool.Decides.{Decides-ltb}
 use Rattle.std.proofs.lemmas.List.{length-take-le}
@@ -7,13 +7,12 @@ use Rattle.field_rows.specs.Place.{IsBytes}
 use Rattle.scion_packet.specs.Header.{front_end, front_len, header_end, header_fault}
 use Rattle.scion_packet.specs.Laws.{FieldsStand}
 use Rattle.scion_packet.specs.Lengths.{first_hop, hop_place, info_place, segment_count}
-use Rattle.scion_packet.specs.Packet.{first_fault, packet_of, path_bytes}
-use Rattle.scion_packet.specs.Path.{Place, Segment, hop_number, lengths_of, path_fault}
+use Rattle.scion_packet.specs.Packet.{first_fault, path_bytes}
+use Rattle.scion_packet.specs.Path.{Place, hop_number, lengths_of, path_fault}
 use Rattle.scion_packet.proofs.Offsets.{fields_stand}
 use Rattle.scion_packet.proofs.PacketLaws.{both_pass}
 use Rattle.scion_packet.proofs.Parts.{PathLies, path_are, path_lies}
 use Rattle.process_packet.specs.declared.cause.Cause.TheVariants as cause
-use Rattle.process_packet.specs.declared.decision.Decision.{Decision}
 use Rattle.process_packet.specs.declared.decision.Decision.TheVariants as decision
 use Rattle.process_packet.specs.declared.decision.Problem.{Problem}
 use Rattle.process_packet.specs.declared.underlay.Underlay.{Underlay}

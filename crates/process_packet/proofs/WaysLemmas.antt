@@ -6,13 +6,12 @@ use Rattle.process_packet.specs.declared.cause.Cause.TheVariants as cause
 use Rattle.process_packet.specs.declared.neighbours.Link.{Link}
 use Rattle.process_packet.specs.declared.underlay.Underlay.{Underlay}
 use Rattle.process_packet.specs.Decide.{decision_table, ends_as, verdict}
-use Rattle.process_packet.specs.Hosts.{IsSentToHost}
 use Rattle.process_packet.specs.Laws.{IsAuthorised, LeavesByItsEgress, LeftLawfully}
 use Rattle.process_packet.specs.Neighbours.{sibling_at}
 use Rattle.process_packet.specs.Network.{Network, own_link, sibling}
-use Rattle.process_packet.specs.Rows.{Sent, Verdict, delivered}
+use Rattle.process_packet.specs.Rows.{Sent, delivered}
 use Rattle.process_packet.specs.Shown.{AuthorisedIsSent, StandsToLeave, asks_entry, asks_exit, is_for_us, sent_along, turned}
-use Rattle.process_packet.specs.Standing.{Standing, arrives, changed_over, egress, is_last_of_path, packet, turned_back}
+use Rattle.process_packet.specs.Standing.{Standing, arrives, changed_over, egress, is_last_of_path, packet}
 use Rattle.process_packet.specs.Ways.{IsSentBy, SentByThreeWays}
 use Rattle.process_packet.proofs.AuthorisedLemmas.{authorised_sent, comes_so}
 use Rattle.process_packet.proofs.Coming.{ComesAsItShould}

@@ -1,26 +1,24 @@
 -- What leaves is read as it was meant, and differs in five bytes.
-use Rattle.std.proofs.Common.{◌≡◌, ◌⊎◌, ◌≤◌, ◌<◌, ◌+◌, ◌-◌, ◌*◌, ℕ, List, ◌++◌, length, slice_index, Option, Some, None, refl, sym, ap, ap₂, subst, ◌∙◌, arith, inl, inr, length-append}
+use Rattle.std.proofs.Common.{◌≡◌, ◌⊎◌, ◌≤◌, ◌-◌, ℕ, List, ◌++◌, length, Option, refl, sym, ap, ap₂, subst, ◌∙◌, arith, inl, inr, length-append}
 use Rattle.field_rows.specs.Place.{IsBytes}
 use Rattle.scion_packet.specs.Header.{HeaderFields, front_end, front_len, header_text}
-use Rattle.scion_packet.specs.Packet.{Packet, Spells, first_fault, packet_of, path_bytes, spelling}
-use Rattle.scion_packet.specs.Path.{PathFields, Segment, hops_text, infos_text, path_text}
+use Rattle.scion_packet.specs.Packet.{Packet, Spells, path_bytes, spelling}
+use Rattle.scion_packet.specs.Path.{PathFields, path_text}
 use Rattle.scion_packet.proofs.Offsets.{fields_stand}
 use Rattle.scion_packet.proofs.PacketLaws.{both_pass, packet_only, packet_passes}
 use Rattle.scion_packet.proofs.Parts.{path_are, path_lies}
-use Rattle.scion_packet.proofs.Runs.{infos_len}
 use Rattle.process_packet.specs.declared.decision.Decision.TheVariants as decision
 use Rattle.process_packet.specs.declared.underlay.Underlay.{Underlay}
-use Rattle.process_packet.specs.Decide.{decide, decision_of, moved, moved_by, verdict}
+use Rattle.process_packet.specs.Decide.{decision_of, moved_by, verdict}
 use Rattle.process_packet.specs.Laws.{IsAuthorised}
 use Rattle.process_packet.specs.Network.{Network}
 use Rattle.process_packet.specs.Rows.{Answered, Dropped, Sent, Verdict}
 use Rattle.process_packet.specs.Sight.{with_id}
 use Rattle.process_packet.specs.Standing.{Standing, arrives, packet}
 use Rattle.process_packet.specs.WhatLeaves.{DiffersInFive, IsElsewhere, LeavesWhole, WhatLeavesIsLawful}
-use Rattle.process_packet.proofs.AlikeLemmas.{alike_with}
 use Rattle.process_packet.proofs.ByteLemmas.{BehindFront, IsIdPlace, IsRewritten, bytes_stay, cursor_rewritten, datagram_rewritten, ids_rewritten, rewritten_then}
 use Rattle.process_packet.proofs.LawLemmas.{came_in, told}
-use Rattle.process_packet.proofs.LawfulLemmas.{IsMovedFrom, is_on, moved_from, spelled}
+use Rattle.process_packet.proofs.LawfulLemmas.{IsMovedFrom, moved_from, spelled}
 use Rattle.process_packet.proofs.WaysLemmas.{sent_by}
 
 -- the cursor, and the identifiers of two segments

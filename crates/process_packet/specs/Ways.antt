@@ -1,6 +1,6 @@
 -- The ways by which a packet is sent: the other half of what an authorised packet is sent by.
 use Rattle.std.specs.Prelude.{ℕ, ◌≡◌, true, false, List, Option, Some, None, is_some, option_map}
-use Rattle.scion_packet.specs.Packet.{Packet, packet_of}
+use Rattle.scion_packet.specs.Packet.{Packet}
 use Rattle.process_packet.specs.declared.underlay.Underlay.{Underlay}
 use Rattle.process_packet.specs.Decide.{verdict}
 use Rattle.process_packet.specs.Hosts.{IsSentToHost}

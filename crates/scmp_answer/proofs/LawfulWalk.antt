@@ -6,6 +6,7 @@ use Rattle.process_packet.specs.Standing.{is_first_of_path, packet}
 use Rattle.process_packet.specs.declared.decision.Problem.{Problem}
 use Rattle.process_packet.specs.declared.cause.Cause.TheVariants as cause
 use Rattle.process_packet.specs.declared.underlay.Ip.TheVariants.{V4, V6}
+use Rattle.field_rows.specs.Place.{IsBytes}
 use Rattle.scion_packet.specs.Header.{HeaderFields, HostAddress}
 use Rattle.scion_packet.specs.Packet.{Packet, packet_of, spelling}
 use Rattle.scion_packet.specs.Path.{Place, hop_number, hops_in, place_at}
@@ -16,6 +17,7 @@ use Rattle.scmp_answer.specs.Reply as answers
 use Rattle.scmp_answer.specs.WayBack.{has_no_way_back, is_external, is_first_of_segment, way_back}
 use Rattle.walk_laws.specs.PathSegments.{PathSegment, route_over}
 use Rattle.process_packet.specs.Hosts.{IsReachedAt}
+use Rattle.walk_laws.specs.Configured.{AreNumbered}
 use Rattle.walk_laws.specs.LawfulStart.{IsIpHost, IsKnown, ReachesHost, SetsOutOn, WalksBy}
 use Rattle.scmp_answer.specs.Walked.{IsAnswerable, IsLawfulStop, IsAnswered, IsAskedOnTheWay, IsCarriedBack, IsWalked}
 use Rattle.process_packet.specs.Net.{Agrees, Net, Router, router_at}
@@ -234,15 +236,16 @@ each {a = a} f (WalksBy.goes x out to is here others verdict carried rest) = Wal
 
 -- ---- the laws
 
-module _ (net : Net) (ss : List PathSegment) (moment : ℕ) (a : PacketAt) (agrees : Agrees net) (s : SetsOutOn net ss moment a) where
+module _ (net : Net) (ss : List PathSegment) (moment : ℕ) (a : PacketAt) (agrees : Agrees net) (numbered : AreNumbered net) (are : IsBytes (spelling a.packet))
+    (s : SetsOutOn net ss moment a) where
   abbrev w : Route
   w = route_over ss
 
   route : IsRoute net w moment
-  route = its_route net ss moment a agrees s
+  route = its_route net ss moment a agrees numbered are s
 
   stands : Stands net w outset a
-  stands = stands_at_outset net w moment a route (sets_out net ss moment a agrees s)
+  stands = stands_at_outset net w moment a route (sets_out net ss moment a agrees numbered are s)
 
   answerable : (b : PacketAt) → Passed net w a b → IsAnswerable net moment a b
   answerable b passed x here problem there local may good =
@@ -274,7 +277,7 @@ module _ (net : Net) (ss : List PathSegment) (moment : ℕ) (a : PacketAt) (agre
       → (verdict_at e.here e.end moment ≡ delivered e.here.network (packet (turned (standing e.here.network e.end moment (spelling e.end.packet)))))
       → is_last_of_path w.segments (place_of e.end) ≡ true → IsOf e.here (w.home (end_of w)) → IsWalked net moment a
   ended e delivery last home =
-      let known : IsKnown e.here a.packet.header.destination = s.to_host e.end.router e.here e.here_is (subst (λ (p : Place). IsOf e.here (w.home p)) (end_is net ss moment a agrees s) home) in
+      let known : IsKnown e.here a.packet.header.destination = s.to_host e.end.router e.here e.here_is (subst (λ (p : Place). IsOf e.here (w.home p)) (end_is net ss moment a agrees numbered are s) home) in
       let p : Packet = packet (turned (standing e.here.network e.end moment (spelling e.end.packet))) in
       let reached : ReachesHost net moment 127 a a.packet.header.destination = record {
         end = e.end;

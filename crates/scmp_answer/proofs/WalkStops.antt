@@ -6,6 +6,7 @@ use Rattle.std.proofs.lemmas.Iterator.Adapters.{position_from-zero}
 use Rattle.std.proofs.lemmas.List.Quantifiers.{position-Some}
 use Rattle.std.proofs.lemmas.Option.{slice_get-get_or}
 use Rattle.scion_packet.specs.Fault.{Fault}
+use Rattle.field_rows.specs.Place.{IsBytes}
 use Rattle.scion_packet.specs.Header.{HeaderFields, header_fault, header_of}
 use Rattle.scion_packet.specs.Packet.{IsPacket, Packet, spelling}
 use Rattle.scion_packet.proofs.PacketLaws.{both_pass, packet_only, packet_passes}
@@ -20,6 +21,7 @@ use Rattle.process_packet.specs.declared.net.End.{End}
 use Rattle.process_packet.specs.declared.net.Wire.{Wire}
 use Rattle.process_packet.specs.declared.underlay.Underlay.{Underlay}
 use Rattle.process_packet.proofs.AgreementLemmas.{as_decides, end_decides, underlay_decides}
+use Rattle.walk_laws.specs.Configured.{AreNumbered}
 use Rattle.walk_laws.specs.LawfulStart.{LawfulStart, ReachesHost, WalksBy}
 use Rattle.walk_laws.specs.PathSegments.{PathSegment}
 use Rattle.process_packet.specs.Shown.{is_for_us}
@@ -199,17 +201,17 @@ delivered_by net moment a agrees walked =
     }
 
 -- what sets out lawfully is delivered at the last of its stops
-walks_deliver : (net : Net) (ss : List PathSegment) (moment : ℕ) (a : PacketAt) → Agrees net → LawfulStart net ss moment a
+walks_deliver : (net : Net) (ss : List PathSegment) (moment : ℕ) (a : PacketAt) → Agrees net → AreNumbered net → IsBytes (spelling a.packet) → LawfulStart net ss moment a
     → IsDeliveredBy net moment a (stops_from net moment 128 (Some (came_of a)))
-walks_deliver net ss moment a agrees start =
-    delivered_by net moment a agrees (starts_walked net ss moment a agrees start.sets_out (unasked net ss moment a agrees start.sets_out start.quiet))
+walks_deliver net ss moment a agrees numbered are start =
+    delivered_by net moment a agrees (starts_walked net ss moment a agrees numbered are start.sets_out (unasked net ss moment a agrees numbered are start.sets_out start.quiet))
 
-pub stops_deliver : (net : Net) (ss : List PathSegment) (router : ℕ) (arrival : Arrival) (p : Packet) (stops : List Came) → Agrees net → arrival.bytes.items ≡ spelling p
+pub stops_deliver : (net : Net) (ss : List PathSegment) (router : ℕ) (arrival : Arrival) (p : Packet) (stops : List Came) → Agrees net → AreNumbered net → IsBytes arrival.bytes.items → arrival.bytes.items ≡ spelling p
     → LawfulStart net ss arrival.now (starts_at router arrival p) → stops ≡ stops_from net arrival.now 128 (Some (came_to router arrival))
     → IsDeliveredBy net arrival.now (starts_at router arrival p) stops
-stops_deliver net ss router arrival p stops agrees text start made =
+stops_deliver net ss router arrival p stops agrees numbered are text start made =
     let a : PacketAt = starts_at router arrival p in
     let same : stops ≡ stops_from net arrival.now 128 (Some (came_of a)) =
     made
     ∙ ap (λ (b : List ℕ). stops_from net arrival.now 128 (Some (record { router = router; link = arrival.link; source = arrival.source; bytes = b }))) text in
-    subst (IsDeliveredBy net arrival.now a) (sym same) (walks_deliver net ss arrival.now a agrees start)
+    subst (IsDeliveredBy net arrival.now a) (sym same) (walks_deliver net ss arrival.now a agrees numbered (subst IsBytes text are) start)

@@ -1,5 +1,6 @@
 -- What becomes of a packet that sets out lawfully, and of the answers to it.
 use Rattle.std.specs.Prelude.{◌≡◌, ◌⊎◌, ℕ, false, List, Some, None, if◌then◌else◌}
+use Rattle.field_rows.specs.Place.{IsBytes}
 use Rattle.scion_packet.specs.Header.{HostAddress}
 use Rattle.scion_packet.specs.Packet.{IsPacket, Packet, spelling}
 use Rattle.process_packet.specs.declared.decision.Problem.{Problem}
@@ -8,6 +9,7 @@ use Rattle.scmp_answer.specs.Reply.{is_left_unanswered, reply}
 use Rattle.scmp_answer.specs.Reply as answers
 use Rattle.scmp_answer.specs.WayBack.{is_external}
 use Rattle.walk_laws.specs.PathSegments.{PathSegment, route_over}
+use Rattle.walk_laws.specs.Configured.{AreNumbered}
 use Rattle.walk_laws.specs.LawfulStart.{LawfulStart, ReachesHost, SetsOutOn, WalksBy}
 use Rattle.process_packet.specs.Net.{Agrees, Net, Router, router_at}
 use Rattle.walk_laws.specs.Domain.{domain_of}
@@ -59,12 +61,14 @@ pub record IsAskedOnTheWay (net : Net) (ss : List PathSegment) (moment : ℕ) (a
   pub here_is : router_at net end.router ≡ Some here
   pub asked : IsAsked (route_over ss) a.packet.header.next_header a.packet.payload (verdict_at here end moment)
 
--- ---- the laws
+-- ---- the laws, where links are numbered from 1, as in each net of configurations, and the datagram is bytes
 
 abbrev pub LawfulStartsAreWalked : Type 0
-LawfulStartsAreWalked = (net : Net) (ss : List PathSegment) (moment : ℕ) (a : PacketAt) → Agrees net → LawfulStart net ss moment a → IsWalked net moment a
+LawfulStartsAreWalked =
+    (net : Net) (ss : List PathSegment) (moment : ℕ) (a : PacketAt) → Agrees net → AreNumbered net → IsBytes (spelling a.packet)
+    → LawfulStart net ss moment a → IsWalked net moment a
 
 abbrev pub RequestsAreWalked : Type 0
 RequestsAreWalked =
-    (net : Net) (ss : List PathSegment) (moment : ℕ) (a : PacketAt) → Agrees net → SetsOutOn net ss moment a
+    (net : Net) (ss : List PathSegment) (moment : ℕ) (a : PacketAt) → Agrees net → AreNumbered net → IsBytes (spelling a.packet) → SetsOutOn net ss moment a
     → IsWalked net moment a ⊎ IsAskedOnTheWay net ss moment a

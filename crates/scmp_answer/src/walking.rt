@@ -1,6 +1,7 @@
 //! The walk of a packet through a net of border routers.
 
 ghost use Rattle.std.specs.Prelude.{All, ◌≡◌, ◌<◌, ◌++◌, ◌∷◌, [], ℕ, List, Some, IfOk, IfSome, OnOk, length, map, option_map};
+ghost use Rattle.field_rows.specs.Place.{IsBytes};
 ghost use Rattle.process_packet.specs.Net.{Agrees, net_of, router_at};
 ghost use Rattle.scmp_answer.specs.Stops.{IsStop, came_by, came_so, came_to, most_stops, sent_from, next_stop, stops_from};
 ghost use Rattle.scmp_answer.specs.Coming as way;
@@ -87,24 +88,34 @@ fn stop_at(alloc: Global, net: &Net, coming: Coming) -> Result<Stop, NoMemory>
     })
 }
 
+/// A copy of the bytes.
+fn copy_of(alloc: Global, bytes: &[u8]) -> Result<Vec<u8>, NoMemory>
+    ensures items { IfOk result (λ v. v.items ≡ bytes.now) }
+    ensures are { IfOk result (λ v. IsBytes v.items) }
+{
+    match Vec::from_slice(alloc, bytes) {
+        Ok(copy) => Ok(copy),
+        Err(_) => Err(NoMemory),
+    }
+}
+
 /// The datagram where it comes first.
 fn first(alloc: Global, router: usize, arrival: &Arrival) -> Result<Coming, NoMemory>
     ensures came { IfOk result (λ c. way.coming c ≡ came_to router arrival.entry.now) }
     ensures moment { IfOk result (λ c. c.arrival.now ≡ arrival.entry.now.now) }
+    ensures are { IfOk result (λ c. IsBytes c.arrival.bytes.items) }
 {
-    match Vec::from_slice(alloc, arrival.bytes.as_slice()) {
-        Ok(bytes) => Ok(Coming {
-            router,
-            arrival: Arrival {
-                link: arrival.link,
-                number: arrival.number,
-                source: arrival.source,
-                now: arrival.now,
-                bytes,
-            },
-        }),
-        Err(_) => Err(NoMemory),
-    }
+    let bytes = copy_of(alloc, arrival.bytes.as_slice())?;
+    Ok(Coming {
+        router,
+        arrival: Arrival {
+            link: arrival.link,
+            number: arrival.number,
+            source: arrival.source,
+            now: arrival.now,
+            bytes,
+        },
+    })
 }
 
 /// Makes the stop at which the datagram comes, and says where it comes to next.

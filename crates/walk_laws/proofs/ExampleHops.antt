@@ -1,6 +1,5 @@
 -- The example's lists of hops are a path, along and against.
 use Rattle.std.proofs.Common.{◌≡◌, ◌<◌, ◌+◌, ℕ, zero, suc, false, List, [], slice_index_or, Some, refl, sym, ap, arith, inl}
-use Rattle.field_rows.specs.Place.{IsBytes}
 use Rattle.hop_check.specs.Mac.{mac6}
 use Rattle.hop_check.specs.Beaconing.{beta_at, hop_at}
 use Rattle.scion_packet.specs.Path.{InfoField}
@@ -25,34 +24,6 @@ keys i (suc zero) there r x is home = one_key r x is
 keys i (suc (suc zero)) there r x is home = one_key r x is
 keys i (suc (suc (suc k))) there r x is home = absurd (omega arith)
 
-pub key_bytes : IsBytes example_key
-key_bytes zero = omega arith
-key_bytes (suc zero) = omega arith
-key_bytes (suc (suc zero)) = omega arith
-key_bytes (suc (suc (suc zero))) = omega arith
-key_bytes (suc (suc (suc (suc zero)))) = omega arith
-key_bytes (suc (suc (suc (suc (suc zero))))) = omega arith
-key_bytes (suc (suc (suc (suc (suc (suc zero)))))) = omega arith
-key_bytes (suc (suc (suc (suc (suc (suc (suc zero))))))) = omega arith
-key_bytes (suc (suc (suc (suc (suc (suc (suc (suc zero)))))))) = omega arith
-key_bytes (suc (suc (suc (suc (suc (suc (suc (suc (suc zero))))))))) = omega arith
-key_bytes (suc (suc (suc (suc (suc (suc (suc (suc (suc (suc zero)))))))))) = omega arith
-key_bytes (suc (suc (suc (suc (suc (suc (suc (suc (suc (suc (suc zero))))))))))) = omega arith
-key_bytes (suc (suc (suc (suc (suc (suc (suc (suc (suc (suc (suc (suc zero)))))))))))) = omega arith
-key_bytes (suc (suc (suc (suc (suc (suc (suc (suc (suc (suc (suc (suc (suc zero))))))))))))) = omega arith
-key_bytes (suc (suc (suc (suc (suc (suc (suc (suc (suc (suc (suc (suc (suc (suc zero)))))))))))))) = omega arith
-key_bytes (suc (suc (suc (suc (suc (suc (suc (suc (suc (suc (suc (suc (suc (suc (suc zero))))))))))))))) = omega arith
-key_bytes (suc (suc (suc (suc (suc (suc (suc (suc (suc (suc (suc (suc (suc (suc (suc (suc i)))))))))))))))) = omega arith
-
-bytes : (i : InfoField) (k : ℕ) → IsBytes (entry_at (of_info i) k).key
-bytes i zero = key_bytes
-bytes i (suc zero) = key_bytes
-bytes i (suc (suc zero)) = key_bytes
-bytes i (suc (suc (suc k))) = none
-  where
-    none : IsBytes []
-    none j = omega arith
-
 wired : (i : InfoField) (k : ℕ) → k + 1 < 3 → AreWired example_net false (entry_at (of_info i) k) (entry_at (of_info i) (k + 1))
 wired i zero more = record {
   sender = first_router;
@@ -65,8 +36,6 @@ wired i zero more = record {
   link_is = refl;
   kind = refl;
   wire = inl (0, (omega arith), refl);
-  egress = omega arith;
-  ingress = omega arith;
 }
 wired i (suc zero) more = record {
   sender = middle_router;
@@ -79,8 +48,6 @@ wired i (suc zero) more = record {
   link_is = refl;
   kind = refl;
   wire = inl (1, (omega arith), refl);
-  egress = omega arith;
-  ingress = omega arith;
 }
 wired i (suc (suc k)) more = absurd (omega arith)
 
@@ -97,7 +64,7 @@ against_macs (suc (suc zero)) there = refl
 against_macs (suc (suc (suc k))) there = absurd (omega arith)
 
 pub along_is : IsBeaconed example_net example_stretch
-along_is = record { two = omega arith; beta = omega arith; keys = keys info_along; bytes = bytes info_along; macs = along_macs; wired = wired info_along }
+along_is = record { two = omega arith; beta = omega arith; keys = keys info_along; macs = along_macs; wired = wired info_along }
 
 pub against_is : IsBeaconed example_net example_against
-against_is = record { two = omega arith; beta = omega arith; keys = keys info_against; bytes = bytes info_against; macs = against_macs; wired = wired info_against }
+against_is = record { two = omega arith; beta = omega arith; keys = keys info_against; macs = against_macs; wired = wired info_against }

@@ -1,6 +1,5 @@
 -- The path up and down is one over beaconed segments.
 use Rattle.std.proofs.Common.{◌≡◌, ◌<◌, ◌+◌, ◌⊎◌, ℕ, zero, suc, true, false, [], length, Some, refl, sym, ap, arith, inl, inr}
-use Rattle.field_rows.specs.Place.{IsBytes}
 use Rattle.scion_packet.specs.Path.{place_at}
 use Rattle.segment_switch.specs.Pairs.{changes_over}
 use Rattle.segment_switch.specs.declared.kind.LinkKind.TheVariants.{Child}
@@ -10,7 +9,6 @@ use Rattle.walk_laws.specs.ExampleTurn.{down, family, one_child, other_child, pa
 use Rattle.walk_laws.specs.PathSegments.{AreWired, HasItsKey, IsBeaconed, IsPathOver, fields_of, keys_of, kind_before, kind_after, entry_at, met, part}
 use Rattle.process_packet.specs.Net.{Router, router_at}
 use Rattle.walk_laws.specs.Domain.{Domain}
-use Rattle.walk_laws.proofs.ExampleHops.{key_bytes}
 
 one_key : (r : ℕ) (x : Router) → router_at family r ≡ Some x → x.network.key ≡ example_key
 one_key zero x is = let same : one_child ≡ x = cc in ap (λ (y : Router). y.network.key) (sym same)
@@ -27,19 +25,6 @@ down_keys : (k : ℕ) → k < 2 → HasItsKey family (entry_at down k)
 down_keys zero there r x is home = one_key r x is
 down_keys (suc zero) there r x is home = one_key r x is
 down_keys (suc (suc k)) there r x is home = absurd (omega arith)
-
-no_bytes : IsBytes []
-no_bytes j = omega arith
-
-up_bytes : (k : ℕ) → IsBytes (entry_at up k).key
-up_bytes zero = key_bytes
-up_bytes (suc zero) = key_bytes
-up_bytes (suc (suc k)) = no_bytes
-
-down_bytes : (k : ℕ) → IsBytes (entry_at down k).key
-down_bytes zero = key_bytes
-down_bytes (suc zero) = key_bytes
-down_bytes (suc (suc k)) = no_bytes
 
 up_macs : AreBeaconed (keys_of up) up.beta up.info (fields_of up)
 up_macs zero there = refl
@@ -63,8 +48,6 @@ up_wired zero more = record {
   link_is = refl;
   kind = refl;
   wire = inr (0, (omega arith), refl);
-  egress = omega arith;
-  ingress = omega arith;
 }
 up_wired (suc k) more = absurd (omega arith)
 
@@ -80,14 +63,12 @@ down_wired zero more = record {
   link_is = refl;
   kind = refl;
   wire = inl (1, (omega arith), refl);
-  egress = omega arith;
-  ingress = omega arith;
 }
 down_wired (suc k) more = absurd (omega arith)
 
 beaconed : (k : ℕ) → k < 2 → IsBeaconed family (part turn k)
-beaconed zero there = record { two = omega arith; beta = omega arith; keys = up_keys; bytes = up_bytes; macs = up_macs; wired = up_wired }
-beaconed (suc zero) there = record { two = omega arith; beta = omega arith; keys = down_keys; bytes = down_bytes; macs = down_macs; wired = down_wired }
+beaconed zero there = record { two = omega arith; beta = omega arith; keys = up_keys; macs = up_macs; wired = up_wired }
+beaconed (suc zero) there = record { two = omega arith; beta = omega arith; keys = down_keys; macs = down_macs; wired = down_wired }
 beaconed (suc (suc k)) there = absurd (omega arith)
 
 two : (k : ℕ) → k < 2 → length (part turn k).made ≡ 2

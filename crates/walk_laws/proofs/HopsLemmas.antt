@@ -13,6 +13,7 @@ use Rattle.walk_laws.specs.Stretch.{IsStretch, Stretch, beta_met, key_met, made_
 use Rattle.walk_laws.specs.PathSegments.{AreWired, AsEntry, PathSegment, IsBeaconed, IsMet, fields_of, keys_of, entry_at, met, no_path_segment, no_entry, part, route_over, segments_of, stretch_of}
 use Rattle.process_packet.specs.Net.{Agrees, Joined, Net, Router, end_at, opposite, router_at}
 use Rattle.process_packet.specs.declared.net.End.{End}
+use Rattle.walk_laws.specs.Configured.{AreNumbered}
 use Rattle.walk_laws.specs.Domain.{IsOf}
 use Rattle.walk_laws.proofs.NetLemmas.{IsWired, joined_ends}
 use Rattle.walk_laws.specs.Route.{IsOn, hop_of, info_of}
@@ -134,8 +135,8 @@ other_kind false = refl
 same_link : (n : Router) (id : ℕ) (l m : Link) → own_link n.network id ≡ Some l → own_link n.network id ≡ Some m → l ≡ m
 same_link n id l m one other = let is : Some l ≡ Some m = sym one ∙ other in cc
 
-wired : (net : Net) (core : Bool) (h next : AsEntry) → Agrees net → AreWired net core h next → Leads net core true h next
-wired net core h next agrees w =
+wired : (net : Net) (core : Bool) (h next : AsEntry) → Agrees net → AreNumbered net → AreWired net core h next → Leads net core true h next
+wired net core h next agrees numbered w =
     let e : IsWired net (end_at h.sent_by h.field.construction_egress) (end_at next.taken_by next.field.construction_ingress) = joined_ends net agrees _ _ w.wire in
     let one : e.one ≡ w.sender = same_router net h.sent_by h.sent_by e.one w.sender e.there w.sender_is refl in
     let other : e.other ≡ w.taker = same_router net next.taken_by next.taken_by e.other w.taker e.back w.taker_is refl in
@@ -159,8 +160,8 @@ wired net core h next agrees w =
       wire = w.wire;
       remote = e.remote;
       remote_back = e.remote_back;
-      out_there = w.egress;
-      into_there = w.ingress;
+      out_there = numbered h.sent_by w.sender h.field.construction_egress e.out w.sender_is out;
+      into_there = numbered next.taken_by w.taker next.field.construction_ingress e.into w.taker_is into_is;
     }
 
 turned_round : (net : Net) (core : Bool) (h next : AsEntry) → Leads net core true h next → Leads net core false next h
@@ -184,11 +185,11 @@ turned_round net core h next l = record {
   into_there = l.out_there;
 }
 
-pub leads : (b : Bool) (net : Net) (s : PathSegment) → Agrees net → IsBeaconed net s → (i : ℕ) → i + 1 < length s.made
+pub leads : (b : Bool) (net : Net) (s : PathSegment) → Agrees net → AreNumbered net → IsBeaconed net s → (i : ℕ) → i + 1 < length s.made
     → Leads net s.is_core b (entry_at s (if b then i else length s.made - 1 - i)) (entry_at s (if b then i + 1 else length s.made - 1 - (i + 1)))
-leads true net s agrees are i more = wired net s.is_core (entry_at s i) (entry_at s (i + 1)) agrees (are.wired i more)
-leads false net s agrees are i more =
+leads true net s agrees numbered are i more = wired net s.is_core (entry_at s i) (entry_at s (i + 1)) agrees numbered (are.wired i more)
+leads false net s agrees numbered are i more =
     let k = length s.made - 1 - (i + 1) in
     let next : k + 1 ≡ length s.made - 1 - i = omega arith in
     turned_round net s.is_core (entry_at s k) (entry_at s (length s.made - 1 - i))
-    (subst (λ (j : ℕ). Leads net s.is_core true (entry_at s k) (entry_at s j)) next (wired net s.is_core (entry_at s k) (entry_at s (k + 1)) agrees (are.wired k (omega arith))))
+    (subst (λ (j : ℕ). Leads net s.is_core true (entry_at s k) (entry_at s j)) next (wired net s.is_core (entry_at s k) (entry_at s (k + 1)) agrees numbered (are.wired k (omega arith))))

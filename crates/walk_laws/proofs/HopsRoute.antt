@@ -2,42 +2,41 @@
 use Rattle.std.proofs.Common.{◌≡◌, ◌≤◌, ◌<◌, ◌+◌, ◌-◌, ◌^◌, ℕ, zero, suc, Bool, true, false, List, [], length, slice_index_or, Some, refl, sym, ap, ap₂, subst, ◌∙◌, arith, if◌then◌else◌}
 use Rattle.std.proofs.lemmas.Nat.{xor_of_16}
 use Rattle.field_rows.specs.Place.{IsBytes, number_at}
-use Rattle.hop_check.specs.Mac.{chain, mac6}
+use Rattle.hop_check.specs.Mac.{chain}
 use Rattle.hop_check.specs.Expiry.{is_expired}
 use Rattle.scion_packet.specs.Path.{HopField, InfoField, Place, count_hops, place_at}
 use Rattle.scion_packet.proofs.Fields.{number-lt}
 use Rattle.segment_switch.specs.Pairs.{goes_straight}
 use Rattle.segment_switch.specs.declared.kind.LinkKind.TheVariants.{Core, Parent, Child}
 use Rattle.hop_check.specs.Beaconing.{beta_at, hop_at}
-use Rattle.walk_laws.specs.PathSegments.{AreUnexpired, AsEntry, PathSegment, IsBeaconed, IsJoint, IsMet, IsPathOver, fields_of, keys_of, met, part, route_over, segments_of}
+use Rattle.walk_laws.specs.PathSegments.{AreUnexpired, AsEntry, HaveByteMacs, PathSegment, IsBeaconed, IsJoint, IsMet, IsPathOver, entry_at, fields_of, met, part, route_over, segments_of}
 use Rattle.walk_laws.specs.Stretch.{HopsHold}
 use Rattle.process_packet.specs.Network.{own_link}
 use Rattle.process_packet.specs.Net.{Agrees, Joined, Net, Router, end_at, router_at}
+use Rattle.walk_laws.specs.Configured.{AreNumbered}
 use Rattle.walk_laws.specs.Domain.{Domain, IsOf}
 use Rattle.walk_laws.specs.Route.{AreJoined, Crosses, IsBefore, IsHopOf, IsOn, IsRoute, Joins, Route, after, hop_of, info_of, last_in, way_in, way_out}
-use Rattle.walk_laws.proofs.HopsLemmas.{Leads, as_many, hop_is, info_is, into, is_met, is_stretch, its_key, key_is, leads, left, made_is, out_of, over, part_len, parts}
+use Rattle.walk_laws.proofs.HopsLemmas.{Leads, as_many, field_is, hop_is, info_is, into, is_met, is_stretch, its_key, key_is, leads, left, made_is, out_of, over, part_len, parts}
 use Rattle.walk_laws.proofs.MadeLemmas.{hops_hold}
-use Rattle.walk_laws.proofs.TagLemmas.{mac_bytes}
 
 -- ---- identifiers fit
 
-chain_fits : (beta : ℕ) (mac key : List ℕ) (b : ℕ) (i : InfoField) (h : HopField) → beta < 2 ^ 16 → mac ≡ mac6 key b i h → IsBytes key → chain beta mac < 2 ^ 16
-chain_fits beta mac key b i h fits is bytes =
-    let two : number_at (mac6 key b i h) 0 2 < 256 ^ 2 = number-lt (mac6 key b i h) 0 2 (mac_bytes key b i h bytes) in
-    subst (λ (m : List ℕ). chain beta m < 2 ^ 16) (sym is) (xor_of_16 beta (number_at (mac6 key b i h) 0 2) fits (omega arith))
+chain_fits : (beta : ℕ) (mac : List ℕ) → beta < 2 ^ 16 → IsBytes mac → chain beta mac < 2 ^ 16
+chain_fits beta mac fits bytes =
+    let two : number_at mac 0 2 < 256 ^ 2 = number-lt mac 0 2 bytes in
+    xor_of_16 beta (number_at mac 0 2) fits (omega arith)
 
-beta_fits : (net : Net) (s : PathSegment) → IsBeaconed net s → (k : ℕ) → k ≤ length s.made → beta_at s.beta (fields_of s) k < 2 ^ 16
-beta_fits net s are zero few = are.beta
-beta_fits net s are (suc k) few =
-    let n = as_many s in
-    chain_fits (beta_at s.beta (fields_of s) k) (hop_at (fields_of s) k).mac (slice_index_or (keys_of s) k []) _ s.info (hop_at (fields_of s) k) (beta_fits net s are k (omega arith))
-    (are.macs k (omega arith)) (subst IsBytes (sym (key_is s k)) (are.bytes k))
+beta_fits : (net : Net) (s : PathSegment) → IsBeaconed net s → ((j : ℕ) → j < length s.made → IsBytes (entry_at s j).field.mac) → (k : ℕ) → k ≤ length s.made → beta_at s.beta (fields_of s) k < 2 ^ 16
+beta_fits net s are macs zero few = are.beta
+beta_fits net s are macs (suc k) few =
+    chain_fits (beta_at s.beta (fields_of s) k) (hop_at (fields_of s) k).mac (beta_fits net s are macs k (omega arith))
+    (subst (λ (h : HopField). IsBytes h.mac) (sym (field_is s k)) (macs k (omega arith)))
 
 pick : (b : Bool) (x y n : ℕ) → x < n → y < n → (if b then x else y) < n
 pick true x y n one other = one
 pick false x y n one other = other
 
-below : (b : Bool) (i n : ℕ) → i < n → (if b then i else n - 1 - i) < n
+pub below : (b : Bool) (i n : ℕ) → i < n → (if b then i else n - 1 - i) < n
 below true i n less = less
 below false i n less = omega arith
 
@@ -48,7 +47,8 @@ goes false false = refl
 
 -- ---- hop by hop
 
-module _ (net : Net) (ss : List PathSegment) (moment : ℕ) (agrees : Agrees net) (path : IsPathOver net ss) (fresh : (k : ℕ) → k < length ss → AreUnexpired (part ss k) moment) where
+module _ (net : Net) (ss : List PathSegment) (moment : ℕ) (agrees : Agrees net) (numbered : AreNumbered net) (macs : HaveByteMacs ss) (path : IsPathOver net ss)
+    (fresh : (k : ℕ) → k < length ss → AreUnexpired (part ss k) moment) where
   abbrev w : Route
   w = route_over ss
 
@@ -62,7 +62,7 @@ module _ (net : Net) (ss : List PathSegment) (moment : ℕ) (agrees : Agrees net
       let one = below s.info.along at.position (length s.made) there.position in
       let k : ℕ = if s.info.along then at.position else length s.made - 1 - at.position in
       let few : k ≤ length s.made = omega arith in
-      subst (λ (j : ℕ). beta_at s.beta (fields_of s) j < 2 ^ 16) (sym (made_is s at.position)) (beta_fits net s (path.beaconed at.segment there.segment) k few)
+      subst (λ (j : ℕ). beta_at s.beta (fields_of s) j < 2 ^ 16) (sym (made_is s at.position)) (beta_fits net s (path.beaconed at.segment there.segment) (λ j. macs at.segment j there.segment) k few)
 
   hop_there : (at : Place) → IsOn w at → IsHopOf net w moment at
   hop_there at on =
@@ -72,9 +72,9 @@ module _ (net : Net) (ss : List PathSegment) (moment : ℕ) (agrees : Agrees net
       let k : ℕ = if s.info.along then at.position else length s.made - 1 - at.position in
       let inside : k < length s.made = below s.info.along at.position (length s.made) there.position in
       let mac = holds.mac at on in
-      let bytes : IsBytes (w.key at) = subst IsBytes (sym (its_key ss at)) (are.bytes k) in
+      let bytes : IsBytes (hop_of w at).mac = subst (λ (h : HopField). IsBytes h.mac) (sym (hop_is ss at there)) (macs at.segment k there.segment inside) in
       let beta = beta_there at there in
-      let chained : chain (w.beta at) (hop_of w at).mac < 2 ^ 16 = chain_fits (w.beta at) (hop_of w at).mac (w.key at) (w.beta at) (info_of w at) (hop_of w at) beta mac bytes in
+      let chained : chain (w.beta at) (hop_of w at).mac < 2 ^ 16 = chain_fits (w.beta at) (hop_of w at).mac beta bytes in
       record {
         mac = mac;
         unexpired = ap₂ (λ (i : InfoField) (h : HopField). is_expired i h moment) (info_is ss at) (hop_is ss at there) ∙ fresh at.segment there.segment k inside;
@@ -91,7 +91,7 @@ module _ (net : Net) (ss : List PathSegment) (moment : ℕ) (agrees : Agrees net
   way_in_is at there = ap₂ (λ (i : InfoField) (h : HopField). if i.along then h.construction_ingress else h.construction_egress) (info_is ss at) (hop_is ss at there)
 
   lead : (at : Place) → IsMet ss (after at) → Leads net (part ss at.segment).is_core (part ss at.segment).info.along (met ss at) (met ss (after at))
-  lead at there = leads (part ss at.segment).info.along net (part ss at.segment) agrees (path.beaconed at.segment there.segment) at.position there.position
+  lead at there = leads (part ss at.segment).info.along net (part ss at.segment) agrees numbered (path.beaconed at.segment there.segment) at.position there.position
 
   left_is : (b : Bool) (h : AsEntry) → (if b then h.sent_by else h.taken_by) ≡ left b h
   left_is b h = refl

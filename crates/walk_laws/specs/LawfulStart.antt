@@ -7,9 +7,10 @@ use Rattle.process_packet.specs.declared.underlay.Underlay.{Underlay}
 use Rattle.process_packet.specs.Request.{is_request}
 use Rattle.process_packet.specs.Rows.{Sent}
 use Rattle.walk_laws.specs.Stretch.{beta_met}
-use Rattle.walk_laws.specs.PathSegments.{AreUnexpired, PathSegment, IsMet, IsPathOver, met, part, route_over, segments_of, stretch_of}
+use Rattle.walk_laws.specs.PathSegments.{AreUnexpired, HaveByteMacs, PathSegment, IsMet, IsPathOver, met, part, route_over, segments_of, stretch_of}
 use Rattle.process_packet.specs.Hosts.{IsReachedAt}
 use Rattle.process_packet.specs.Net.{Agrees, Net, Router, router_at}
+use Rattle.walk_laws.specs.Configured.{AreNumbered}
 use Rattle.walk_laws.specs.Domain.{IsOf}
 use Rattle.walk_laws.specs.Domain.{domain_of}
 use Rattle.walk_laws.specs.Route.{IsRoute}
@@ -93,8 +94,9 @@ pub data WalksBy (net : Net) (moment : ℕ) (such : PacketAt → Type 0) : ℕ �
 
 -- ---- the laws
 
--- a path over segments whose AS entries are wired one to the next, no AS met twice, is a route
+-- A path over segments whose AS entries are wired one to the next, no AS met twice, is a route, where links are numbered from 1
+-- and MACs are bytes.
 abbrev pub HopsMakeRoutes : Type 0
 HopsMakeRoutes =
-    (net : Net) (ss : List PathSegment) (moment : ℕ) → Agrees net → IsPathOver net ss → ((k : ℕ) → k < length ss → AreUnexpired (part ss k) moment)
+    (net : Net) (ss : List PathSegment) (moment : ℕ) → Agrees net → AreNumbered net → HaveByteMacs ss → IsPathOver net ss → ((k : ℕ) → k < length ss → AreUnexpired (part ss k) moment)
     → count_hops (segments_of ss) ≤ 64 → IsRoute net (route_over ss) moment

@@ -49,7 +49,7 @@ keys_of s = map (λ (h : AsEntry). h.key) s.made
 
 -- ---- a beaconed segment
 
--- One hop's interface is wired to the next hop's, by a link of the segment's kind; links are numbered from 1.
+-- One hop's interface is wired to the next hop's, by a link of the segment's kind.
 pub record AreWired (net : Net) (is_core : Bool) (h next : AsEntry) : Type 0 where
   pub sender : Router
   pub sender_is : router_at net h.sent_by ≡ Some sender
@@ -61,8 +61,6 @@ pub record AreWired (net : Net) (is_core : Bool) (h next : AsEntry) : Type 0 whe
   pub link_is : own_link sender.network h.field.construction_egress ≡ Some link
   pub kind : link.kind ≡ (if is_core then Core else Child)
   pub wire : Joined net (end_at h.sent_by h.field.construction_egress) (end_at next.taken_by next.field.construction_ingress)
-  pub egress : 1 ≤ h.field.construction_egress
-  pub ingress : 1 ≤ next.field.construction_ingress
 
 -- the key is that of the routers of the hop's AS
 abbrev pub HasItsKey : Net → AsEntry → Type 0
@@ -73,7 +71,6 @@ pub record IsBeaconed (net : Net) (s : PathSegment) : Type 0 where
   pub two : 2 ≤ length s.made
   pub beta : s.beta < 2 ^ 16
   pub keys : (k : ℕ) → k < length s.made → HasItsKey net (entry_at s k)
-  pub bytes : (k : ℕ) → IsBytes (entry_at s k).key
   pub macs : AreBeaconed (keys_of s) s.beta s.info (fields_of s)
   pub wired : (k : ℕ) → k + 1 < length s.made → AreWired net s.is_core (entry_at s k) (entry_at s (k + 1))
 
@@ -100,6 +97,10 @@ stretch_of s = record { info = s.info; made = fields_of s; keys = keys_of s; bet
 
 abbrev pub part : List PathSegment → ℕ → PathSegment
 part ss k = slice_index_or ss k no_path_segment
+
+-- the MACs of the hop fields are bytes, as in each datagram
+abbrev pub HaveByteMacs : List PathSegment → Type 0
+HaveByteMacs ss = (k j : ℕ) → k < length ss → j < length (part ss k).made → IsBytes (entry_at (part ss k) j).field.mac
 
 abbrev pub met : List PathSegment → Place → AsEntry
 met ss at = entry_on (part ss at.segment) at.position

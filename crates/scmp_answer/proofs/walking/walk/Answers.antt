@@ -1,6 +1,8 @@
 use Rattle.std.proofs.Common.{append-nil, All, IfSome, ◌≡◌, ◌<◌, ◌++◌, ◌-◌, ◌+◌, ℕ, None, Option, Some, length, map, option_map, ap, sym, subst, ◌∙◌, arith}
 use Rattle.std.proofs.lemmas.List.{length-map}
+use Rattle.field_rows.specs.Place.{IsBytes}
 use Rattle.process_packet.specs.Net.{Net, net_of, router_of}
+use Rattle.walk_laws.proofs.ConfiguredLemmas.{net_numbered}
 use Rattle.scmp_answer.specs.Coming as way
 use Rattle.scmp_answer.specs.Stops.{Came, IsStop, came_by, came_to, next_stop, stops_from}
 use Rattle.scmp_answer.specs.declared.walking.Coming.{Coming}
@@ -28,7 +30,7 @@ returns-in-None-clause-delivered c ss p text start =
     let less = c.loop-test.true in
     let none : next_stop net moment here ≡ None =
     ap (λ (m : ℕ). next_stop net m here) (sym c.loop.invariant.moment) ∙ sym c.in_ok-next.ensures.next ∙ ap (option_map way.coming) c.in-None.is in
-    stops_deliver net ss c.args.router c.args.arrival.now p (map came_by c.go_on.new.stops.items) c.requires.agrees text start
+    stops_deliver net ss c.args.router c.args.arrival.now p (map came_by c.go_on.new.stops.items) c.requires.agrees (net_numbered c.args.net.now) (subst IsBytes (ap (λ (x : Came). x.bytes) c.in_ok-coming.ensures.came) c.in_ok-coming.ensures.are) text start
     (all_made net moment 128 c.loop.counter (map came_by c.loop.stops.items) (map came_by c.go_on.new.stops.items) here
     (stops_from net moment 128 (Some (came_to c.args.router c.args.arrival.now))) (omega arith) c.in_ok-next.ensures.came c.loop.invariant.made none)
 
@@ -38,7 +40,7 @@ returns-clause-delivered c ss p text start =
     let moment = c.args.arrival.now.now in
     let over = c.loop-test.false in
     let end : 128 - c.loop.counter ≡ 0 = omega arith in
-    stops_deliver net ss c.args.router c.args.arrival.now p (map came_by c.loop.stops.items) c.requires.agrees text start
+    stops_deliver net ss c.args.router c.args.arrival.now p (map came_by c.loop.stops.items) c.requires.agrees (net_numbered c.args.net.now) (subst IsBytes (ap (λ (x : Came). x.bytes) c.in_ok-coming.ensures.came) c.in_ok-coming.ensures.are) text start
     (sym (append-nil (map came_by c.loop.stops.items))
     ∙ ap (λ (n : ℕ). map came_by c.loop.stops.items ++ stops_from net moment n (Some (way.coming c.loop.coming))) (sym end)
     ∙ c.loop.invariant.made)
