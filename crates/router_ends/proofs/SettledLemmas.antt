@@ -148,7 +148,7 @@ module _ {T : Type 0} where
       (is.count, (λ k e at. let z : 0 + k ≡ k = omega arith in subst (λ (n : ℕ). IsEndOf s n e) z (of_pipe_at used 0 s row is.ends k e at).0), (is.taker.pipe, is.taker.producers, is.taker.capacity))
 
   pub drained : Drains T → StaysEmpty T → (used : Bool) (s : Shape) (row : List (Sender T)) (t : Taker T) → IsEnded used s row t → (held : List (Entry T)) → IsWhole s.capacity row t.taken held → IsDrained s.capacity row t.taken held
-  drained drains stays true s row t is held whole = drains s.capacity row t.taken held whole (λ k e at. (of_pipe_at true 0 s row is.ends k e at).1) (is.taker.taken refl ∙ sym is.count)
+  drained drains stays true s row t is held whole = drains s.capacity row t.taken held whole (λ k e at. (of_pipe_at true 0 s row is.ends k e at).1) (let x = is.taker.taken refl in let y = is.count in omega arith)
   drained drains stays false s row t is held whole = (stays s.capacity row t.taken held whole (λ k e at. (of_pipe_at false 0 s row is.ends k e at).1)).1
 
   pub is_done : Drains T → StaysEmpty T → (used : Bool) (s : Shape) (row : List (Sender T)) (t : Taker T) → IsEnded used s row t → (held : List (Entry T)) × IsWhole s.capacity row t.taken held → IsDone s row t

@@ -1,5 +1,5 @@
 -- The pipes, once their workers have ended.
-use Rattle.std.specs.Prelude.{◌≡◌, ℕ, suc, Bool, true, false, List, [], ◌∷◌, length, slice_get, Some}
+use Rattle.std.specs.Prelude.{◌≡◌, ◌≤◌, ℕ, suc, Bool, true, false, List, [], ◌∷◌, length, slice_get, Some}
 use Rattle.ruled_pipe.specs.declared.entry.Entry.{Entry}
 use Rattle.ruled_pipe.specs.Producer.{Sender}
 use Rattle.ruled_pipe.specs.Consumer.{Taker}
@@ -32,12 +32,12 @@ module _ {T : Type 0} where
   AreOfPipe used p s [] = Unit {0}
   AreOfPipe used p s (e ∷ es) = (IsEndOf s p e × IsFinal used e.offers) × AreOfPipe used (suc p) s es
 
-  -- the consumer of this pipe, which took all its end marks where it is used
+  -- the consumer of this pipe, which took as many end marks as there are producers where it is used
   pub record HasTaken (used : Bool) (s : Shape) (t : Taker T) : Type 0 where
     pub pipe : t.pipe ≡ s.pipe
     pub producers : t.producers ≡ s.producers
     pub capacity : t.capacity ≡ s.capacity
-    pub taken : used ≡ true → ends_in t.taken ≡ s.producers
+    pub taken : used ≡ true → s.producers ≤ ends_in t.taken
 
   -- the consumers of the pipes from number k on, which have n producers each
   abbrev pub AreTaken : (uses : ℕ → Bool) → (k n : ℕ) → List Shape → List (Taker T) → Type 0

@@ -1,0 +1,92 @@
+-- Crews that came back: their pipes have ended.
+use Rattle.std.proofs.Common.{◌≡◌, ℕ, zero, suc, ◌+◌, ◌*◌, Bool, true, false, List, [], ◌∷◌, ◌++◌, map, length, refl, sym, ◌∙◌, ap, subst, arith, length-append}
+use Rattle.std.proofs.lemmas.List.{length-map}
+use Rattle.pipe_order.specs.Item.{Arrival, Outgoing}
+use Rattle.pipe_order.specs.Settled.{Question}
+use Rattle.process_packet.specs.declared.config.Config.{Config}
+use Rattle.ruled_pipe.specs.Producer.{Sender}
+use Rattle.ruled_pipe.specs.Consumer.{Taker}
+use Rattle.router_rules.specs.Links.{link_count}
+use Rattle.router_rules.specs.Rules.{kinds}
+use Rattle.router_stages.specs.Answering.{Answering}
+use Rattle.router_stages.specs.Receiving.{Receiving}
+use Rattle.router_stages.specs.Working.{Working}
+use Rattle.stage_parts.specs.Outlets.{senders}
+use Rattle.router_ends.specs.Handing.{Finishes}
+use Rattle.router_ends.specs.Rows.{Row, rows_of}
+use Rattle.router_ends.specs.Settled.{AreBundles, AreTaken, HasTaken, HaveEnded, IsEnded}
+use Rattle.router_ends.specs.Shutting.{ShuttersFinish, shutter_ends}
+use Rattle.worker_threads.specs.Back.{AreBack}
+use Rattle.run_laws.specs.Crew.{AreAnswering, Crew, IsCrew, Piping, are_used}
+use Rattle.run_laws.specs.Ended.{CrewsEnd, HasMarked, IsBack, PipesEnd, inner_rows, inner_takers, middle_row, middle_takers, outer_rows, takers_of}
+use Rattle.run_laws.proofs.Rows.{A, F, P, R, back_long, inner_bundles, inner_taken, last_bundles, middle_ends, outer_bundles, outer_taken, slow_taken, working_long}
+
+rows_long : {T : Type 0} (bs : List (Row T)) (rows : List (List (Sender T))) → rows_of bs ≡ rows → length bs ≡ length rows
+rows_long bs rows e = sym (length-map bs (λ (r : Row _). r.ends)) ∙ ap length e
+
+module _ (c : Config) (p : Piping) where
+  one_slow : (xs ys : List Answering) → AreAnswering c p xs → AreBack (A c p) xs ys → length ys ≡ 1
+  one_slow [] ys are back = absurd are
+  one_slow (a ∷ b ∷ xs) ys are back = absurd are
+  one_slow (a ∷ []) ys are back = back_long (A c p) (a ∷ []) ys back
+
+  middle_taken : (xs ys : List Answering) (t : Taker (Question kinds)) → AreAnswering c p xs → AreBack (A c p) xs ys → map (λ (a : Answering). a.taker) ys ≡ t ∷ [] → HasTaken true p.middle t
+  middle_taken [] ys t are back same = absurd are
+  middle_taken (a ∷ b ∷ xs) ys t are back same = absurd are
+  middle_taken (a ∷ []) [] t are back same = absurd back
+  middle_taken (a ∷ []) (b ∷ d ∷ ys) t are back same = absurd back.1
+  middle_taken (a ∷ []) (b ∷ []) t are back same = let e : b.taker ≡ t = cc in subst (λ (u : Taker (Question kinds)). HasTaken true p.middle u) e (slow_taken c p a b are back.0)
+
+module _ {S G K : Type 0} (f : Finishes (Arrival kinds)) (g : Finishes (Outgoing kinds)) (h : ShuttersFinish (Outgoing kinds)) (c : Config) (p : Piping) (old new : Crew S G K) (is : IsCrew c p old) (back : IsBack old new) (marked : HasMarked new) where
+  worked : length new.processors ≡ c.processors
+  worked = back_long (P c p) old.processors new.processors back.processors ∙ (working_long c p 0 p.inner old.processors is.processors ∙ is.pipes.processors)
+
+  inner_count : (bs : List (Row (Arrival kinds))) → rows_of bs ≡ inner_rows new → link_count c ≡ length bs
+  inner_count bs same =
+      let a = rows_long bs (inner_rows new) same in
+      let b = length-map new.receivers (λ (r : Receiving S). senders r.side.processors) in
+      let d = back_long (R f c p) old.receivers new.receivers back.receivers in
+      let e = is.receiver_count in
+      omega arith
+
+  outer_count : (bs : List (Row (Outgoing kinds))) → rows_of bs ≡ outer_rows new → c.processors + 2 ≡ length bs
+  outer_count bs same =
+      let links = map (λ (w : Working G). senders w.side.links) new.processors in
+      let slow = map (λ (a : Answering). senders a.side.links) new.slow in
+      let a = rows_long bs (outer_rows new) same in
+      let b = length-map new.processors (λ (w : Working G). senders w.side.links) in
+      let d = length-map new.slow (λ (a : Answering). senders a.side.links) in
+      let e = one_slow c p old.slow new.slow is.slow back.slow in
+      let x = length-append links (slow ++ shutter_ends new.shutters ∷ []) in
+      let y = length-append slow (shutter_ends new.shutters ∷ []) in
+      let z = worked in
+      omega arith
+
+  inner : (bs : List (Row (Arrival kinds))) → rows_of bs ≡ inner_rows new → HaveEnded p.inner bs (inner_takers new)
+  inner bs same = record {
+    uses = λ j. true;
+    theirs = inner_bundles f c p 0 old.receivers new.receivers bs is.receivers back.receivers marked.receivers same;
+    taken = subst (λ (n : ℕ). AreTaken (λ j. true) 0 n p.inner (inner_takers new)) (inner_count bs same) (inner_taken c p 0 (link_count c) 0 p.inner old.processors new.processors is.pipes.inner is.processors back.processors);
+  }
+
+  middle : (t : Taker (Question kinds)) → middle_takers new ≡ t ∷ [] → IsEnded true p.middle (middle_row new) t
+  middle t same = record {
+    count = length-map new.processors (λ (w : Working G). w.slow.sender) ∙ (worked ∙ sym is.pipes.middle);
+    ends = middle_ends c p 0 p.inner old.processors new.processors is.processors back.processors marked.processors;
+    taker = middle_taken c p old.slow new.slow t is.slow back.slow same;
+  }
+
+  last : (cs : List (Row (Outgoing kinds))) → rows_of cs ≡ map (λ (a : Answering). senders a.side.links) new.slow ++ (shutter_ends new.shutters ∷ []) → AreBundles (are_used c) (0 + length p.inner) p.outer cs
+  last cs same =
+      let e : c.processors ≡ 0 + length p.inner = let q = is.pipes.processors in omega arith in
+      subst (λ (m : ℕ). AreBundles (are_used c) m p.outer cs) e (last_bundles c p g h old.slow new.slow old.shutters new.shutters cs is.slow back.slow marked.slow is.shutters back.shutters marked.shutters same)
+
+  outer : (bs : List (Row (Outgoing kinds))) → rows_of bs ≡ outer_rows new → HaveEnded p.outer bs (takers_of new.forwarders)
+  outer bs same = record {
+    uses = are_used c;
+    theirs = outer_bundles c p g 0 p.inner old.processors new.processors (map (λ (a : Answering). senders a.side.links) new.slow ++ (shutter_ends new.shutters ∷ [])) bs is.processors back.processors marked.processors same last;
+    taken = subst (λ (n : ℕ). AreTaken (are_used c) 0 n p.outer (takers_of new.forwarders)) (outer_count bs same) (outer_taken c 0 (c.processors + 2) p.outer old.forwarders new.forwarders is.pipes.outer is.forwarders back.forwarders);
+  }
+
+pub crews_end : {S G K : Type 0} → Finishes (Arrival kinds) → Finishes (Outgoing kinds) → ShuttersFinish (Outgoing kinds) → CrewsEnd S G K
+crews_end f g h c p old new is back marked = record { inner = inner f g h c p old new is back marked; middle = middle f g h c p old new is back marked; outer = outer f g h c p old new is back marked }

@@ -1,0 +1,4 @@
+pub mod Ends
+pub mod Rows
+pub mod Crews
+pub mod Came

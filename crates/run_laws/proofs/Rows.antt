@@ -1,0 +1,213 @@
+-- The pipes of workers that came back have ended.
+use Rattle.std.proofs.Common.{◌≡◌, ℕ, zero, suc, ◌+◌, ◌*◌, ◌≤◌, Bool, true, false, List, [], ◌∷◌, ◌++◌, map, length, Some, slice_get, refl, sym, ◌∙◌, ap, subst, arith}
+use Rattle.pipe_order.specs.Deeds.{Each}
+use Rattle.pipe_order.specs.Item.{Arrival, Outgoing}
+use Rattle.pipe_order.specs.Settled.{Question}
+use Rattle.process_packet.specs.declared.config.Config.{Config}
+use Rattle.ruled_pipe.specs.Producer.{Sender}
+use Rattle.ruled_pipe.specs.Consumer.{Taker}
+use Rattle.ruled_pipe.specs.Pipe.{Shape, IsEndOf}
+use Rattle.ruled_pipe.specs.Gathered.{EndsWithMark, ends_in}
+use Rattle.router_rules.specs.Links.{has_two_bands, interface_at, link_count}
+use Rattle.router_rules.specs.Rules.{kinds}
+use Rattle.router_laws.specs.Returned.{AllAt}
+use Rattle.router_stages.specs.Answering.{Answering}
+use Rattle.router_stages.specs.Exits.{is_used}
+use Rattle.router_stages.specs.Forwarding.{Band, Forwarding, IsOver}
+use Rattle.router_stages.specs.Receiving.{Receiving}
+use Rattle.router_stages.specs.Working.{Working}
+use Rattle.stage_parts.specs.Outlet.{IsMarked, Offering}
+use Rattle.stage_parts.specs.Outlets.{senders}
+use Rattle.stage_parts.specs.Outlets as outlets
+use Rattle.router_ends.specs.Handing.{AreMarked, AreSpared, Finishes}
+use Rattle.router_ends.specs.Rows.{AreEndsOf, AreFor, Row, rows_of}
+use Rattle.router_ends.specs.Settled.{AreBundles, AreFinished, AreOfPipe, AreTaken, HasTaken, HaveEnded, IsEnded, IsFinal}
+use Rattle.router_ends.specs.Shutting.{AreMarking, AreShutters, EachEnds, Shutting, ShuttersFinish, shutter_ends}
+use Rattle.worker_threads.specs.Back.{AreBack}
+use Rattle.worker_threads.specs.Same.{AreSameEnds, IsSameTaker}
+use Rattle.worker_threads.specs.Workers.{IsSameReceiver, ReceiverEnded, IsSameProcessor, ProcessorEnded, IsSameSlowPath, SlowPathEnded, IsSameForwarder, ForwarderEnded}
+use Rattle.run_laws.specs.Crew.{Crew, IsCrew, IsPiping, Piping, IsReceivingAt, IsWorkingAt, AreWorking, IsAnsweringAt, AreAnswering, IsForwardingAt, AreForwarding, IsTakerOf, are_used}
+use Rattle.run_laws.specs.Ended.{CrewsEnd, IsBack, HasMarked, PipesEnd, inner_rows, inner_takers, middle_row, middle_takers, outer_rows, takers_of}
+use Rattle.run_laws.proofs.Ends.{same_ends, spared, used_low, used_high}
+
+module _ {X Y : Type 0} where
+  pub back_long : (R : X → Y → Type 0) (xs : List X) (ys : List Y) → AreBack R xs ys → length ys ≡ length xs
+  back_long R [] [] b = refl
+  back_long R [] (y ∷ ys) b = absurd b
+  back_long R (x ∷ xs) [] b = absurd b
+  back_long R (x ∷ xs) (y ∷ ys) b = let r = back_long R xs ys b.1 in omega arith
+
+all_picked : {T : Type 0} (es : List (Sender T)) → AreSpared (λ j. true) es
+all_picked es j s at off = absurd cc
+
+taken_of : {T : Type 0} (s : Shape) (a b : Taker T) → IsTakerOf s a → IsSameTaker a b → IsTakerOf s b
+taken_of s a b is same = (same.0 ∙ is.0, same.1 ∙ is.1, same.2 ∙ is.2)
+
+has_taken : {T : Type 0} (used : Bool) (s : Shape) (t : Taker T) → IsTakerOf s t → (used ≡ true → t.producers ≤ ends_in t.taken) → HasTaken used s t
+has_taken used s t is all = record { pipe = is.0; producers = is.1; capacity = is.2; taken = λ u. let a = all u in let b = is.1 in omega arith }
+
+-- ---- receivers and processors' pipes
+
+module _ {S : Type 0} (finishes : Finishes (Arrival kinds)) (c : Config) (p : Piping) where
+  abbrev pub R : Receiving S → Receiving S → Type 0
+  R a b = IsSameReceiver a b × ReceiverEnded b
+
+  receiver_finished : (n : ℕ) (a b : Receiving S) → IsReceivingAt c p n a → R a b → AreMarked b.side.processors → AreFinished (λ j. true) 0 n p.inner (senders b.side.processors)
+  receiver_finished n a b is back marked =
+      finishes (λ j. true) n p.inner b.side.processors (same_ends (λ j. true) n p.inner a.side.processors b.side.processors back.0.processors is.processors) marked back.1.processors (all_picked (senders b.side.processors))
+
+  pub inner_bundles : (n : ℕ) (xs ys : List (Receiving S)) (bs : List (Row (Arrival kinds))) → AllAt (IsReceivingAt c p) n xs → AreBack R xs ys → Each (λ (r : Receiving S). AreMarked r.side.processors) ys
+      → rows_of bs ≡ map (λ (r : Receiving S). senders r.side.processors) ys → AreBundles (λ j. true) n p.inner bs
+  inner_bundles n [] [] [] all back marked same = tt
+  inner_bundles n [] [] (b ∷ bs) all back marked same = absurd cc
+  inner_bundles n [] (y ∷ ys) bs all back marked same = absurd back
+  inner_bundles n (x ∷ xs) [] bs all back marked same = absurd back
+  inner_bundles n (x ∷ xs) (y ∷ ys) [] all back marked same = absurd cc
+  inner_bundles n (x ∷ xs) (y ∷ ys) (b ∷ bs) all back marked same =
+      let head : b.ends ≡ senders y.side.processors = cc in
+      let rest : rows_of bs ≡ map (λ (r : Receiving S). senders r.side.processors) ys = cc in
+      let next : n + 1 ≡ suc n = omega arith in
+      (subst (λ (es : List (Sender (Arrival kinds))). AreFinished (λ j. true) 0 n p.inner es) (sym head) (receiver_finished n x y all.0 back.0 marked.0),
+       subst (λ (m : ℕ). AreBundles (λ j. true) m p.inner bs) next (inner_bundles (n + 1) xs ys bs all.1 back.1 marked.1 rest))
+
+module _ {G : Type 0} (c : Config) (p : Piping) where
+  abbrev pub P : Working G → Working G → Type 0
+  P a b = IsSameProcessor a b × ProcessorEnded b
+
+  processor_taken : (i : ℕ) (s : Shape) (a b : Working G) → IsWorkingAt c p i s a → P a b → HasTaken true s b.taker
+  processor_taken i s a b is back = has_taken true s b.taker (taken_of s a.taker b.taker is.taker back.0.taker) (λ u. let d = back.1.done in omega arith)
+
+  pub inner_taken : (k n i : ℕ) (ss : List Shape) (xs ys : List (Working G)) → AreFor n ss → AreWorking c p i ss xs → AreBack P xs ys → AreTaken (λ j. true) k n ss (map (λ (w : Working G). w.taker) ys)
+  inner_taken k n i [] [] [] for are back = tt
+  inner_taken k n i [] [] (y ∷ ys) for are back = absurd back
+  inner_taken k n i [] (x ∷ xs) ys for are back = absurd are
+  inner_taken k n i (s ∷ ss) [] ys for are back = absurd are
+  inner_taken k n i (s ∷ ss) (x ∷ xs) [] for are back = absurd back
+  inner_taken k n i (s ∷ ss) (x ∷ xs) (y ∷ ys) for are back = ((for.0, processor_taken i s x y are.0 back.0), inner_taken (suc k) n (i + 1) ss xs ys for.1 are.1 back.1)
+
+  slow_ended : (i : ℕ) (s : Shape) (a b : Working G) → IsWorkingAt c p i s a → P a b → IsMarked b.slow.sender b.slow.ended → IsEndOf p.middle i b.slow.sender × IsFinal true b.slow.sender.offers
+  slow_ended i s a b is back marked =
+      let same = back.0.slow in let e = is.slow in
+      ((same.0 ∙ e.0, same.1 ∙ e.1, same.2 ∙ e.2, same.3 ∙ e.3), marked.there back.1.slow)
+
+  pub middle_ends : (i : ℕ) (ss : List Shape) (xs ys : List (Working G)) → AreWorking c p i ss xs → AreBack P xs ys → Each (λ (w : Working G). AreMarked w.side.links × IsMarked w.slow.sender w.slow.ended) ys
+      → AreOfPipe true i p.middle (map (λ (w : Working G). w.slow.sender) ys)
+  middle_ends i [] [] [] are back marked = tt
+  middle_ends i [] [] (y ∷ ys) are back marked = absurd back
+  middle_ends i [] (x ∷ xs) ys are back marked = absurd are
+  middle_ends i (s ∷ ss) [] ys are back marked = absurd are
+  middle_ends i (s ∷ ss) (x ∷ xs) [] are back marked = absurd back
+  middle_ends i (s ∷ ss) (x ∷ xs) (y ∷ ys) are back marked =
+      let next : i + 1 ≡ suc i = omega arith in
+      (slow_ended i s x y are.0 back.0 marked.0.1, subst (λ (m : ℕ). AreOfPipe true m p.middle (map (λ (w : Working G). w.slow.sender) ys)) next (middle_ends (i + 1) ss xs ys are.1 back.1 marked.1))
+
+  pub working_long : (i : ℕ) (ss : List Shape) (xs : List (Working G)) → AreWorking c p i ss xs → length xs ≡ length ss
+  working_long i [] [] are = refl
+  working_long i [] (x ∷ xs) are = absurd are
+  working_long i (s ∷ ss) [] are = absurd are
+  working_long i (s ∷ ss) (x ∷ xs) are = let r = working_long (i + 1) ss xs are.1 in omega arith
+
+  -- a processor's ends of the links' pipes
+  processor_finished : Finishes (Outgoing kinds) → (i : ℕ) (s : Shape) (a b : Working G) → IsWorkingAt c p i s a → P a b → AreMarked b.side.links → AreFinished (are_used c) 0 i p.outer (senders b.side.links)
+  processor_finished finishes i s a b is back marked =
+      let old : a.side.config ≡ c = is.config in
+      let new : b.side.config ≡ c = back.0.config ∙ is.config in
+      let same = subst (λ (d : Config). AreSameEnds (are_used d) a.side.links b.side.links) old back.0.links in
+      finishes (are_used c) i p.outer b.side.links
+      (same_ends (are_used c) i p.outer a.side.links b.side.links same is.links)
+      marked
+      (subst (λ (d : Config). outlets.HaveEnded (are_used d) b.side.links) new back.1.links)
+      (spared (are_used c) a.side.links b.side.links same is.fresh)
+
+  abbrev links_of : List (Working G) → List (List (Sender (Outgoing kinds)))
+  links_of ws = map (λ (w : Working G). senders w.side.links) ws
+
+  -- the bundles of the processors from number i on, and of those behind them
+  pub outer_bundles : Finishes (Outgoing kinds) → (i : ℕ) (ss : List Shape) (xs ys : List (Working G)) (tail : List (List (Sender (Outgoing kinds)))) (bs : List (Row (Outgoing kinds)))
+      → AreWorking c p i ss xs → AreBack P xs ys → Each (λ (w : Working G). AreMarked w.side.links × IsMarked w.slow.sender w.slow.ended) ys
+      → rows_of bs ≡ links_of ys ++ tail
+      → ((cs : List (Row (Outgoing kinds))) → rows_of cs ≡ tail → AreBundles (are_used c) (i + length ss) p.outer cs)
+      → AreBundles (are_used c) i p.outer bs
+  outer_bundles f i [] [] [] tail bs are back marked same rest = let e : i + 0 ≡ i = omega arith in subst (λ (m : ℕ). AreBundles (are_used c) m p.outer bs) e (rest bs same)
+  outer_bundles f i [] [] (y ∷ ys) tail bs are back marked same rest = absurd back
+  outer_bundles f i [] (x ∷ xs) ys tail bs are back marked same rest = absurd are
+  outer_bundles f i (s ∷ ss) [] ys tail bs are back marked same rest = absurd are
+  outer_bundles f i (s ∷ ss) (x ∷ xs) [] tail bs are back marked same rest = absurd back
+  outer_bundles f i (s ∷ ss) (x ∷ xs) (y ∷ ys) tail [] are back marked same rest = absurd cc
+  outer_bundles f i (s ∷ ss) (x ∷ xs) (y ∷ ys) tail (b ∷ bs) are back marked same rest =
+      let head : b.ends ≡ senders y.side.links = cc in
+      let others : rows_of bs ≡ links_of ys ++ tail = cc in
+      let next : i + 1 ≡ suc i = omega arith in
+      let far : i + suc (length ss) ≡ (i + 1) + length ss = omega arith in
+      (subst (λ (es : List (Sender (Outgoing kinds))). AreFinished (are_used c) 0 i p.outer es) (sym head) (processor_finished f i s x y are.0 back.0 marked.0.0),
+       subst (λ (m : ℕ). AreBundles (are_used c) m p.outer bs) next
+         (outer_bundles f (i + 1) ss xs ys tail bs are.1 back.1 marked.1 others (λ cs e. subst (λ (m : ℕ). AreBundles (are_used c) m p.outer cs) far (rest cs e))))
+
+-- ---- the slow path and the controller
+
+module _ (c : Config) (p : Piping) where
+  abbrev pub A : Answering → Answering → Type 0
+  A a b = IsSameSlowPath a b × SlowPathEnded b
+
+  slow_finished : Finishes (Outgoing kinds) → (a b : Answering) → IsAnsweringAt c p a → A a b → AreMarked b.side.links → AreFinished (are_used c) 0 c.processors p.outer (senders b.side.links)
+  slow_finished finishes a b is back marked =
+      let old : a.side.config ≡ c = is.config in
+      let new : b.side.config ≡ c = back.0.config ∙ is.config in
+      let same = subst (λ (d : Config). AreSameEnds (are_used d) a.side.links b.side.links) old back.0.links in
+      finishes (are_used c) c.processors p.outer b.side.links
+      (same_ends (are_used c) c.processors p.outer a.side.links b.side.links same is.links)
+      marked
+      (subst (λ (d : Config). outlets.HaveEnded (are_used d) b.side.links) new back.1.links)
+      (spared (are_used c) a.side.links b.side.links same is.fresh)
+
+  pub slow_taken : (a b : Answering) → IsAnsweringAt c p a → A a b → HasTaken true p.middle b.taker
+  slow_taken a b is back = has_taken true p.middle b.taker (taken_of p.middle a.taker b.taker is.taker back.0.taker) (λ u. let d = back.1.done in omega arith)
+
+  -- their bundles are the last two
+  pub last_bundles : Finishes (Outgoing kinds) → ShuttersFinish (Outgoing kinds) → (xs ys : List Answering) (hs ks : List (Shutting (Outgoing kinds))) (rows : List (Row (Outgoing kinds)))
+      → AreAnswering c p xs → AreBack A xs ys → Each (λ (a : Answering). AreMarked a.side.links) ys → AreShutters (are_used c) 0 (c.processors + 1) p.outer hs → EachEnds hs ks → AreMarking ks
+      → rows_of rows ≡ map (λ (a : Answering). senders a.side.links) ys ++ (shutter_ends ks ∷ []) → AreBundles (are_used c) c.processors p.outer rows
+  last_bundles f g [] ys hs ks rows are back marked shut ends marking same = absurd are
+  last_bundles f g (a ∷ b ∷ xs) ys hs ks rows are back marked shut ends marking same = absurd are
+  last_bundles f g (a ∷ []) [] hs ks rows are back marked shut ends marking same = absurd back
+  last_bundles f g (a ∷ []) (b ∷ d ∷ ys) hs ks rows are back marked shut ends marking same = absurd back.1
+  last_bundles f g (a ∷ []) (b ∷ []) hs ks [] are back marked shut ends marking same = absurd cc
+  last_bundles f g (a ∷ []) (b ∷ []) hs ks (r ∷ []) are back marked shut ends marking same = absurd cc
+  last_bundles f g (a ∷ []) (b ∷ []) hs ks (r ∷ s ∷ t ∷ rows) are back marked shut ends marking same = absurd cc
+  last_bundles f g (a ∷ []) (b ∷ []) hs ks (r ∷ s ∷ []) are back marked shut ends marking same =
+      let first : r.ends ≡ senders b.side.links = cc in
+      let second : s.ends ≡ shutter_ends ks = cc in
+      let next : c.processors + 1 ≡ suc c.processors = omega arith in
+      (subst (λ (es : List (Sender (Outgoing kinds))). AreFinished (are_used c) 0 c.processors p.outer es) (sym first) (slow_finished f a b are back.0 marked.0),
+       (subst (λ (es : List (Sender (Outgoing kinds))). AreFinished (are_used c) 0 (suc c.processors) p.outer es) (sym second)
+          (subst (λ (m : ℕ). AreFinished (are_used c) 0 m p.outer (shutter_ends ks)) next (g (are_used c) (c.processors + 1) p.outer hs ks shut ends marking)),
+        tt))
+
+-- ---- forwarders
+
+module _ {K : Type 0} (c : Config) where
+  abbrev pub F : Forwarding K → Forwarding K → Type 0
+  F a b = IsSameForwarder a b × ForwarderEnded b
+
+  low_taken : (l : ℕ) (low high : Shape) (a b : Forwarding K) → IsForwardingAt c l low high a → F a b → HasTaken (are_used c (2 * l)) low b.low.taker
+  low_taken l low high a b is back = has_taken (are_used c (2 * l)) low b.low.taker (taken_of low a.low.taker b.low.taker is.low back.0.low) (λ u. back.1.0)
+
+  high_taken : (l : ℕ) (low high : Shape) (a b : Forwarding K) → IsForwardingAt c l low high a → F a b → HasTaken (are_used c (suc (2 * l))) high b.high.taker
+  high_taken l low high a b is back =
+      let config : b.side.config ≡ c = back.0.config ∙ is.config in
+      let link : b.link ≡ l = back.0.link ∙ is.link in
+      let next : 2 * l + 1 ≡ suc (2 * l) = omega arith in
+      has_taken (are_used c (suc (2 * l))) high b.high.taker (taken_of high a.high.taker b.high.taker is.high back.0.high)
+      (λ u. back.1.1 (ap (λ (d : Config). has_two_bands d b.link) config ∙ (ap (has_two_bands c) link ∙ (sym (used_high (has_two_bands c) l) ∙ (ap (are_used c) next ∙ u)))))
+
+  pub outer_taken : (l n : ℕ) (ss : List Shape) (xs ys : List (Forwarding K)) → AreFor n ss → AreForwarding c l ss xs → AreBack F xs ys → AreTaken (are_used c) (2 * l) n ss (takers_of ys)
+  outer_taken l n [] [] [] for are back = tt
+  outer_taken l n [] [] (y ∷ ys) for are back = absurd back
+  outer_taken l n [] (x ∷ xs) ys for are back = absurd are
+  outer_taken l n (s ∷ []) xs ys for are back = absurd are
+  outer_taken l n (low ∷ high ∷ ss) [] ys for are back = absurd are
+  outer_taken l n (low ∷ high ∷ ss) (x ∷ xs) [] for are back = absurd back
+  outer_taken l n (low ∷ high ∷ ss) (x ∷ xs) (y ∷ ys) for are back =
+      let next : 2 * (l + 1) ≡ suc (suc (2 * l)) = omega arith in
+      ((for.0, low_taken l low high x y are.0 back.0), ((for.1.0, high_taken l low high x y are.0 back.0),
+        subst (λ (k : ℕ). AreTaken (are_used c) k n ss (takers_of ys)) next (outer_taken (l + 1) n ss xs ys for.1.1 are.1 back.1)))

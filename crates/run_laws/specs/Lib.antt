@@ -1,0 +1,3 @@
+pub mod Crew
+pub mod Ended
+pub mod Came
