@@ -22,5 +22,6 @@ mod worked_tests;
 
 pub use answers::answer_line;
 pub use fault::LinesFault;
+pub use lines::{next_line, send};
 pub use replay::replay_lines;
 pub use route::route_lines;

@@ -5,13 +5,14 @@ ghost use Rattle.std.specs.IoError.{error_kind};
 ghost use Rattle.std.specs.declared.io.ErrorKind.TheVariants.{OutOfMemory};
 ghost use Rattle.std.specs.Io.BufRead.{drop_through, first_piece};
 ghost use Rattle.std.specs.Io.KnownBytes.{Appends};
+ghost use Rattle.router_engine.specs.ReplayParts.{IsCut, Same, left_of, lines_in};
 ghost use Rattle.router_engine.specs.declared.fault.LinesFault.TheVariants as faults;
 
 use crate::fault::LinesFault;
 use std::io::{self, BufRead, Write};
 
 /// Writes all of the text, or a beginning of it where the writer fails, and hands it on at once.
-pub(crate) fn send<W: Write>(writer: &mut W, text: &[u8]) -> Result<(), LinesFault>
+pub fn send<W: Write>(writer: &mut W, text: &[u8]) -> Result<(), LinesFault>
     ensures ok { OnOk result (Appends (W.contents writer.old) (W.contents writer.new) text.now) }
     ensures begins { (k : ℕ) × Appends (W.contents writer.old) (W.contents writer.new) (take k text.now) }
     ensures err { IfErr result (λ e. e ≡ faults.Output) }
@@ -37,7 +38,7 @@ pub(crate) fn is_memory(error: &io::Error) -> bool
     error.kind() == io::ErrorKind::OutOfMemory
 }
 
-/// Replaces the line with the next one, without its end; false where nothing is left.
+/// The same, by the reader's own error.
 pub(crate) fn read_line<R: BufRead>(reader: &mut R, line: &mut Vec<u8>) -> io::Result<bool>
     ensures end { IfOk result (λ more. OnFalse more (IfSome (R.remaining reader.old) (λ input. input ≡ []))) }
     ensures line { IfOk result (λ more. OnTrue more (IfSome (R.remaining reader.old) (λ input.
@@ -51,4 +52,17 @@ pub(crate) fn read_line<R: BufRead>(reader: &mut R, line: &mut Vec<u8>) -> io::R
         line.pop();
     }
     Ok(true)
+}
+
+/// Replaces the line with the next one, without its end; false where nothing is left.
+pub fn next_line<R: BufRead>(reader: &mut R, line: &mut Vec<u8>) -> Result<bool, LinesFault>
+    ensures lines { IfOk result (λ more.
+        Same (lines_in (R.remaining reader.old)) (left_of more line.new.items (R.remaining reader.new))) }
+    ensures fault { IfErr result (λ e. IsCut e) }
+{
+    match read_line(reader, line) {
+        Ok(more) => Ok(more),
+        Err(error) if is_memory(&error) => Err(LinesFault::Memory),
+        Err(_) => Err(LinesFault::Input),
+    }
 }

@@ -7,7 +7,7 @@ ghost use Rattle.router_engine.specs.Replay.{Replayed};
 ghost use Rattle.router_engine.specs.ReplayParts.{Acted, IsCut, IsFront, Ran, Same, left_of, lines_in};
 
 use crate::fault::LinesFault;
-use crate::lines::{is_memory, read_line, send};
+use crate::lines::{next_line, send};
 use pipe_model::{StepFault, World};
 use process_packet::{Arrival, Config};
 use router_lines::{
@@ -24,19 +24,6 @@ struct Front {
     number: u64,
     /// Whether there was one.
     more: bool,
-}
-
-/// Replaces the line with the next one; false where nothing is left.
-fn next_line<R: BufRead>(reader: &mut R, line: &mut Vec<u8>) -> Result<bool, LinesFault>
-    ensures lines { IfOk result (λ more.
-        Same (lines_in (R.remaining reader.old)) (left_of more line.new.items (R.remaining reader.new))) }
-    ensures fault { IfErr result (λ e. IsCut e) }
-{
-    match read_line(reader, line) {
-        Ok(more) => Ok(more),
-        Err(error) if is_memory(&error) => Err(LinesFault::Memory),
-        Err(_) => Err(LinesFault::Input),
-    }
 }
 
 /// Gathers what the lines in front tell of, up to the first line that tells of nothing that arrives,

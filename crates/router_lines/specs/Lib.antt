@@ -6,3 +6,6 @@ pub mod StepLine
 pub mod ArriveLine
 pub mod Gathered
 pub mod Report
+pub mod Command
+pub mod Closing
+pub mod RunReport

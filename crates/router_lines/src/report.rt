@@ -50,7 +50,7 @@ fn push_link(text: &mut Vec<u8>, link: u16, sent: &[(Outgoing, Bytes)]) -> Resul
 }
 
 /// Adds a line of a name and a count.
-fn push_count(text: &mut Vec<u8>, name: &[u8], count: u128) -> Result<(), AllocError>
+pub(crate) fn push_count(text: &mut Vec<u8>, name: &[u8], count: u128) -> Result<(), AllocError>
     ensures { OnOk result (text.new.items ≡ text.old.items ++ count_text name.now count) }
 {
     text.extend_from_slice(name)?;
@@ -84,7 +84,7 @@ fn push_drop_line(text: &mut Vec<u8>, cause: usize, count: u128) -> Result<(), A
 }
 
 /// Adds the lines of the causes that something was dropped for.
-fn push_drops(text: &mut Vec<u8>, dropped: &[u128; 18]) -> Result<(), AllocError>
+pub(crate) fn push_drops(text: &mut Vec<u8>, dropped: &[u128; 18]) -> Result<(), AllocError>
     ensures { OnOk result (text.new.items ≡ text.old.items ++ drops_text 1 dropped.now) }
 {
     for (index, count) in dropped.iter().enumerate() {

@@ -1,0 +1,12 @@
+use Rattle.std.proofs.Common.{◌≡◌, ℕ, ◌++◌, rules, arith, ap, ◌∙◌, refl}
+use Rattle.std.specs.List.{flat_map, range_with_len}
+use Rattle.router_lines.specs.RunReport.{sent_line}
+use Rattle.router_lines.proofs.ReportLemmas.{one_more_line}
+use Rattle.router_lines.proofs.run_report.push_all_sent.Goals as goal
+
+pub loop-index-preserved : goal.loop-index-preserved
+loop-index-preserved c =
+    let f = sent_line c.args.links.now c.args.sent.now in
+    let wrote : c.push_sent.new.text.items ≡ c.loop-index.text.items ++ f c.loop-index.index = search rules in
+    one_more_line f c.args.text.now.items c.loop-index.text.items c.push_sent.new.text.items (f c.loop-index.index) c.loop-index.index
+    c.loop-index.invariant refl wrote
