@@ -3,6 +3,7 @@
 #![tactic(auto)]
 
 mod buffer;
+mod event;
 mod gate;
 mod inlet;
 mod list_sink;
@@ -19,6 +20,7 @@ mod source;
 mod tests;
 
 pub use buffer::{Buffer, ROOM};
+pub use event::Event;
 pub use gate::Gate;
 pub use inlet::Inlet;
 pub use list_sink::{ListSink, Sent};

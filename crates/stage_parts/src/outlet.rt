@@ -3,15 +3,18 @@
 ghost use Rattle.std.specs.Prelude.{◌≡◌, [], false, true, MatchResult};
 ghost use Rattle.stage_parts.specs.Outlet.{IsMarked, Tried, gave, kept};
 
+use crate::event::{Event, notify_where};
 use ruled_pipe::{Full, Mark, Producer};
 use std::marker::Model;
 use std::sync::Wait;
 
-/// A producer that pushes its end mark once, after all that it offers, and never closes a pipe.
+/// A producer that pushes its end mark once, after all that it offers, and never closes a pipe. It
+/// notifies an event after each push that was accepted, where it has one.
 #[derive(Drop)]
 pub struct Outlet<T> {
     producer: Producer<T>,
     ended: bool,
+    event: Option<Event>,
 }
 
 impl<T> Model for Outlet<T> {
@@ -33,7 +36,15 @@ impl<T: Drop> Outlet<T> {
         Outlet {
             producer,
             ended: false,
+            event: None,
         }
+    }
+
+    /// From now on a push that is accepted notifies this event.
+    pub fn set_event(&mut self, event: Event)
+        ensures { self.new ≡ self.old }
+    {
+        self.event = Some(event);
     }
 
     /// Whether its end mark is there.
@@ -48,7 +59,9 @@ impl<T: Drop> Outlet<T> {
         requires { self.old.ended ≡ false }
         ensures { MatchResult result (λ _. self.new ≡ gave self.old item) (λ full. (full.0 ≡ item) × (self.new ≡ kept self.old item)) }
     {
-        self.producer.offer(rt, item)
+        let answer = self.producer.offer(rt, item);
+        notify_where(&self.event, answer.is_ok());
+        answer
     }
 
     /// Tries its end mark where it is still owed, and says whether it is there now.
@@ -62,6 +75,7 @@ impl<T: Drop> Outlet<T> {
         match self.producer.mark(rt, Mark::End) {
             Ok(()) => {
                 self.ended = true;
+                notify_where(&self.event, true);
                 true
             }
             Err(_) => false,
@@ -74,7 +88,11 @@ impl<T: Drop> Outlet<T> {
         ensures same { result ≡ self.sender }
         ensures marks { IsMarked result self.ended }
     {
-        let Outlet { producer, ended: _ } = self;
+        let Outlet {
+            producer,
+            ended: _,
+            event: _,
+        } = self;
         producer
     }
 }

@@ -5,4 +5,4 @@ use Rattle.stage_parts.proofs.outlet.Outlet.offer.Goals as goal
 
 pub invariant_of-self : goal.invariant_of-self
 invariant_of-self g c =
-    marked_either c.offer.result c.self.inside.producer c.offer.new.self c.args.item c.self.inside.ended (ap (λ (o : Offering g.row.T.Denot). o.ended) c.self.view_is ∙ c.requires) c.self.invariant c.offer.ensures.step
+    marked_either c.offer-answer.result c.self.inside.producer c.offer-answer.new.self c.args.item c.self.inside.ended (ap (λ (o : Offering g.row.T.Denot). o.ended) c.self.view_is ∙ c.requires) c.self.invariant c.offer-answer.ensures.step
