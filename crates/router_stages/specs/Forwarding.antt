@@ -127,6 +127,10 @@ module _ {K : Type 0} where
   abbrev pub HasEnded : Forwarding K → Type 0
   HasEnded f = IsOver f.low × (is_two f ≡ true → IsOver f.high)
 
+  -- an end mark is still to come, and the sink can be asked
+  abbrev pub AwaitsPush : (K → ℕ) → Forwarding K → Type 0
+  AwaitsPush failed f = (HasEnded f → ⊥) × (failed f.side.sink < 2 ^ 64 - 1)
+
   abbrev pub with_share : Held → Delivery K → Delivery K
   with_share share d = record { config = d.config; sink = d.sink; free = d.free; share = share }
 

@@ -71,6 +71,10 @@ module _ {G : Type 0} where
   abbrev pub IsDone : Working G → Type 0
   IsDone w = ends_in w.taker.taken ≡ w.taker.producers
 
+  -- nothing is in its hand, and an end mark is still to come
+  abbrev pub AwaitsPush : Working G → Type 0
+  AwaitsPush w = (w.hand ≡ None) × (ends_in w.taker.taken < w.taker.producers)
+
   -- it tries the end marks that it owes, and nothing else
   abbrev pub EndsWorking : Turn → Working G → Working G → Type 0
   EndsWorking turn old new =

@@ -6,7 +6,7 @@ ghost use Rattle.packet_ledger.specs.Share.{HasRoom, new_share};
 ghost use Rattle.router_laws.specs.Heard.{ToldNothing};
 ghost use Rattle.router_laws.specs.Keeping.{IsForwarding};
 ghost use Rattle.router_rules.specs.Links.{link_count};
-ghost use Rattle.router_stages.specs.Forwarding.{Forwarded, HasEnded, first_delivery, first_forwarding, posted};
+ghost use Rattle.router_stages.specs.Forwarding.{AwaitsPush, Forwarded, HasEnded, first_delivery, first_forwarding, posted};
 ghost use Rattle.stage_parts.specs.Told.{told_of};
 
 use crate::band::Band;
@@ -100,6 +100,17 @@ impl<N: Router, R: Wait + Copy, K: Sink> Forwarder<N, R, K> {
             return true;
         }
         self.high.is_over()
+    }
+
+    /// Whether its next turn can only do something once there is a push into its pipes: an end mark is
+    /// still to come, and the sink can be asked.
+    pub fn awaits_push(&self) -> bool
+        ensures { MatchBool result (AwaitsPush K.failed self.now) (AwaitsPush K.failed self.now → ⊥) }
+    {
+        if self.is_over() {
+            return false;
+        }
+        self.delivery.failures() != u64::MAX
     }
 
     /// Takes one entry of the high band's pipe, or, where that was seen empty, of the low one's. A sink

@@ -5,7 +5,7 @@ ghost use Rattle.std.specs.Arc.{arc_value};
 ghost use Rattle.packet_ledger.specs.Share.{HasRoom, new_share};
 ghost use Rattle.router_laws.specs.Keeping.{IsWorking};
 ghost use Rattle.router_stages.specs.Receiving.{ending};
-ghost use Rattle.router_stages.specs.Working.{EndsWorking, IsDone, Worked, WorksFor, first_leaving, first_working, posted};
+ghost use Rattle.router_stages.specs.Working.{AwaitsPush, EndsWorking, IsDone, Worked, WorksFor, first_leaving, first_working, posted};
 ghost use Rattle.router_rules.specs.Links.{link_count};
 ghost use Rattle.stage_parts.specs.Outlets.{AreFresh, senders};
 
@@ -115,6 +115,14 @@ impl<N: Router, R: Wait + Copy, G: Gate + Drop> Processor<N, R, G> {
                 self.work()
             }
         }
+    }
+
+    /// Whether its next turn can only do something once there is a push into its pipe: nothing is in its
+    /// hand, and an end mark is still to come.
+    pub fn awaits_push(&self) -> bool
+        ensures { MatchBool result (AwaitsPush self.now) (AwaitsPush self.now → ⊥) }
+    {
+        self.hand.is_none() && !self.from.is_done()
     }
 
     // Passes on the packet in hand, where the gate admits it.

@@ -5,6 +5,7 @@ ghost use Rattle.std.specs.Arc.{arc_value};
 ghost use Rattle.packet_ledger.specs.Share.{HasRoom, MayRaise, new_share};
 ghost use Rattle.router_laws.specs.Keeping.{IsAnswering};
 ghost use Rattle.router_rules.specs.Links.{link_count};
+ghost use Rattle.ruled_pipe.specs.Gathered.{ends_in};
 ghost use Rattle.router_stages.specs.Answering.{Answered, EndsAnswering, IsDone, RepliedTo, first_answering, posted};
 ghost use Rattle.router_stages.specs.Working.{first_leaving};
 ghost use Rattle.stage_parts.specs.Outlets.{AreFresh, AreOpen, senders};
@@ -106,6 +107,14 @@ impl<N: Router, R: Wait + Copy> SlowPath<N, R> {
                 Turn::Did
             }
         }
+    }
+
+    /// Whether its next turn can only do something once there is a push into its pipe: an end mark is
+    /// still to come.
+    pub fn awaits_push(&self) -> bool
+        ensures { MatchBool result (ends_in self.now.taker.taken < self.now.taker.producers) (IsDone self.now) }
+    {
+        !self.from.is_done()
     }
 
     // Tries the end marks that are owed.
