@@ -24,6 +24,10 @@ impl<N: Router, R: Wait + Copy, K: Sink> Work<N> for Forwarder<N, R, K> {
         self.turn()
     }
 
+    fn awaits_push(&self) -> bool {
+        self.awaits_push()
+    }
+
     fn wait(&mut self) -> bool {
         false
     }

@@ -53,6 +53,11 @@ impl Idle {
     }
 }
 
+// The shortest nap.
+pub(crate) fn nap<R: Clock>(rt: &R) {
+    thread::sleep(rt, Duration::from_micros(1));
+}
+
 // The length of the nap after so many, in microseconds.
 fn length_of(naps: u32) -> u64 {
     if naps < SHORT_NAPS {

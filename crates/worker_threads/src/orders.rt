@@ -4,6 +4,7 @@ ghost use Rattle.std.specs.Prelude.{◌≡◌};
 
 use packet_ledger::{Book, Ledger};
 use router_stages::STOP;
+use stage_parts::Event;
 use std::alloc::{AllocError, Global};
 use std::sync::Arc;
 use std::sync::atomic::{AtomicU64, Ordering};
@@ -16,20 +17,39 @@ pub const RUN: u64 = 2;
 
 pub const GIVE_UP: u64 = 3;
 
-/// The word that tells the threads what to do, which the receivers also read, and the book into which
-/// workers post.
+/// The word that tells the threads what to do, which the receivers also read, the book into which
+/// workers post, and for a thread the event that is notified of pushes into its worker's pipes.
 #[derive(Drop)]
 pub struct Orders<N: Ledger> {
     pub word: Arc<AtomicU64, Global>,
     pub book: Arc<Book<N>, Global>,
+    pub event: Option<Event>,
 }
 
 impl<N: Ledger> Orders<N> {
-    /// The same orders, for one thread more. It takes no memory; it fails where there are too many.
+    /// Orders by a word that says `HOLD`.
+    pub fn new(word: Arc<AtomicU64, Global>, book: Arc<Book<N>, Global>) -> Orders<N> {
+        Orders {
+            word,
+            book,
+            event: None,
+        }
+    }
+
+    /// The same orders, for a thread of a worker that nobody notifies of pushes. It takes no memory; it
+    /// fails where there are too many.
     pub fn another(&self) -> Result<Orders<N>, AllocError> {
         let word = Arc::try_clone(&self.word)?;
         let book = Arc::try_clone(&self.book)?;
-        Ok(Orders { word, book })
+        Ok(Orders::new(word, book))
+    }
+
+    /// The same orders, for a thread of a worker of whose pipes each producer notifies the event after
+    /// its pushes, marks among them. The worker sleeps on it.
+    pub fn another_with(&self, event: &Event) -> Result<Orders<N>, AllocError> {
+        let mut orders = self.another()?;
+        orders.event = Some(event.another()?);
+        Ok(orders)
     }
 
     /// The threads begin their work.

@@ -24,6 +24,10 @@ impl<N: Router, R: Wait + Copy, G: Gate + Drop> Work<N> for Processor<N, R, G> {
         self.turn()
     }
 
+    fn awaits_push(&self) -> bool {
+        self.awaits_push()
+    }
+
     fn wait(&mut self) -> bool {
         false
     }

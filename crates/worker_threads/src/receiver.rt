@@ -24,6 +24,10 @@ impl<N: Router, R: Wait + Copy, S: Source> Work<N> for Receiver<N, R, S> {
         self.turn()
     }
 
+    fn awaits_push(&self) -> bool {
+        false
+    }
+
     fn wait(&mut self) -> bool {
         self.wait()
     }

@@ -24,6 +24,10 @@ impl<N: Router, R: Wait + Copy> Work<N> for SlowPath<N, R> {
         self.turn()
     }
 
+    fn awaits_push(&self) -> bool {
+        self.awaits_push()
+    }
+
     fn wait(&mut self) -> bool {
         false
     }

@@ -10,7 +10,7 @@ use std::sync::Wait;
 use std::thread::Threads;
 use std::time::Clock;
 
-/// Workers of one kind, orders for the thread of each, and room for the threads' handles.
+/// Workers of one kind, orders for the thread of each, in order, and room for the threads' handles.
 #[derive(Drop)]
 pub struct Team<N: Ledger, W: Work<N>> {
     pub workers: Vec<W>,
@@ -32,6 +32,7 @@ where
         mut orders,
         room: mut handles,
     } = team;
+    orders.reverse();
     for worker in workers {
         let Some(own) = orders.pop() else {
             return Err(handles);

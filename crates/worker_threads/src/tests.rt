@@ -2,9 +2,11 @@
 
 ghost use Rattle.std.specs.Prelude.{◌≡◌, ◌≤◌, [], IfOk, length, vec_capacity};
 
-use crate::{HOLD, Handle, Orders, Team, Work, join_all, start_four};
+use crate::{HOLD, Handle, Orders, Team, Work, join_all, start_both, start_four};
 use packet_ledger::{Blank, Book, Ledger, Share};
 use router_stages::Turn;
+use ruled_pipe::{Load, Pipe};
+use stage_parts::{Event, Inlet, Outlet};
 use std::alloc::{AllocError, Global};
 use std::marker::Brand;
 use std::sync::atomic::AtomicU64;
@@ -46,6 +48,10 @@ impl<L: Ledger, R: Wait> Work<L> for Countdown<L, R> {
             return Turn::Quiet;
         }
         Turn::Ended
+    }
+
+    fn awaits_push(&self) -> bool {
+        false
     }
 
     fn wait(&mut self) -> bool {
@@ -132,7 +138,7 @@ where
     let (book, mut shares) = Book::<L>::new(alloc, blank, 6)?;
     let word = Arc::new(alloc, AtomicU64::new(HOLD))?;
     let book = Arc::new(alloc, book)?;
-    let orders = Orders { word, book };
+    let orders = Orders::new(word, book);
     let one = team(rt, alloc, &orders, &mut shares, 3)?;
     let two = team(rt, alloc, &orders, &mut shares, 2)?;
     let three = team(rt, alloc, &orders, &mut shares, 1)?;
@@ -166,7 +172,7 @@ where
     let (book, mut shares) = Book::<L>::new(alloc, blank, 6)?;
     let word = Arc::new(alloc, AtomicU64::new(HOLD))?;
     let book = Arc::new(alloc, book)?;
-    let orders = Orders { word, book };
+    let orders = Orders::new(word, book);
     let one = team(rt, alloc, &orders, &mut shares, 3)?;
     let two = team(rt, alloc, &orders, &mut shares, 1)?;
     let mut three = team(rt, alloc, &orders, &mut shares, 2)?;
@@ -179,5 +185,229 @@ where
 fn a_refused_thread_ends_all(rt: HostRuntime) -> Result<(), Fail> {
     let blank = Blank::new(rt.alloc())?;
     assert!(rt; one_short::<Brand, _>(rt, rt.alloc(), blank)?);
+    Ok(())
+}
+
+// It offers so many numbers, one in eight turns, and then its end mark.
+#[derive(Drop)]
+struct Feeder<R> {
+    rt: R,
+    to: Outlet<u64>,
+    left: u64,
+    turns: u8,
+}
+
+impl<R: Wait> Feeder<R> {
+    // Offers a number, or tries the end mark.
+    fn feed(&mut self) -> Turn {
+        if self.left == 0 {
+            return if self.to.end(&self.rt) {
+                Turn::Ended
+            } else {
+                Turn::Quiet
+            };
+        }
+        if self.to.has_ended() {
+            return Turn::Quiet;
+        }
+        if self.to.offer(&self.rt, self.left).is_err() {
+            return Turn::Quiet;
+        }
+        self.left -= 1;
+        Turn::Did
+    }
+}
+
+impl<L: Ledger, R: Wait> Work<L> for Feeder<R> {
+    ghost same = { λ a b. Unit {0} };
+
+    ghost may_turn = { λ a. Unit {0} };
+
+    ghost has_ended = { λ a. Unit {0} };
+
+    fn has_room(&self) -> bool {
+        true
+    }
+
+    fn make_turn(&mut self) -> Turn {
+        self.turns = self.turns.wrapping_add(1);
+        if self.turns % 8 != 0 {
+            return Turn::Quiet;
+        }
+        self.feed()
+    }
+
+    fn awaits_push(&self) -> bool {
+        false
+    }
+
+    fn wait(&mut self) -> bool {
+        false
+    }
+
+    fn post(&mut self, book: &Book<L>) {
+        let _ = book;
+    }
+
+    ghost same_self = { λ x. tt };
+
+    ghost same_then = { λ x y z p q. tt };
+}
+
+// It adds up the numbers that it takes, and sleeps while there are none.
+#[derive(Drop)]
+struct Drain<R> {
+    rt: R,
+    from: Inlet<u64>,
+    sum: u64,
+}
+
+impl<L: Ledger, R: Wait> Work<L> for Drain<R> {
+    ghost same = { λ a b. Unit {0} };
+
+    ghost may_turn = { λ a. Unit {0} };
+
+    ghost has_ended = { λ a. Unit {0} };
+
+    fn has_room(&self) -> bool {
+        true
+    }
+
+    fn make_turn(&mut self) -> Turn {
+        if self.from.is_done() {
+            return Turn::Ended;
+        }
+        match self.from.take(&self.rt) {
+            None => Turn::Quiet,
+            Some(Load::Marked(_)) => Turn::Did,
+            Some(Load::Payload(number)) => {
+                self.sum = self.sum.wrapping_add(number);
+                Turn::Did
+            }
+        }
+    }
+
+    fn awaits_push(&self) -> bool {
+        !self.from.is_done()
+    }
+
+    fn wait(&mut self) -> bool {
+        false
+    }
+
+    fn post(&mut self, book: &Book<L>) {
+        let _ = book;
+    }
+
+    ghost same_self = { λ x. tt };
+
+    ghost same_then = { λ x y z p q. tt };
+}
+
+// One worker, and room for its handle.
+fn alone<L: Ledger, W: Work<L>>(
+    alloc: Global,
+    worker: W,
+    orders: Orders<L>,
+) -> Result<Team<L, W>, AllocError>
+where
+    W: Drop,
+    ensures { IfOk result (λ t. (t.room.items ≡ []) × (length t.workers.items ≤ vec_capacity t.room)) }
+{
+    let mut workers = Vec::new(alloc);
+    workers.push(worker)?;
+    let mut each = Vec::new(alloc);
+    each.push(orders)?;
+    let room = Vec::with_capacity(alloc, workers.len())?;
+    Ok(Team {
+        workers,
+        orders: each,
+        room,
+    })
+}
+
+// Two workers at the ends of a pipe. The one that offers notifies the event.
+fn at_both_ends<R: Wait + Copy>(
+    rt: R,
+    alloc: Global,
+    event: Event,
+) -> Result<Option<(Feeder<R>, Drain<R>)>, AllocError> {
+    let (_, mut ends, consumer) = Pipe::<u64>::new(alloc, 4, 1)?;
+    let Some(end) = ends.pop() else {
+        return Ok(None);
+    };
+    let mut to = Outlet::of(end);
+    to.set_event(event);
+    let feeder = Feeder {
+        rt,
+        to,
+        left: 40,
+        turns: 0,
+    };
+    let drain = Drain {
+        rt,
+        from: Inlet::of(consumer, 1),
+        sum: 0,
+    };
+    Ok(Some((feeder, drain)))
+}
+
+// Starts both and joins them: what the second one took, in sum.
+fn taken_by<L, R>(
+    rt: R,
+    alloc: Global,
+    orders: &Orders<L>,
+    first: Team<L, Feeder<R>>,
+    second: Team<L, Drain<R>>,
+) -> Result<u64, AllocError>
+where
+    L: Ledger + Send + Sync + 'static,
+    R: Threads + Wait + Clock + Copy + Send + Drop + 'static,
+    requires first { (first.room.items ≡ []) × (length first.workers.items ≤ vec_capacity first.room) }
+    requires second { (second.room.items ≡ []) × (length second.workers.items ≤ vec_capacity second.room) }
+{
+    let Ok(both) = start_both(rt, orders, first, second) else {
+        return Ok(0);
+    };
+    orders.run();
+    let room = Vec::with_capacity(alloc, both.first.len())?;
+    let _ = join_all(&rt, both.first, room);
+    let room = Vec::with_capacity(alloc, both.second.len())?;
+    let mut back = join_all(&rt, both.second, room);
+    Ok(back.pop().map_or(0, |drain| drain.sum))
+}
+
+// Orders for threads whose workers count nothing.
+fn orders_of<L: Ledger>(alloc: Global, blank: Blank) -> Result<Orders<L>, AllocError>
+    requires name { blank.table ≡ L.table }
+    requires none { L.workers ≡ 0 }
+{
+    let (book, _) = Book::<L>::new(alloc, blank, 0)?;
+    let word = Arc::new(alloc, AtomicU64::new(HOLD))?;
+    Ok(Orders::new(word, Arc::new(alloc, book)?))
+}
+
+// What a worker that sleeps takes of a pipe into which another pushes now and then: the sum.
+fn fed<L, R>(rt: R, alloc: Global, blank: Blank) -> Result<u64, AllocError>
+where
+    L: Ledger + Send + Sync + 'static,
+    R: Threads + Wait + Clock + Copy + Send + Drop + 'static,
+    requires name { blank.table ≡ L.table }
+    requires none { L.workers ≡ 0 }
+{
+    let orders = orders_of::<L>(alloc, blank)?;
+    let event = Event::new(alloc)?;
+    let Some((feeder, drain)) = at_both_ends(rt, alloc, event.another()?)? else {
+        return Ok(0);
+    };
+    let first = alone(alloc, feeder, orders.another()?)?;
+    let second = alone(alloc, drain, orders.another_with(&event)?)?;
+    taken_by(rt, alloc, &orders, first, second)
+}
+
+#[test]
+fn a_sleeper_is_woken(rt: HostRuntime) -> Result<(), Fail> {
+    let blank = Blank::new(rt.alloc())?;
+    assert_eq!(rt; fed::<Brand, _>(rt, rt.alloc(), blank)?, 820);
     Ok(())
 }

@@ -2,11 +2,12 @@
 
 ghost use Rattle.std.specs.Prelude.{◌≡◌, IfOk, IfSome, true};
 
-use crate::idle::Idle;
+use crate::idle::{Idle, nap};
 use crate::orders::{GIVE_UP, HOLD, Orders};
 use crate::work::Work;
 use packet_ledger::{Book, Ledger};
 use router_stages::Turn;
+use stage_parts::Event;
 use std::marker::PhantomData;
 use std::snapshot::Snapshot;
 use std::sync::Wait;
@@ -36,19 +37,28 @@ impl<N: Ledger, W: Work<N>> Promise<Option<W>> for WillEnd<N, W> {
 struct Pace {
     idle: Idle,
     turns: u32,
+    // Turns that did something since it last waited, up to the number at which a thread gathers.
+    items: u32,
 }
+
+// After so many turns that did something in a row a thread naps once before it sleeps.
+const SEVERAL: u32 = 2;
 
 impl Pace {
     fn new() -> Pace {
         Pace {
             idle: Idle::new(),
             turns: 0,
+            items: 0,
         }
     }
 
     // There was something to do. Whether it is time to post.
     fn did(&mut self) -> bool {
         self.idle.reset();
+        if self.items < SEVERAL {
+            self.items += 1;
+        }
         if self.turns < TURNS {
             self.turns += 1;
             return false;
@@ -56,66 +66,122 @@ impl Pace {
         self.turns = 0;
         true
     }
+
+    // Whether there was much to do since it last waited: then more comes soon, and a nap in which items
+    // gather costs less than a sleep for each.
+    fn gathers(&mut self) -> bool {
+        let several = self.items >= SEVERAL;
+        self.items = 0;
+        several
+    }
 }
 
 // Posts where it is time to.
 fn post_if<N: Ledger, W: Work<N>>(worker: &mut W, book: &Book<N>, due: bool)
-    ensures { W.same worker.old worker.new }
+    ensures same { W.same worker.old worker.new }
+    ensures ended { W.has_ended worker.old → W.has_ended worker.new }
 {
     if due {
         worker.post(book);
     }
 }
 
-// Waits where there was nothing to do.
-fn rest<N: Ledger, W: Work<N>, R: Clock>(rt: &R, worker: &mut W, pace: &mut Pace)
-    ensures { W.same worker.old worker.new }
+// One turn, where each count can still be raised, and what is posted for it.
+fn attempt<N: Ledger, W: Work<N>>(worker: &mut W, book: &Book<N>, pace: &mut Pace) -> Turn
+    ensures same { W.same worker.old worker.new }
+    ensures ended { result ≡ Turn.Ended → W.has_ended worker.new }
 {
-    if !worker.wait() {
-        pace.idle.rest(rt);
+    if !worker.has_room() {
+        worker.post(book);
+        return Turn::Quiet;
+    }
+    match worker.make_turn() {
+        Turn::Did => {
+            post_if(worker, book, pace.did());
+            Turn::Did
+        }
+        Turn::Quiet => Turn::Quiet,
+        Turn::Ended => {
+            worker.post(book);
+            Turn::Ended
+        }
     }
 }
 
-// One turn, and what it asks for. Whether the worker has ended.
-fn advance<N: Ledger, W: Work<N>, R: Clock>(
+// Sleeps until there is a push. Since one may have come before the sleep was announced, there is a turn
+// between. Whether the worker has ended.
+fn sleep_on<N: Ledger, W: Work<N>, R: Wait>(
     rt: &R,
     worker: &mut W,
     book: &Book<N>,
+    pace: &mut Pace,
+    event: &Event,
+) -> bool
+    ensures same { W.same worker.old worker.new }
+    ensures ended { result ≡ true → W.has_ended worker.new }
+{
+    let key = event.prepare_wait();
+    match attempt(worker, book, pace) {
+        Turn::Did => false,
+        Turn::Quiet => {
+            key.wait(rt);
+            false
+        }
+        Turn::Ended => true,
+    }
+}
+
+// There was nothing to do. Whether the worker has ended.
+fn pause<N: Ledger, W: Work<N>, R: Wait + Clock>(
+    rt: &R,
+    worker: &mut W,
+    orders: &Orders<N>,
     pace: &mut Pace,
 ) -> bool
     ensures same { W.same worker.old worker.new }
     ensures ended { result ≡ true → W.has_ended worker.new }
 {
-    if !worker.has_room() {
-        worker.post(book);
-        pace.idle.rest(rt);
+    if pace.gathers() {
+        nap(rt);
         return false;
     }
-    match worker.make_turn() {
-        Turn::Did => {
-            post_if(worker, book, pace.did());
-            false
+    if worker.awaits_push() {
+        if let Some(event) = &orders.event {
+            return sleep_on(rt, worker, &orders.book, pace, event);
         }
-        Turn::Quiet => {
-            rest(rt, worker, pace);
-            false
-        }
-        Turn::Ended => {
-            worker.post(book);
-            true
-        }
+    }
+    if !worker.wait() {
+        pace.idle.rest(rt);
+    }
+    false
+}
+
+// One turn, and what it asks for. Whether the worker has ended.
+fn advance<N: Ledger, W: Work<N>, R: Wait + Clock>(
+    rt: &R,
+    worker: &mut W,
+    orders: &Orders<N>,
+    pace: &mut Pace,
+) -> bool
+    ensures same { W.same worker.old worker.new }
+    ensures ended { result ≡ true → W.has_ended worker.new }
+{
+    match attempt(worker, &orders.book, pace) {
+        Turn::Did => false,
+        Turn::Quiet => pause(rt, worker, orders, pace),
+        Turn::Ended => true,
     }
 }
 
 /// Makes turns to the worker's end.
-pub fn work_on<N: Ledger, W: Work<N>, R: Wait + Clock>(rt: &R, book: &Book<N>, worker: W) -> W
+pub fn work_on<N: Ledger, W: Work<N>, R: Wait + Clock>(rt: &R, orders: &Orders<N>, worker: W) -> W
     ensures same { W.same worker result }
     ensures ended { W.has_ended result }
 {
     let mut worker = worker;
     let mut pace = Pace::new();
     for _ in rt.forever() {
-        if advance(rt, &mut worker, book, &mut pace) {
+        if advance(rt, &mut worker, orders, &mut pace) {
             return worker;
         }
     }
@@ -146,7 +212,7 @@ fn work_once_told<N: Ledger, W: Work<N> + Drop, R: Wait + Clock>(
     ensures { IfSome result (λ w. W.same worker w × W.has_ended w) }
 {
     if may_begin(rt, &orders.word) {
-        Some(work_on(rt, &orders.book, worker))
+        Some(work_on(rt, orders, worker))
     } else {
         None
     }

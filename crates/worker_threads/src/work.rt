@@ -25,6 +25,9 @@ pub trait Work<N: Ledger> {
         ensures same { same self.old self.new }
         ensures ended { result ≡ Turn.Ended → has_ended self.new };
 
+    /// Whether only a push into a pipe of its own can end its quiet. Then it may sleep until there is one.
+    fn awaits_push(&self) -> bool;
+
     /// Waits until there may be something to do, in a way of its own, and says whether it did. It may
     /// return at any moment.
     fn wait(&mut self) -> bool
