@@ -109,7 +109,8 @@ fn attempt<N: Ledger, W: Work<N>>(worker: &mut W, book: &Book<N>, pace: &mut Pac
 }
 
 // Sleeps until there is a push. Since one may have come before the sleep was announced, there is a turn
-// between. Whether the worker has ended.
+// between, and only where a push is still what ends its quiet it sleeps: the turn may have taken what a
+// gate holds back. Whether the worker has ended.
 fn sleep_on<N: Ledger, W: Work<N>, R: Wait>(
     rt: &R,
     worker: &mut W,
@@ -124,7 +125,9 @@ fn sleep_on<N: Ledger, W: Work<N>, R: Wait>(
     match attempt(worker, book, pace) {
         Turn::Did => false,
         Turn::Quiet => {
-            key.wait(rt);
+            if worker.awaits_push() {
+                key.wait(rt);
+            }
             false
         }
         Turn::Ended => true,
