@@ -78,9 +78,10 @@ module _ {S : Type 0} (told : S → Option (List Heard)) (c : Config) (p : Pipin
       let link : b.side.link ≡ n = back.0.link ∙ is.link in
       let interface : b.side.interface ≡ interface_at c n = back.0.interface ∙ is.interface in
       let I : Config → ℕ → ℕ → Type 0 = λ d l i. IsReceiving d l i b.number (told b.source) b.side.stock.free.looks (senders b.side.processors) b.side.share in
-      let ends = ends_long n p.inner (senders b.side.processors) (same_ends (λ j. true) n p.inner a.side.processors b.side.processors back.0.processors is.processors) in
-      (subst (λ (d : Config). I d n (interface_at c n)) config (subst (λ (l : ℕ). I b.side.config l (interface_at c n)) link (subst (λ (i : ℕ). I b.side.config b.side.link i) interface kept.0)),
-       ends ∙ processors)
+      let ends = ends_long n p.inner (senders b.side.processors) (same_ends (λ j. true) n p.inner a.side.processors b.side.processors back.0.processors is.processors) in (
+        subst (λ (d : Config). I d n (interface_at c n)) config (subst (λ (l : ℕ). I b.side.config l (interface_at c n)) link (subst (λ (i : ℕ). I b.side.config b.side.link i) interface kept.0)),
+        ends ∙ processors,
+      )
 
   pub receivers_kept : (n : ℕ) (xs ys : List (Receiving S)) → AllAt (IsReceivingAt c p) n xs → AreBack (λ a b. IsSameReceiver a b × ReceiverEnded b) xs ys → Each KeptIn ys → AllAt (IsBackReceiver c) n (map (receiver_back told) ys)
   receivers_kept n [] [] all back kept = tt

@@ -66,9 +66,10 @@ module _ {S : Type 0} (finishes : Finishes (Arrival kinds)) (c : Config) (p : Pi
   inner_bundles n (x ∷ xs) (y ∷ ys) (b ∷ bs) all back marked same =
       let head : b.ends ≡ senders y.side.processors = cc in
       let rest : rows_of bs ≡ map (λ (r : Receiving S). senders r.side.processors) ys = cc in
-      let next : n + 1 ≡ suc n = omega arith in
-      (subst (λ (es : List (Sender (Arrival kinds))). AreFinished (λ j. true) 0 n p.inner es) (sym head) (receiver_finished n x y all.0 back.0 marked.0),
-       subst (λ (m : ℕ). AreBundles (λ j. true) m p.inner bs) next (inner_bundles (n + 1) xs ys bs all.1 back.1 marked.1 rest))
+      let next : n + 1 ≡ suc n = omega arith in (
+        subst (λ (es : List (Sender (Arrival kinds))). AreFinished (λ j. true) 0 n p.inner es) (sym head) (receiver_finished n x y all.0 back.0 marked.0),
+        subst (λ (m : ℕ). AreBundles (λ j. true) m p.inner bs) next (inner_bundles (n + 1) xs ys bs all.1 back.1 marked.1 rest),
+      )
 
 module _ {G : Type 0} (c : Config) (p : Piping) where
   abbrev pub P : Working G → Working G → Type 0
@@ -138,10 +139,11 @@ module _ {G : Type 0} (c : Config) (p : Piping) where
       let head : b.ends ≡ senders y.side.links = cc in
       let others : rows_of bs ≡ links_of ys ++ tail = cc in
       let next : i + 1 ≡ suc i = omega arith in
-      let far : i + suc (length ss) ≡ (i + 1) + length ss = omega arith in
-      (subst (λ (es : List (Sender (Outgoing kinds))). AreFinished (are_used c) 0 i p.outer es) (sym head) (processor_finished f i s x y are.0 back.0 marked.0.0),
-       subst (λ (m : ℕ). AreBundles (are_used c) m p.outer bs) next
-         (outer_bundles f (i + 1) ss xs ys tail bs are.1 back.1 marked.1 others (λ cs e. subst (λ (m : ℕ). AreBundles (are_used c) m p.outer cs) far (rest cs e))))
+      let far : i + suc (length ss) ≡ (i + 1) + length ss = omega arith in (
+        subst (λ (es : List (Sender (Outgoing kinds))). AreFinished (are_used c) 0 i p.outer es) (sym head) (processor_finished f i s x y are.0 back.0 marked.0.0),
+        subst (λ (m : ℕ). AreBundles (are_used c) m p.outer bs) next
+            (outer_bundles f (i + 1) ss xs ys tail bs are.1 back.1 marked.1 others (λ cs e. subst (λ (m : ℕ). AreBundles (are_used c) m p.outer cs) far (rest cs e))),
+      )
 
 -- ---- the slow path and the controller
 
@@ -177,11 +179,14 @@ module _ (c : Config) (p : Piping) where
   last_bundles f g (a ∷ []) (b ∷ []) hs ks (r ∷ s ∷ []) are back marked shut ends marking same =
       let first : r.ends ≡ senders b.side.links = cc in
       let second : s.ends ≡ shutter_ends ks = cc in
-      let next : c.processors + 1 ≡ suc c.processors = omega arith in
-      (subst (λ (es : List (Sender (Outgoing kinds))). AreFinished (are_used c) 0 c.processors p.outer es) (sym first) (slow_finished f a b are back.0 marked.0),
-       (subst (λ (es : List (Sender (Outgoing kinds))). AreFinished (are_used c) 0 (suc c.processors) p.outer es) (sym second)
-          (subst (λ (m : ℕ). AreFinished (are_used c) 0 m p.outer (shutter_ends ks)) next (g (are_used c) (c.processors + 1) p.outer hs ks shut ends marking)),
-        tt))
+      let next : c.processors + 1 ≡ suc c.processors = omega arith in (
+        subst (λ (es : List (Sender (Outgoing kinds))). AreFinished (are_used c) 0 c.processors p.outer es) (sym first) (slow_finished f a b are back.0 marked.0),
+        (
+          subst (λ (es : List (Sender (Outgoing kinds))). AreFinished (are_used c) 0 (suc c.processors) p.outer es) (sym second)
+              (subst (λ (m : ℕ). AreFinished (are_used c) 0 m p.outer (shutter_ends ks)) next (g (are_used c) (c.processors + 1) p.outer hs ks shut ends marking)),
+          tt,
+        ),
+      )
 
 -- ---- forwarders
 
@@ -208,6 +213,10 @@ module _ {K : Type 0} (c : Config) where
   outer_taken l n (low ∷ high ∷ ss) [] ys for are back = absurd are
   outer_taken l n (low ∷ high ∷ ss) (x ∷ xs) [] for are back = absurd back
   outer_taken l n (low ∷ high ∷ ss) (x ∷ xs) (y ∷ ys) for are back =
-      let next : 2 * (l + 1) ≡ suc (suc (2 * l)) = omega arith in
-      ((for.0, low_taken l low high x y are.0 back.0), ((for.1.0, high_taken l low high x y are.0 back.0),
-        subst (λ (k : ℕ). AreTaken (are_used c) k n ss (takers_of ys)) next (outer_taken (l + 1) n ss xs ys for.1.1 are.1 back.1)))
+      let next : 2 * (l + 1) ≡ suc (suc (2 * l)) = omega arith in (
+        (for.0, low_taken l low high x y are.0 back.0),
+        (
+          (for.1.0, high_taken l low high x y are.0 back.0),
+          subst (λ (k : ℕ). AreTaken (are_used c) k n ss (takers_of ys)) next (outer_taken (l + 1) n ss xs ys for.1.1 are.1 back.1),
+        ),
+      )

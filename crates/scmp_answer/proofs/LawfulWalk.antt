@@ -248,7 +248,7 @@ module _ (net : Net) (ss : List PathSegment) (moment : ℕ) (a : PacketAt) (agre
   stands = stands_at_outset net w moment a route (sets_out net ss moment a agrees numbered are s)
 
   answerable : (b : PacketAt) → Passed net w a b → IsAnswerable net moment a b
-  answerable b passed x here problem there local may good =
+  answerable b passed x here problem there local may can =
       elim passed.first [
         | inl same ↦
             let read : a.packet ≡ packet_of (spelling a.packet) = packet_only (spelling a.packet) a.packet (record { lawful = s.lawful; text = refl }) in
@@ -256,7 +256,7 @@ module _ (net : Net) (ss : List PathSegment) (moment : ℕ) (a : PacketAt) (agre
             subst (λ (c : PacketAt). IsAnswered net moment a x here problem c) (sym same)
             (IsAnswered.straight (answer_packet here a.packet (way_back a.link a.packet.path) (spelling a.packet) problem) refl (straight here a problem read s.link may_a))
         | inr under ↦
-            let c : ComesBack net w moment b x here problem = comes_back net w moment b x here problem route passed.stands there under local agrees may good in
+            let c : ComesBack net w moment b x here problem = comes_back net w moment b x here problem route passed.stands there under local agrees may can in
             IsAnswered.back (carried_back net w moment b x here problem a.packet.header.source c (ap (λ (h : HeaderFields). h.source) passed.header) s.from_host)
       ]
 

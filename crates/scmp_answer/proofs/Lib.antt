@@ -4,6 +4,7 @@ pub mod PlaceLemmas
 pub mod TableLemmas
 pub mod AnswerLemmas
 pub mod GoodLemmas
+pub mod LawfulAnswer
 pub mod ReplyLemmas
 pub mod BackStands
 pub mod ReturnLemmas

@@ -9,9 +9,9 @@ use Rattle.scion_packet.specs.Places.{mirrored}
 use Rattle.scion_packet.proofs.PacketLaws.{packet_only}
 use Rattle.scmp_answer.specs.Checksum.{checksum, summed}
 use Rattle.scmp_answer.specs.Message.{message, message_table, numbers_of, quote}
-use Rattle.scmp_answer.specs.Outcome.{IfSent, IsGood}
-use Rattle.scmp_answer.specs.Reply.{Dropped, Reply, Sent, answer_header, answer_packet, header_len, is_left_unanswered, reply, sent_back}
+use Rattle.scmp_answer.specs.Reply.{Dropped, Sent, answer_header, answer_packet, header_len, is_left_unanswered, reply, sent_back}
 use Rattle.scmp_answer.specs.WayBack.{has_no_way_back, is_external, is_first_of_segment, way_back}
+use Rattle.scmp_answer.proofs.LawfulAnswer.{IsShort, is_short, way_lawful}
 use Rattle.scmp_answer.proofs.TableLemmas.{table_len}
 use Rattle.process_packet.specs.declared.cause.Cause.TheVariants as cause
 use Rattle.process_packet.specs.declared.decision.Problem.{Problem}
@@ -22,7 +22,7 @@ use Rattle.walk_laws.specs.Route.{IsOn, IsRoute, Route, after, end_of, hop_of, r
 use Rattle.walk_laws.specs.Route as route_words
 use Rattle.walk_laws.specs.Stands.{PacketAt, IsHostOf, IsOnItsWay, IsUnasked, Stands, StandsInside, StandsOutside, place_of}
 use Rattle.walk_laws.specs.Domain.{domain_of}
-use Rattle.scmp_answer.specs.Returns.{ComesBack, IsUnderWay, ReturnsOn, turning_point}
+use Rattle.scmp_answer.specs.Returns.{CanAnswer, ComesBack, IsUnderWay, ReturnsOn, turning_point}
 use Rattle.walk_laws.proofs.IdLemmas.{size_is}
 use Rattle.walk_laws.proofs.BackLemmas.{back, back_hop, back_len, back_size}
 use Rattle.scmp_answer.proofs.BackStands.{TurnsInside, stands_back, turns}
@@ -129,8 +129,10 @@ module _ (net : Net) (w : Route) (moment : ℕ) (a : PacketAt) (x : Router) (her
   abbrev answer : Packet
   answer = answer_packet here a.packet (way_back a.link a.packet.path) bytes problem
 
-  on_its_way : IsGood answer → IsOnItsWay net (reversed_route w) (turning_point a) answer
-  on_its_way good =
+  on_its_way : CanAnswer here → IsOnItsWay net (reversed_route w) (turning_point a) answer
+  on_its_way can =
+      let way = way_back a.link a.packet.path in
+      let good : IsShort answer = is_short here a.packet way bytes problem stands.way.lawful can.address can.ip (way_lawful a.link a.packet.path stands.way.lawful.path) in
       let h : IsHere net w a x = is_here net w (place_at 0 0) moment a x route stands at_x under in
       let t = h.turns in
       let len = back_len w.segments in
@@ -166,11 +168,10 @@ module _ (net : Net) (w : Route) (moment : ℕ) (a : PacketAt) (x : Router) (her
       ap (λ (p : Packet). if is_left_unanswered p problem then Dropped cause.NoAnswer else if has_no_way_back a.link p.path then Dropped cause.NoWayBack else sent_back a.link a.source (answer_packet here p (way_back a.link p.path) bytes problem)) (sym read)
       ∙ cond-false (is_left_unanswered a.packet problem) _ _ may ∙ cond-false (has_no_way_back a.link a.packet.path) _ _ h.way_back
 
-  pub comes_back : Agrees net → is_left_unanswered a.packet problem ≡ false → IfSent (reply here a.link a.source bytes problem) IsGood → ComesBack net w moment a x here problem
-  comes_back agrees may good =
+  pub comes_back : Agrees net → is_left_unanswered a.packet problem ≡ false → CanAnswer here → ComesBack net w moment a x here problem
+  comes_back agrees may can =
       let sent = replied may in
-      let is_good : IsGood answer = subst (λ (r : Reply). IfSent r IsGood) sent good in
-      let returns : ReturnsOn net w a x answer = stands_back net w (place_at 0 0) moment a x answer route stands at_x under refl (on_its_way is_good) in
+      let returns : ReturnsOn net w a x answer = stands_back net w (place_at 0 0) moment a x answer route stands at_x under refl (on_its_way can) in
       record {
         answer = answer;
         sent = sent;

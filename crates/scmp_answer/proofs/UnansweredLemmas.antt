@@ -1,5 +1,5 @@
 -- An answer of type 1 or 4 is known for one, and isn't taken for a request.
-use Rattle.std.proofs.Common.{◌≡◌, ◌⊎◌, ◌==◌, ◌&&◌, not, ℕ, Bool, true, false, List, [], ◌∷◌, ◌++◌, cond, eqb, length, slice_index, Option, Some, None, refl, sym, ap, ap₂, subst, ◌∙◌, inl, inr, if◌then◌else◌}
+use Rattle.std.proofs.Common.{◌≡◌, ◌⊎◌, ◌==◌, ◌&&◌, not, ℕ, Bool, true, false, List, ◌++◌, cond, eqb, length, slice_index, Option, Some, None, refl, sym, ap, ap₂, ◌∙◌, inl, inr, if◌then◌else◌}
 use Rattle.std.specs.Prelude.{is_some, nat_le}
 use Rattle.std.proofs.lemmas.Bool.{eqb-true}
 use Rattle.field_rows.specs.Place.{number_at}
@@ -19,10 +19,10 @@ use Rattle.process_packet.specs.Rows as rows_of
 use Rattle.process_packet.specs.Rows.{Verdict}
 use Rattle.process_packet.proofs.ProblemLemmas.{problems_lawful}
 use Rattle.scmp_answer.specs.Checksum.{checksum, summed}
-use Rattle.scmp_answer.specs.Message.{message, numbers_of, parameter_problem_table, quote, table_of, traceroute_reply_table, unreachable_table}
+use Rattle.scmp_answer.specs.Message.{message, numbers_of, parameter_problem_table, quote, traceroute_reply_table, unreachable_table}
 use Rattle.scmp_answer.specs.Reply.{Dropped, Reply, Sent, answer_header, answer_packet, header_len, is_left_unanswered, may_be_error, reply, sent_back}
-use Rattle.scmp_answer.specs.Unanswered.{Bears, ErrorsAreLeftUnanswered}
-use Rattle.scmp_answer.specs.WayBack.{has_no_way_back, is_external, way_back}
+use Rattle.scmp_answer.specs.Unanswered.{ErrorsAreLeftUnanswered}
+use Rattle.scmp_answer.specs.WayBack.{has_no_way_back, way_back}
 use Rattle.scmp_answer.proofs.ReplyLemmas.{unanswered}
 
 -- ---- the message

@@ -1,11 +1,10 @@
 -- The answer to a packet on a route: it stands on the route travelled back, so whatever is carried to its end there is carried
 -- back.
 use Rattle.std.specs.Prelude.{◌≡◌, false, ℕ, Some, None, if◌then◌else◌}
-use Rattle.scion_packet.specs.Header.{HostAddress}
+use Rattle.scion_packet.specs.Header.{HostAddress, IsAddress}
 use Rattle.scion_packet.specs.Packet.{Packet, spelling}
 use Rattle.scion_packet.specs.Path.{Place, place_at}
 use Rattle.scion_packet.specs.Places.{mirrored}
-use Rattle.scmp_answer.specs.Outcome.{IfSent, IsGood}
 use Rattle.process_packet.specs.declared.config.Config.{Config}
 use Rattle.process_packet.specs.Net.{router_of}
 use Rattle.scmp_answer.specs.Reply.{local_address, Sent, is_left_unanswered, reply}
@@ -14,6 +13,7 @@ use Rattle.process_packet.specs.declared.decision.Problem.{Problem}
 use Rattle.process_packet.specs.Standing.{is_first_of_path}
 use Rattle.process_packet.specs.Net.{Agrees, Net, Router, router_at}
 use Rattle.walk_laws.specs.Domain.{domain_of}
+use Rattle.walk_laws.specs.LawfulStart.{IsIpHost}
 use Rattle.walk_laws.specs.Route.{IsRoute, Route, reversed_route}
 use Rattle.walk_laws.specs.Stands.{PacketAt, IsHostOf, IsOnItsWay, Stands, place_of}
 use Rattle.walk_laws.specs.Stop.{IsCarried}
@@ -43,6 +43,11 @@ AnswersStandToo =
 
 -- ---- the answer of a router
 
+-- An IP address that a header has room for.
+pub record CanAnswer (here : HostAddress) : Type 0 where
+  pub address : IsAddress here
+  pub ip : IsIpHost here
+
 -- The router's answer is sent, stands on the way back, and is delivered there.
 pub record ComesBack (net : Net) (w : Route) (moment : ℕ) (a : PacketAt) (x : Router) (here : HostAddress) (problem : Problem) : Type 0 where
   pub answer : Packet
@@ -57,8 +62,7 @@ abbrev pub AnswersComeBack : Type 0
 AnswersComeBack =
     (net : Net) (w : Route) (moment : ℕ) (a : PacketAt) (x : Router) (here : HostAddress) (problem : Problem) → Agrees net → IsRoute net w moment
     → Stands net w (place_at 0 0) a → router_at net a.router ≡ Some x → IsUnderWay a → IsHostOf here (domain_of x)
-    → is_left_unanswered a.packet problem ≡ false → IfSent (reply here a.link a.source (spelling a.packet) problem) IsGood
-    → ComesBack net w moment a x here problem
+    → is_left_unanswered a.packet problem ≡ false → CanAnswer here → ComesBack net w moment a x here problem
 
 -- ---- who answers
 

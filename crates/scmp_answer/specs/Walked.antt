@@ -4,7 +4,7 @@ use Rattle.field_rows.specs.Place.{IsBytes}
 use Rattle.scion_packet.specs.Header.{HostAddress}
 use Rattle.scion_packet.specs.Packet.{IsPacket, Packet, spelling}
 use Rattle.process_packet.specs.declared.decision.Problem.{Problem}
-use Rattle.scmp_answer.specs.Outcome.{IfSent, IsGood}
+use Rattle.scmp_answer.specs.Returns.{CanAnswer}
 use Rattle.scmp_answer.specs.Reply.{is_left_unanswered, reply}
 use Rattle.scmp_answer.specs.Reply as answers
 use Rattle.scmp_answer.specs.WayBack.{is_external}
@@ -34,11 +34,11 @@ pub data IsAnswered (net : Net) (moment : ℕ) (start : PacketAt) (x : Router) (
       → IsAnswered net moment start x here problem start
   back : {b : PacketAt} → IsCarriedBack net moment b x here problem start.packet.header.source → IsAnswered net moment start x here problem b
 
--- At this stop, for each problem, if it may be answered at all: `good` is what `answer` promises of each answer that it writes.
+-- At this stop, for each problem, if it may be answered at all.
 abbrev pub IsAnswerable : Net → ℕ → PacketAt → PacketAt → Type 0
 IsAnswerable net moment start b =
     (x : Router) (here : HostAddress) (problem : Problem) → router_at net b.router ≡ Some x → IsHostOf here (domain_of x)
-    → is_left_unanswered b.packet problem ≡ false → IfSent (reply here b.link b.source (spelling b.packet) problem) IsGood
+    → is_left_unanswered b.packet problem ≡ false → CanAnswer here
     → IsAnswered net moment start x here problem b
 
 -- ---- walks
