@@ -1,5 +1,5 @@
 -- The path up and down is one over beaconed segments.
-use Rattle.std.proofs.Common.{◌≡◌, ◌<◌, ◌+◌, ◌⊎◌, ℕ, zero, suc, true, false, [], length, Some, refl, sym, ap, arith, inl, inr}
+use Rattle.std.proofs.Common.{◌≡◌, ◌<◌, ◌+◌, ◌⊎◌, ℕ, zero, suc, true, false, length, Some, refl, sym, ap, arith, inl, inr}
 use Rattle.scion_packet.specs.Path.{place_at}
 use Rattle.segment_switch.specs.Pairs.{changes_over}
 use Rattle.segment_switch.specs.declared.kind.LinkKind.TheVariants.{Child}

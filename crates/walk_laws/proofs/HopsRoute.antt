@@ -1,5 +1,5 @@
 -- The path over lists of hops is a route.
-use Rattle.std.proofs.Common.{◌≡◌, ◌≤◌, ◌<◌, ◌+◌, ◌-◌, ◌^◌, ℕ, zero, suc, Bool, true, false, List, [], length, slice_index_or, Some, refl, sym, ap, ap₂, subst, ◌∙◌, arith, if◌then◌else◌}
+use Rattle.std.proofs.Common.{◌≡◌, ◌≤◌, ◌<◌, ◌+◌, ◌-◌, ◌^◌, ℕ, zero, suc, Bool, true, false, List, length, Some, refl, sym, ap, ap₂, subst, ◌∙◌, arith, if◌then◌else◌}
 use Rattle.std.proofs.lemmas.Nat.{xor_of_16}
 use Rattle.field_rows.specs.Place.{IsBytes, number_at}
 use Rattle.hop_check.specs.Mac.{chain}
@@ -16,7 +16,7 @@ use Rattle.process_packet.specs.Net.{Agrees, Joined, Net, Router, end_at, router
 use Rattle.walk_laws.specs.Configured.{AreNumbered}
 use Rattle.walk_laws.specs.Domain.{Domain, IsOf}
 use Rattle.walk_laws.specs.Route.{AreJoined, Crosses, IsBefore, IsHopOf, IsOn, IsRoute, Joins, Route, after, hop_of, info_of, last_in, way_in, way_out}
-use Rattle.walk_laws.proofs.HopsLemmas.{Leads, as_many, field_is, hop_is, info_is, into, is_met, is_stretch, its_key, key_is, leads, left, made_is, out_of, over, part_len, parts}
+use Rattle.walk_laws.proofs.HopsLemmas.{Leads, as_many, field_is, hop_is, info_is, into, is_met, is_stretch, its_key, leads, left, made_is, out_of, over, part_len, parts}
 use Rattle.walk_laws.proofs.MadeLemmas.{hops_hold}
 
 -- ---- identifiers fit
