@@ -1,11 +1,5 @@
-use Rattle.std.proofs.Common.{subst}
-use Rattle.router_stages.specs.Receiving.{Received}
-use Rattle.router_stages.specs.declared.turn.Turn.{Turn}
-use Rattle.worker_threads.proofs.ReceiverLemmas.{received_same, received_ended}
+use Rattle.worker_threads.proofs.ReceiverLemmas.{received_same}
 use Rattle.worker_threads.proofs.receiver.ReceiverWork.make_turn.Goals as goal
 
 pub returns-clause-same : goal.returns-clause-same
 returns-clause-same g c = received_same g.S.Source.told g.S.Source.failed c.args.self.now c.turn.new.self c.turn.result c.turn.ensures
-
-pub returns-clause-ended : goal.returns-clause-ended
-returns-clause-ended g c = λ e. received_ended g.S.Source.told g.S.Source.failed c.args.self.now c.turn.new.self (subst (λ (t : Turn). Received g.S.Source.told g.S.Source.failed t c.args.self.now c.turn.new.self) e c.turn.ensures)
