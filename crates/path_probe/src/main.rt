@@ -1,0 +1,245 @@
+//! Tries a path between two hosts of this machine, over an AS, its core AS and another AS, as ping and
+//! traceroute do: sends one packet, and then asks the router at each interface of the path for an answer.
+//!
+//! `path_probe FROM TO FIRST CORE CORE LAST`: the addresses of the two hosts, and the configurations of the
+//! routers by which the packet leaves the first AS, enters and leaves the core AS, and enters the last one; of
+//! each its first link is used. The hop fields are made with the ASes' keys as beacons make them.
+#![tactic(auto)]
+
+mod message;
+mod packet;
+
+use crate::message::{SCMP, UDP, reply_of, request};
+use crate::packet::{Asked, End, Place, Segment, datagram, segment_over};
+use process_packet::{Config, Ip, Underlay};
+use router_config::{read_config, read_underlay};
+use std::alloc::Global;
+use std::net::{IpAddr, Ipv4Addr, Net, SocketAddr, UdpSocket};
+use std::process::ExitCode;
+use std::rt::{Clock, Env, Files};
+use std::time::{Duration, Instant, SystemTime, UNIX_EPOCH};
+use std::{env, fs, io};
+
+/// How many seconds an answer is waited for.
+const PATIENCE: u64 = 5;
+
+/// The router of one end of a link.
+#[derive(Drop)]
+struct Router {
+    isd: u16,
+    autonomous_system: u64,
+    internal: Underlay,
+    end: End,
+}
+
+/// What this can't do.
+fn refused(what: &'static str) -> io::Error {
+    io::Error::new(io::ErrorKind::InvalidInput, what)
+}
+
+/// The router of a configuration, with its first link.
+fn router_of(config: Config) -> io::Result<Router> {
+    let Some(link) = config.links.first() else {
+        return Err(refused("no link"));
+    };
+    let interface = link.id;
+    let Config {
+        isd,
+        autonomous_system,
+        key,
+        internal,
+        ..
+    } = config;
+    Ok(Router {
+        isd,
+        autonomous_system,
+        internal,
+        end: End { key, interface },
+    })
+}
+
+/// The router of the configuration that a file holds.
+fn router_at<R: Files + AllocGlobal>(rt: &R, path: &str) -> io::Result<Router> {
+    let text = fs::read_to_string(rt, path)?;
+    match read_config(rt.alloc(), text.as_str()) {
+        Ok(config) => router_of(config),
+        Err(_) => Err(refused("no configuration")),
+    }
+}
+
+/// The IPv4 address and port that a word names.
+fn host_at(word: &str) -> io::Result<([u8; 4], u16)> {
+    match read_underlay(word) {
+        Some(
+            Underlay {
+                ip: Ip::V4(bytes),
+                port,
+            },
+        ) => Ok((bytes, port)),
+        _ => Err(refused("no IPv4 address and port")),
+    }
+}
+
+/// A socket of a host, which waits for a few seconds.
+fn socket_at<R: Net>(rt: &R, host: ([u8; 4], u16)) -> io::Result<UdpSocket> {
+    let address = SocketAddr::new(IpAddr::V4(Ipv4Addr::from_octets(host.0)), host.1);
+    let socket = UdpSocket::bind(rt, address)?;
+    socket.set_read_timeout(Some(Duration::from_secs(PATIENCE)))?;
+    Ok(socket)
+}
+
+/// The two hosts with their sockets, the way into the network, and the segments between them.
+#[derive(Drop)]
+struct Probe {
+    from: Place,
+    to: Place,
+    entry: SocketAddr,
+    near: UdpSocket,
+    far: UdpSocket,
+    up: Segment,
+    down: Segment,
+}
+
+/// A host of a router's AS.
+fn place_of(router: &Router, host: [u8; 4]) -> io::Result<Place> {
+    if router.autonomous_system >= 1 << 48 {
+        return Err(refused("no AS number"));
+    }
+    Ok(Place {
+        isd: router.isd,
+        autonomous_system: router.autonomous_system,
+        host,
+    })
+}
+
+/// Where the first router takes packets of its AS.
+fn entry_of(router: &Router) -> io::Result<SocketAddr> {
+    match router.internal.ip {
+        Ip::V4(bytes) => Ok(SocketAddr::new(
+            IpAddr::V4(Ipv4Addr::from_octets(bytes)),
+            router.internal.port,
+        )),
+        Ip::V6(_) => Err(refused("no IPv4 address")),
+    }
+}
+
+/// The present minute.
+fn minute<R: Clock>(rt: &R) -> io::Result<u32> {
+    let Ok(since) = SystemTime::now(rt)?.duration_since(UNIX_EPOCH) else {
+        return Err(refused("the clock stands before 1970"));
+    };
+    match u32::try_from(since.as_secs() / 60 * 60) {
+        Ok(minute) => Ok(minute),
+        Err(_) => Err(refused("the clock stands behind 2106")),
+    }
+}
+
+/// The probe that the words ask for.
+fn probe_of<R: Files + Net + Clock + AllocGlobal>(rt: &R, words: &[String]) -> io::Result<Probe> {
+    let [from, to, first, entering, leaving, last] = words else {
+        return Err(refused("FROM TO FIRST CORE CORE LAST"));
+    };
+    let (from, to) = (host_at(from.as_str())?, host_at(to.as_str())?);
+    let first = router_at(rt, first.as_str())?;
+    let entering = router_at(rt, entering.as_str())?;
+    let leaving = router_at(rt, leaving.as_str())?;
+    let last = router_at(rt, last.as_str())?;
+    let now = minute(rt)?;
+    Ok(Probe {
+        from: place_of(&first, from.0)?,
+        to: place_of(&last, to.0)?,
+        entry: entry_of(&first)?,
+        near: socket_at(rt, from)?,
+        far: socket_at(rt, to)?,
+        up: segment_over(entering.end, first.end, 0x1234, now),
+        down: segment_over(leaving.end, last.end, 0x5678, now),
+    })
+}
+
+impl Probe {
+    /// Sends a datagram into the network.
+    fn send(&self, alloc: Global, asked: Asked, protocol: u8, payload: &[u8]) -> io::Result<()> {
+        let bytes = datagram(
+            alloc,
+            (&self.from, &self.to),
+            (&self.up, &self.down),
+            asked,
+            protocol,
+            payload,
+        )?;
+        self.near.send_to(bytes.as_slice(), self.entry)?;
+        Ok(())
+    }
+
+    /// Sends one packet from host to host, and prints what arrives.
+    fn ping<R: Clock + Print + AllocGlobal>(&self, rt: &R) -> io::Result<()> {
+        let start = Instant::now(rt)?;
+        self.send(
+            rt.alloc(),
+            Asked::Nothing,
+            UDP,
+            b"\x75\x59\x75\x59\x00\x0d\x00\x00hello",
+        )?;
+        let mut room = [0u8; 1500];
+        let (len, from) = self.far.recv_from(&mut room)?;
+        let micros = start.elapsed(rt)?.as_micros();
+        println!(rt; "the packet arrived: {len} bytes by {from}, after {micros} us")
+    }
+
+    /// Asks the router at an interface of the path, and prints what it answers.
+    fn trace<R: Clock + Print + AllocGlobal>(
+        &self,
+        rt: &R,
+        sequence: u8,
+        asked: Asked,
+    ) -> io::Result<()> {
+        let start = Instant::now(rt)?;
+        self.send(rt.alloc(), asked, SCMP, &request(sequence))?;
+        let mut room = [0u8; 1500];
+        let (len, _) = self.near.recv_from(&mut room)?;
+        let micros = start.elapsed(rt)?.as_micros();
+        let Some(reply) = reply_of(&room[..len]) else {
+            return Err(refused("another answer"));
+        };
+        let high = reply.autonomous_system >> 32;
+        let middle = (reply.autonomous_system >> 16) & 0xffff;
+        let low = reply.autonomous_system & 0xffff;
+        let isd = reply.isd;
+        let interface = reply.interface;
+        println!(rt;
+            "{sequence} {isd}-{high:x}:{middle:x}:{low:x} interface {interface}, after {micros} us"
+        )
+    }
+}
+
+/// Tries the path that the words ask for.
+fn try_path<R>(rt: &R) -> io::Result<()>
+where
+    R: Env + Files + Net + Clock + Print + AllocGlobal,
+{
+    let mut words = Vec::new(rt.alloc());
+    for word in env::args(rt)?.skip(1) {
+        words.push(word)?;
+    }
+    if words.len() == 1 && words[0].as_str() == "--help" {
+        return println!(rt;
+            "path_probe FROM TO FIRST CORE CORE LAST: tries the path between two hosts"
+        );
+    }
+    let probe = probe_of(rt, words.as_slice())?;
+    probe.ping(rt)?;
+    probe.trace(rt, 1, Asked::Leaving)?;
+    probe.trace(rt, 2, Asked::EnteringCore)?;
+    probe.trace(rt, 3, Asked::LeavingCore)?;
+    probe.trace(rt, 4, Asked::Entering)
+}
+
+fn main(rt: HostRuntime) -> ExitCode {
+    match try_path(&rt) {
+        Ok(()) => ExitCode::SUCCESS,
+        Err(error) => {
+            let _ = eprintln!(rt; "path_probe: {error}");
+            ExitCode::FAILURE
+        }
+    }
+}
