@@ -48,7 +48,7 @@ const REQUEST: &str = "00000001ca150018010000000001ff00000001120001ff00000001110
     000030000100123465000000003f000000116349aa95d77c023f000100026193b6549f1e003f0012000026d850ac58d3\
     820000000007000300000000000000000000000000000000";
 
-fn underlay(address: [u8; 4], port: u16) -> Underlay {
+pub(crate) fn underlay(address: [u8; 4], port: u16) -> Underlay {
     Underlay {
         ip: Ip::V4(address),
         port,
@@ -102,7 +102,7 @@ fn net(rt: &(impl AllocGlobal + Abort)) -> Net {
 }
 
 /// The walk, where the net agrees and has the router.
-fn walked(
+pub(crate) fn walked(
     alloc: Global,
     net: &Net,
     router: usize,
@@ -116,7 +116,7 @@ fn walked(
 }
 
 /// Whether the stop is at the router, and sends the packet so.
-fn sends(stop: &Stop, router: usize, out: u16, address: Option<Underlay>) -> bool {
+pub(crate) fn sends(stop: &Stop, router: usize, out: u16, address: Option<Underlay>) -> bool {
     match &stop.routed {
         Routed::Send { link, to, .. } => { stop.router == router && *link == out && *to == address }
         _ => false,
