@@ -1,0 +1,145 @@
+-- Workers made of what stood ready are a crew.
+use Rattle.std.proofs.Common.{◌≡◌, ℕ, zero, suc, ◌+◌, ◌*◌, List, [], ◌∷◌, map, length, Some, slice_get, refl, sym, ◌∙◌, ap, subst, arith}
+use Rattle.process_packet.specs.declared.config.Config.{Config}
+use Rattle.pipe_order.specs.Item.{Outgoing}
+use Rattle.ruled_pipe.specs.Pipe.{Shape}
+use Rattle.router_laws.specs.Returned.{AllAt}
+use Rattle.router_rules.specs.Links.{interface_at, link_count}
+use Rattle.router_rules.specs.Rules.{kinds}
+use Rattle.router_stages.specs.Answering.{Answering}
+use Rattle.router_stages.specs.Forwarding.{Forwarding}
+use Rattle.router_stages.specs.Receiving.{Receiving}
+use Rattle.router_stages.specs.Working.{Working}
+use Rattle.router_ends.specs.Rows.{Row}
+use Rattle.router_ends.specs.Shutting.{Shutting}
+use Rattle.run_laws.specs.Crew.{AreForwarding, AreWorking, Crew, IsCrew, IsForwardingAt, IsReceivingAt, IsTakerOf, IsWorkingAt, Piping}
+use Rattle.router_run.specs.Kits.{Entry, Exit, IsEnteringAt, IsLeavingAt, IsWorkingThere, forwardings, receivings}
+use Rattle.router_run.specs.Run.{AreMakings, Run, crew_of}
+use Rattle.router_run.specs.Starting.{Begins}
+use Rattle.pipe_order.specs.Item.{Arrival}
+
+some_same : {X : Type 0} (x y : X) → Some x ≡ Some y → x ≡ y
+some_same x y e = cc
+
+module _ {S : Type 0} (c : Config) (p : Piping) where
+  receiving_at : (n : ℕ) (e : Entry) (s : S) → IsEnteringAt c p.inner n e → AllAt (IsReceivingAt c p) n (receivings (e ∷ []) (s ∷ []))
+  receiving_at n e s is = (
+    record {
+      config = is.config;
+      link = is.link;
+      interface = ap (λ (d : Config). interface_at d e.link) is.config ∙ ap (interface_at c) is.link;
+      processors = is.processors;
+    },
+    tt,
+  )
+
+  pub receivings_at : (n : ℕ) (es : List Entry) (ss : List S) → AllAt (IsEnteringAt c p.inner) n es → length ss ≡ length es → AllAt (IsReceivingAt c p) n (receivings es ss)
+  receivings_at n [] ss all same = tt
+  receivings_at n (e ∷ es) [] all same = absurd (omega arith)
+  receivings_at n (e ∷ es) (s ∷ ss) all same = ((receiving_at n e s all.0).0, receivings_at (n + 1) es ss all.1 (omega arith))
+
+module _ {S : Type 0} where
+  pub receivings_long : (es : List Entry) (ss : List S) → length ss ≡ length es → length (receivings es ss) ≡ length es
+  receivings_long [] ss same = refl
+  receivings_long (e ∷ es) [] same = absurd (omega arith)
+  receivings_long (e ∷ es) (s ∷ ss) same = let r = receivings_long es ss (omega arith) in omega arith
+
+  pub receivings_sources : (es : List Entry) (ss : List S) → length ss ≡ length es → map (λ (r : Receiving S). r.source) (receivings es ss) ≡ ss
+  receivings_sources [] [] same = refl
+  receivings_sources [] (s ∷ ss) same = absurd (omega arith)
+  receivings_sources (e ∷ es) [] same = absurd (omega arith)
+  receivings_sources (e ∷ es) (s ∷ ss) same = ap (λ (xs : List S). s ∷ xs) (receivings_sources es ss (omega arith))
+
+module _ {K : Type 0} (failed : K → ℕ) where
+  pub forwardings_long : (es : List Exit) (ks : List K) → length ks ≡ length es → length (forwardings failed es ks) ≡ length es
+  forwardings_long [] ks same = refl
+  forwardings_long (e ∷ es) [] same = absurd (omega arith)
+  forwardings_long (e ∷ es) (k ∷ ks) same = let r = forwardings_long es ks (omega arith) in omega arith
+
+  pub forwardings_sinks : (es : List Exit) (ks : List K) → length ks ≡ length es → map (λ (f : Forwarding K). f.side.sink) (forwardings failed es ks) ≡ ks
+  forwardings_sinks [] [] same = refl
+  forwardings_sinks [] (k ∷ ks) same = absurd (omega arith)
+  forwardings_sinks (e ∷ es) [] same = absurd (omega arith)
+  forwardings_sinks (e ∷ es) (k ∷ ks) same = ap (λ (xs : List K). k ∷ xs) (forwardings_sinks es ks (omega arith))
+
+  pub forwardings_began : (es : List Exit) (ks : List K) → length ks ≡ length es → map (λ (f : Forwarding K). f.began) (forwardings failed es ks) ≡ map failed ks
+  forwardings_began [] [] same = refl
+  forwardings_began [] (k ∷ ks) same = absurd (omega arith)
+  forwardings_began (e ∷ es) [] same = absurd (omega arith)
+  forwardings_began (e ∷ es) (k ∷ ks) same = ap (λ (xs : List ℕ). failed k ∷ xs) (forwardings_began es ks (omega arith))
+
+  forwarding_at : (c : Config) (outer : List Shape) (l : ℕ) (s t : Shape) (e : Exit) (k : K) → IsLeavingAt c outer l e → slice_get outer (2 * l) ≡ Some s → slice_get outer (2 * l + 1) ≡ Some t → AreForwarding c l (s ∷ t ∷ []) (forwardings failed (e ∷ []) (k ∷ []))
+  forwarding_at c outer l s t e k is first second =
+      let a : is.first ≡ s = some_same is.first s (sym is.first_there ∙ first) in
+      let b : is.second ≡ t = some_same is.second t (sym is.second_there ∙ second) in (
+        record {
+          config = is.config;
+          link = is.link;
+          low = subst (λ (x : Shape). IsTakerOf x e.low.taker) a is.low;
+          high = subst (λ (x : Shape). IsTakerOf x e.high.taker) b is.high;
+        },
+        tt,
+      )
+
+  pub forwardings_at : (c : Config) (outer : List Shape) (l : ℕ) (ss : List Shape) (es : List Exit) (ks : List K) → AllAt (IsLeavingAt c outer) l es → length ss ≡ 2 * length es → length ks ≡ length es
+      → ((j : ℕ) (s : Shape) → slice_get ss j ≡ Some s → slice_get outer (2 * l + j) ≡ Some s) → AreForwarding c l ss (forwardings failed es ks)
+  forwardings_at c outer l [] [] ks all long same at = tt
+  forwardings_at c outer l (s ∷ ss) [] ks all long same at = absurd (omega arith)
+  forwardings_at c outer l [] (e ∷ es) ks all long same at = absurd (omega arith)
+  forwardings_at c outer l (s ∷ []) (e ∷ es) ks all long same at = absurd (omega arith)
+  forwardings_at c outer l (s ∷ t ∷ ss) (e ∷ es) [] all long same at = absurd (omega arith)
+  forwardings_at c outer l (s ∷ t ∷ ss) (e ∷ es) (k ∷ ks) all long same at =
+      let first : 2 * l + 0 ≡ 2 * l = omega arith in (
+        (forwarding_at c outer l s t e k all.0 (subst (λ (j : ℕ). slice_get outer j ≡ Some s) first (at 0 s refl)) (at 1 t refl)).0,
+        forwardings_at c outer (l + 1) ss es ks all.1 (omega arith) (omega arith)
+            (λ j x got. let e : 2 * l + suc (suc j) ≡ 2 * (l + 1) + j = omega arith in subst (λ (i : ℕ). slice_get outer i ≡ Some x) e (at (suc (suc j)) x got)),
+      )
+
+module _ {G : Type 0} (c : Config) (p : Piping) where
+  pub working_at : (i : ℕ) (ss : List Shape) (ws : List (Working G)) → AllAt (IsWorkingThere c p) i ws → length ws ≡ length ss → ((j : ℕ) (s : Shape) → slice_get ss j ≡ Some s → slice_get p.inner (i + j) ≡ Some s) → AreWorking c p i ss ws
+  working_at i [] [] all same at = tt
+  working_at i [] (w ∷ ws) all same at = absurd (omega arith)
+  working_at i (s ∷ ss) [] all same at = absurd (omega arith)
+  working_at i (s ∷ ss) (w ∷ ws) all same at =
+      let z : i + 0 ≡ i = omega arith in
+      let here : slice_get p.inner i ≡ Some s = subst (λ (j : ℕ). slice_get p.inner j ≡ Some s) z (at 0 s refl) in
+      let own : all.0.own ≡ s = some_same all.0.own s (sym all.0.there ∙ here) in (
+        subst (λ (x : Shape). IsWorkingAt c p i x w) own all.0.works,
+        working_at (i + 1) ss ws all.1 (omega arith) (λ j x got. let e : i + suc j ≡ i + 1 + j = omega arith in subst (λ (k : ℕ). slice_get p.inner k ≡ Some x) e (at (suc j) x got)),
+      )
+
+pub is_crew : {S G K : Type 0} (failed : K → ℕ) (c : Config) (p : Piping) (inner_rooms : List (Row (Arrival kinds))) (outer_rooms : List (Row (Outgoing kinds))) (es : List Entry) (ws : List (Working G)) (a : Answering) (xs : List Exit) (hs : List (Shutting (Outgoing kinds))) (ss : List S) (ks : List K)
+    → AreMakings c p inner_rooms outer_rooms es ws a xs hs → length ss ≡ link_count c → length ks ≡ link_count c → IsCrew c p (crew_of (receivings es ss) ws (a ∷ []) (forwardings failed xs ks) hs)
+is_crew failed c p inner_rooms outer_rooms es ws a xs hs ss ks m sources sinks =
+    let entries : length es ≡ link_count c = let q = m.entering.count in omega arith in
+    let exits : length xs ≡ link_count c = let q = m.leaving.count in omega arith in
+    let works : length ws ≡ c.processors = let q = m.working.count in omega arith in
+    record {
+      pipes = m.pipes_are;
+      receivers = receivings_at c p 0 es ss m.entering.each (sources ∙ sym entries);
+      receiver_count = receivings_long es ss (sources ∙ sym entries) ∙ entries;
+      processors = working_at c p 0 p.inner ws m.working.each (works ∙ sym m.pipes_are.processors) (λ j s got. let z : j ≡ 0 + j = omega arith in subst (λ (i : ℕ). slice_get p.inner i ≡ Some s) z got);
+      slow = m.answering;
+      forwarders = forwardings_at failed c p.outer 0 p.outer xs ks m.leaving.each (let q = m.pipes_are.links in omega arith) (sinks ∙ sym exits) (λ j s got. let z : j ≡ 2 * 0 + j = omega arith in subst (λ (i : ℕ). slice_get p.outer i ≡ Some s) z got);
+      shutters = m.shutting;
+      unmarked = m.unmarked;
+    }
+
+-- the same crew, by other lists of the same workers
+pub crew_by : {S G K : Type 0} (c : Config) (p : Piping) (rs qs : List (Receiving S)) (ws vs : List (Working G)) (ss ts : List Answering) (fs es : List (Forwarding K)) (hs : List (Shutting (Outgoing kinds)))
+    → rs ≡ qs → ws ≡ vs → ss ≡ ts → fs ≡ es → IsCrew c p (crew_of qs vs ts es hs) → IsCrew c p (crew_of rs ws ss fs hs)
+crew_by {S = S} {G = G} {K = K} c p rs qs ws vs ss ts fs es hs r w s f is =
+    subst (λ (x : List (Receiving S)). IsCrew c p (crew_of x ws ss fs hs)) (sym r)
+    (subst (λ (x : List (Working G)). IsCrew c p (crew_of qs x ss fs hs)) (sym w)
+    (subst (λ (x : List Answering). IsCrew c p (crew_of qs vs x fs hs)) (sym s)
+    (subst (λ (x : List (Forwarding K)). IsCrew c p (crew_of qs vs ts x hs)) (sym f) is)))
+
+-- it has these devices
+pub begins : {S G K : Type 0} (failed : K → ℕ) (c : Config) (r : Run S G K) (es : List Entry) (xs : List Exit) (ss : List S) (ks : List K)
+    → r.config ≡ c → r.crew.receivers ≡ receivings es ss → r.crew.forwarders ≡ forwardings failed xs ks → length ss ≡ length es → length ks ≡ length xs → Begins failed c ss ks r
+begins {S = S} {K = K} failed c r es xs ss ks config rs fs sources sinks = record {
+  config = config;
+  sources_are = ap (map (λ (w : Receiving S). w.source)) rs ∙ receivings_sources es ss sources;
+  sinks_are = ap (map (λ (f : Forwarding K). f.side.sink)) fs ∙ forwardings_sinks failed xs ks sinks;
+  began = ap (map (λ (f : Forwarding K). f.began)) fs ∙ forwardings_began failed xs ks sinks;
+}

@@ -1,0 +1,150 @@
+-- What a run came to, of its parts.
+use Rattle.std.proofs.Common.{◌≡◌, ℕ, ◌+◌, ◌*◌, true, List, [], ◌∷◌, ◌++◌, map, length, Option, refl, sym, ◌∙◌, ap, subst, arith, length-append}
+use Rattle.std.proofs.lemmas.List.{length-map}
+use Rattle.packet_ledger.specs.Share.{Held, forwarded}
+use Rattle.pipe_order.specs.Item.{Arrival, Outgoing}
+use Rattle.pipe_order.specs.Settled.{Question}
+use Rattle.process_packet.specs.declared.config.Config.{Config}
+use Rattle.process_packet.specs.declared.totals.Totals.{Totals}
+use Rattle.ruled_pipe.specs.Producer.{Sender}
+use Rattle.ruled_pipe.specs.Consumer.{Taker}
+use Rattle.ruled_pipe.specs.Pipe.{Shape}
+use Rattle.router_laws.specs.Heard.{Heard}
+use Rattle.router_laws.specs.Returned.{ForwarderBack, ProcessorBack, ReceiverBack, RunsAsTold, shares_of}
+use Rattle.router_laws.specs.Totals.{totals_of}
+use Rattle.router_rules.specs.Links.{link_count}
+use Rattle.router_rules.specs.Rules.{kinds}
+use Rattle.router_stages.specs.Answering.{Answering}
+use Rattle.router_stages.specs.Forwarding.{Forwarding}
+use Rattle.router_stages.specs.Receiving.{Receiving}
+use Rattle.router_stages.specs.Working.{Working}
+use Rattle.stage_parts.specs.Outlets.{senders}
+use Rattle.stage_parts.specs.Told.{Told, told_of}
+use Rattle.router_ends.specs.Rows.{HaveLeft, Row, rows_of}
+use Rattle.router_ends.specs.Settled.{AreSettled, HaveEnded, IsDone, IsEnded}
+use Rattle.run_laws.specs.Came.{CrewsReturn, HasKept, HasSettled, back_of, forwarder_back, processor_back, receiver_back}
+use Rattle.run_laws.specs.Crew.{Crew, IsCrew, Piping}
+use Rattle.run_laws.specs.Ended.{IsBack, PipesEnd, inner_rows, inner_takers, middle_takers, outer_rows, takers_of}
+use Rattle.router_run.specs.Room.{Berths, HaveBerths, HaveSpace, Space}
+use Rattle.router_run.specs.Run.{HasRun, IsParted, IsSized, Run, shares_in}
+use Rattle.router_run.proofs.Parted.{rows_long}
+
+map_twice : {X Y Z : Type 0} (f : X → Y) (g : Y → Z) (xs : List X) → map g (map f xs) ≡ map (λ (x : X). g (f x)) xs
+map_twice f g [] = refl
+map_twice f g (x ∷ xs) = ap (λ (zs : List _). g (f x) ∷ zs) (map_twice f g xs)
+
+one_of : {X : Type 0} (xs : List X) → length xs ≡ 1 → (x : X) × (xs ≡ x ∷ [])
+one_of [] e = absurd (omega arith)
+one_of (x ∷ []) e = (x, refl)
+one_of (x ∷ y ∷ xs) e = absurd (omega arith)
+
+-- the only slow path
+pub the_slow : {S G K : Type 0} (links processors : ℕ) (w : Crew S G K) → IsSized links processors w → (a : Answering) × (w.slow ≡ a ∷ [])
+the_slow links processors w sized = one_of w.slow sized.slow.1
+
+module _ {S G K : Type 0} where
+  -- the gathered pipes
+  module _ (w : Crew S G K) (inner_bundles : List (Row (Arrival kinds))) (inner : List (Taker (Arrival kinds))) (middle : List (Sender (Question kinds))) (asked : Taker (Question kinds)) (outer_bundles : List (Row (Outgoing kinds))) (outer : List (Taker (Outgoing kinds)))
+      (parted : IsParted w inner_bundles inner middle asked outer_bundles outer) where
+    pub inner_ended : (p : Piping) → PipesEnd p w → HaveEnded p.inner inner_bundles inner
+    inner_ended p ends = subst (λ (ts : List (Taker (Arrival kinds))). HaveEnded p.inner inner_bundles ts) (sym parted.inner_are) (ends.inner inner_bundles parted.inner_bundles_are)
+
+    pub outer_ended : (p : Piping) → PipesEnd p w → HaveEnded p.outer outer_bundles outer
+    outer_ended p ends = subst (λ (ts : List (Taker (Outgoing kinds))). HaveEnded p.outer outer_bundles ts) (sym parted.outer_are) (ends.outer outer_bundles parted.outer_bundles_are)
+
+    pub middle_ended : (p : Piping) (a : Answering) → w.slow ≡ a ∷ [] → PipesEnd p w → IsEnded true p.middle middle asked
+    middle_ended p a one ends =
+        let at : middle_takers w ≡ asked ∷ [] = ap (map (λ (x : Answering). x.taker)) one ∙ ap (λ (t : Taker (Question kinds)). t ∷ []) (sym (parted.asked_is a one)) in
+        subst (λ (row : List (Sender (Question kinds))). IsEnded true p.middle row asked) (sym parted.middle_are) (ends.middle asked at)
+
+    pub settled : (p : Piping) (a : Answering) → w.slow ≡ a ∷ [] → AreSettled 0 (rows_of inner_bundles) p.inner inner → IsDone p.middle middle asked → AreSettled 0 (rows_of outer_bundles) p.outer outer → HasSettled p w
+    settled p a one si sm so = record {
+      inner = subst (λ (rows : List (List (Sender (Arrival kinds)))). AreSettled 0 rows p.inner (inner_takers w)) parted.inner_bundles_are (subst (λ (ts : List (Taker (Arrival kinds))). AreSettled 0 (rows_of inner_bundles) p.inner ts) parted.inner_are si);
+      middle = λ t at.
+          let same : asked ≡ t = parted.asked_is a one ∙ (let e = ap (map (λ (x : Answering). x.taker)) (sym one) ∙ at in cc) in
+          subst (λ (row : List (Sender (Question kinds))). IsDone p.middle row t) parted.middle_are (subst (λ (u : Taker (Question kinds)). IsDone p.middle middle u) same sm);
+      outer = subst (λ (rows : List (List (Sender (Outgoing kinds)))). AreSettled 0 rows p.outer (takers_of w.forwarders)) parted.outer_bundles_are (subst (λ (ts : List (Taker (Outgoing kinds))). AreSettled 0 (rows_of outer_bundles) p.outer ts) parted.outer_are so);
+    }
+
+    pub inner_count : (links processors : ℕ) → IsSized links processors w → length inner_bundles ≡ links
+    inner_count links processors sized = rows_long inner_bundles (inner_rows w) parted.inner_bundles_are ∙ (length-map w.receivers (λ (r : Receiving S). senders r.side.processors) ∙ sized.receivers.1)
+
+    pub outer_count : (links processors : ℕ) → IsSized links processors w → length outer_bundles ≡ processors + 2
+    outer_count links processors sized =
+        let a = rows_long outer_bundles (outer_rows w) parted.outer_bundles_are in
+        let slow = map (λ (x : Answering). senders x.side.links) w.slow in
+        let b = length-map w.processors (λ (q : Working G). senders q.side.links) in
+        let d = length-map w.slow (λ (x : Answering). senders x.side.links) in
+        let x = length-append (map (λ (q : Working G). senders q.side.links) w.processors) (slow ++ map (λ h. h.end) w.shutters ∷ []) in
+        let y = length-append slow (map (λ h. h.end) w.shutters ∷ []) in
+        let n = sized.workers.1 in let m = sized.slow.1 in
+        omega arith
+
+  -- as many shares as workers
+  pub shares_count : (links processors : ℕ) (w : Crew S G K) → IsSized links processors w → length (shares_in w) ≡ 2 * links + processors + 1
+  shares_count links processors w sized =
+      let rs = map (λ (r : Receiving S). r.side.share) w.receivers in
+      let ps = map (λ (q : Working G). q.side.share) w.processors in
+      let ss = map (λ (x : Answering). x.side.share) w.slow in
+      let fs = map (λ (f : Forwarding K). f.side.share) w.forwarders in
+      let a = length-append rs (ps ++ (ss ++ fs)) in
+      let b = length-append ps (ss ++ fs) in
+      let d = length-append ss fs in
+      let i = length-map w.receivers (λ (r : Receiving S). r.side.share) in
+      let j = length-map w.processors (λ (q : Working G). q.side.share) in
+      let k = length-map w.slow (λ (x : Answering). x.side.share) in
+      let l = length-map w.forwarders (λ (f : Forwarding K). f.side.share) in
+      let n = sized.receivers.1 in let m = sized.workers.1 in let o = sized.slow.1 in let q = sized.forwarders in
+      omega arith
+
+  module _ (told : S → Option (List Heard)) (shown : K → Option (List Told)) (failed : K → ℕ) where
+    pub shares_same : (w : Crew S G K) (a : Answering) → w.slow ≡ a ∷ [] → shares_in w ≡ shares_of (back_of told shown failed w a)
+    shares_same w a one =
+        let rs = map_twice (receiver_back told) (λ (r : ReceiverBack). r.share) w.receivers in
+        let ps = map_twice processor_back (λ (p : ProcessorBack). p.share) w.processors in
+        let fs = map_twice (forwarder_back shown failed) (λ (f : ForwarderBack Told). f.share) w.forwarders in
+        let slow : map (λ (x : Answering). x.side.share) w.slow ≡ a.side.share ∷ [] = ap (map (λ (x : Answering). x.side.share)) one in
+        ap (λ (xs : List Held). map (λ (r : Receiving S). r.side.share) w.receivers ++ (map (λ (p : Working G). p.side.share) w.processors ++ (xs ++ map (λ (f : Forwarding K). f.side.share) w.forwarders))) slow
+        ∙ (ap (λ (xs : List Held). xs ++ (map (λ (p : Working G). p.side.share) w.processors ++ (a.side.share ∷ map (λ (f : Forwarding K). f.side.share) w.forwarders))) (sym rs)
+        ∙ (ap (λ (xs : List Held). map (λ (r : ReceiverBack). r.share) (map (receiver_back told) w.receivers) ++ (xs ++ (a.side.share ∷ map (λ (f : Forwarding K). f.side.share) w.forwarders))) (sym ps)
+        ∙ ap (λ (xs : List Held). map (λ (r : ReceiverBack). r.share) (map (receiver_back told) w.receivers) ++ (map (λ (p : ProcessorBack). p.share) (map processor_back w.processors) ++ (a.side.share ∷ xs))) (sym fs)))
+
+    -- all together
+    pub has_run : RunsAsTold Told → CrewsReturn S G K → (r : Run S G K) (w : Crew S G K) (a : Answering) (totals : Totals) (shares : List Held) (sent : List ℕ) (sources : List S) (sinks : List K)
+        → IsCrew r.config r.pipes r.crew → IsBack r.crew w → HasKept told shown failed w → HasSettled r.pipes w → w.slow ≡ a ∷ []
+        → shares ≡ shares_in w → totals ≡ totals_of shares → sent ≡ map (λ (f : Forwarding K). forwarded f.side.share) w.forwarders → sources ≡ map (λ (x : Receiving S). x.source) w.receivers → sinks ≡ map (λ (f : Forwarding K). f.side.sink) w.forwarders
+        → HasRun told shown failed r totals sent sources sinks
+    has_run runs returns r w a totals shares sent sources sinks is back kept set one same counts sends reads writes = record {
+      crew = w;
+      slow = a;
+      one = one;
+      back = back;
+      settled = set;
+      ran = runs told_of r.config (back_of told shown failed w a) _ (returns told shown failed r.config r.pipes r.crew w a is back kept set one);
+      totals_are = counts ∙ ap totals_of (same ∙ shares_same w a one);
+      sent_are = sends;
+      sources_are = reads;
+      sinks_are = writes;
+    }
+
+-- ---- what stands in a running router, seen by another name of its configuration
+
+module _ {S G K : Type 0} where
+  pub crew_as : (a b : Config) (p : Piping) (w : Crew S G K) → a ≡ b → IsCrew b p w → IsCrew a p w
+  crew_as a b p w e is = subst (λ (c : Config). IsCrew c p w) (sym e) is
+
+  module _ (told : S → Option (List Heard)) (shown : K → Option (List Told)) (failed : K → ℕ) where
+    pub run_as : (a b : Config) (p : Piping) (w : Crew S G K) (r : Run S G K) (totals : Totals) (sent : List ℕ) (sources : List S) (sinks : List K) → a ≡ b → record { config = b; pipes = p; crew = w } ≡ r
+        → HasRun told shown failed (record { config = a; pipes = p; crew = w }) totals sent sources sinks → HasRun told shown failed r totals sent sources sinks
+    run_as a b p w r totals sent sources sinks e f ran =
+        subst (λ (x : Run S G K). HasRun told shown failed x totals sent sources sinks) f
+        (subst (λ (c : Config). HasRun told shown failed (record { config = c; pipes = p; crew = w }) totals sent sources sinks) e ran)
+
+pub left_as : {T : Type 0} (n m : ℕ) (ss : List Shape) (rs : List (Row T)) → n ≡ m → HaveLeft m 0 ss rs → HaveLeft n 0 ss rs
+left_as n m ss rs e left = subst (λ (k : ℕ). HaveLeft k 0 ss rs) (sym e) left
+
+pub berths_as : (a b : Config) (r : Berths) → a ≡ b → HaveBerths (link_count b) b.processors r → HaveBerths (link_count a) a.processors r
+berths_as a b r e have = subst (λ (c : Config). HaveBerths (link_count c) c.processors r) (sym e) have
+
+pub space_for : (a b : Config) (r : Space) → a ≡ b → HaveSpace (link_count b) b.processors r → HaveSpace (link_count a) a.processors r
+space_for a b r e have = subst (λ (c : Config). HaveSpace (link_count c) c.processors r) (sym e) have

@@ -1,0 +1,117 @@
+-- How many workers came back, and what they did.
+use Rattle.std.proofs.Common.{◌≡◌, ℕ, suc, ◌+◌, ◌*◌, ◌≤◌, Bool, List, [], ◌∷◌, map, length, refl, sym, ◌∙◌, subst, arith}
+use Rattle.std.proofs.lemmas.List.{length-map}
+use Rattle.pipe_order.specs.Deeds.{Each}
+use Rattle.process_packet.specs.declared.config.Config.{Config}
+use Rattle.ruled_pipe.specs.Pipe.{Shape}
+use Rattle.router_laws.specs.Returned.{AllAt}
+use Rattle.router_rules.specs.Links.{link_count}
+use Rattle.router_stages.specs.Answering.{Answering}
+use Rattle.router_stages.specs.Forwarding.{Forwarding}
+use Rattle.router_stages.specs.Receiving.{Receiving}
+use Rattle.router_stages.specs.Working.{Working}
+use Rattle.stage_parts.specs.Outlet.{Offering}
+use Rattle.stage_parts.specs.Outlets.{senders}
+use Rattle.router_ends.specs.Shutting.{AreShutters, EachEnds, Shutting}
+use Rattle.worker_threads.specs.Back.{AreBack}
+use Rattle.worker_threads.specs.Workers.{IsSameReceiver, ReceiverEnded, IsSameProcessor, ProcessorEnded, IsSameSlowPath, SlowPathEnded}
+use Rattle.run_laws.specs.Crew.{AreAnswering, AreForwarding, AreWorking, Crew, IsCrew, IsReceivingAt, Piping, are_used}
+use Rattle.run_laws.specs.Ended.{IsBack}
+use Rattle.run_laws.proofs.Ends.{ends_long, same_ends}
+use Rattle.run_laws.proofs.Rows.{back_long, working_long}
+use Rattle.router_run.specs.Room.{Berths, HaveBerths}
+use Rattle.router_run.specs.Run.{IsSized}
+
+long_of : {T : Type 0} (xs : List (Offering T)) → length (senders xs) ≡ length xs
+long_of xs = length-map xs (λ (o : Offering _). o.sender)
+
+module _ {S : Type 0} (c : Config) (p : Piping) where
+  receivers_sized : (n : ℕ) (xs ys : List (Receiving S)) → AllAt (IsReceivingAt c p) n xs → AreBack (λ a b. IsSameReceiver a b × ReceiverEnded b) xs ys → Each (λ (r : Receiving S). length r.side.processors ≡ length p.inner) ys
+  receivers_sized n [] [] all back = tt
+  receivers_sized n [] (y ∷ ys) all back = absurd back
+  receivers_sized n (x ∷ xs) [] all back = absurd back
+  receivers_sized n (x ∷ xs) (y ∷ ys) all back =
+      let e = ends_long n p.inner (senders y.side.processors) (same_ends _ n p.inner x.side.processors y.side.processors back.0.0.processors all.0.processors) in
+      (sym (long_of y.side.processors) ∙ e, receivers_sized (n + 1) xs ys all.1 back.1)
+
+module _ {G : Type 0} (c : Config) (p : Piping) where
+  workers_sized : (i : ℕ) (ss : List Shape) (xs ys : List (Working G)) → AreWorking c p i ss xs → AreBack (λ a b. IsSameProcessor a b × ProcessorEnded b) xs ys → Each (λ (w : Working G). length w.side.links ≡ length p.outer) ys
+  workers_sized i [] [] [] are back = tt
+  workers_sized i [] [] (y ∷ ys) are back = absurd back
+  workers_sized i [] (x ∷ xs) ys are back = absurd are
+  workers_sized i (s ∷ ss) [] ys are back = absurd are
+  workers_sized i (s ∷ ss) (x ∷ xs) [] are back = absurd back
+  workers_sized i (s ∷ ss) (x ∷ xs) (y ∷ ys) are back =
+      let e = ends_long i p.outer (senders y.side.links) (same_ends (are_used x.side.config) i p.outer x.side.links y.side.links back.0.0.links are.0.links) in
+      (sym (long_of y.side.links) ∙ e, workers_sized (i + 1) ss xs ys are.1 back.1)
+
+slow_sized : (c : Config) (p : Piping) (xs ys : List Answering) → AreAnswering c p xs → AreBack (λ a b. IsSameSlowPath a b × SlowPathEnded b) xs ys → Each (λ (a : Answering). length a.side.links ≡ length p.outer) ys × (length ys ≡ 1)
+slow_sized c p [] ys are back = absurd are
+slow_sized c p (x ∷ z ∷ xs) ys are back = absurd are
+slow_sized c p (x ∷ []) [] are back = absurd back
+slow_sized c p (x ∷ []) (y ∷ z ∷ ys) are back = absurd back.1
+slow_sized c p (x ∷ []) (y ∷ []) are back =
+    let e = ends_long c.processors p.outer (senders y.side.links) (same_ends (are_used x.side.config) c.processors p.outer x.side.links y.side.links back.0.0.links are.links) in
+    ((sym (long_of y.side.links) ∙ e, tt), refl)
+
+forwarding_long : {K : Type 0} (c : Config) (l : ℕ) (ss : List Shape) (fs : List (Forwarding K)) → AreForwarding c l ss fs → length ss ≡ 2 * length fs
+forwarding_long c l [] [] are = refl
+forwarding_long c l [] (f ∷ fs) are = absurd are
+forwarding_long c l (s ∷ []) fs are = absurd are
+forwarding_long c l (s ∷ t ∷ ss) [] are = absurd are
+forwarding_long c l (s ∷ t ∷ ss) (f ∷ fs) are = let r = forwarding_long c (l + 1) ss fs are.1 in omega arith
+
+module _ {T : Type 0} where
+  pub shutters_long : (uses : ℕ → Bool) (k q : ℕ) (ss : List Shape) (hs : List (Shutting T)) → AreShutters uses k q ss hs → length hs ≡ length ss
+  shutters_long uses k q [] [] are = refl
+  shutters_long uses k q [] (h ∷ hs) are = absurd are
+  shutters_long uses k q (s ∷ ss) [] are = absurd are
+  shutters_long uses k q (s ∷ ss) (h ∷ hs) are = let r = shutters_long uses (suc k) q ss hs are.1 in omega arith
+
+  each_ends_long : (hs ks : List (Shutting T)) → EachEnds hs ks → length ks ≡ length hs
+  each_ends_long [] [] e = refl
+  each_ends_long [] (k ∷ ks) e = absurd e
+  each_ends_long (h ∷ hs) [] e = absurd e
+  each_ends_long (h ∷ hs) (k ∷ ks) e = let r = each_ends_long hs ks e.1 in omega arith
+
+answering_one : (c : Config) (p : Piping) (xs : List Answering) → AreAnswering c p xs → length xs ≡ 1
+answering_one c p [] are = absurd are
+answering_one c p (x ∷ []) are = refl
+answering_one c p (x ∷ y ∷ xs) are = absurd are
+
+-- how many workers there are
+module _ {S G K : Type 0} (c : Config) (p : Piping) (w : Crew S G K) (is : IsCrew c p w) where
+  pub crew_processors : length w.processors ≡ c.processors
+  crew_processors = working_long c p 0 p.inner w.processors is.processors ∙ is.pipes.processors
+
+  pub crew_slow : length w.slow ≡ 1
+  crew_slow = answering_one c p w.slow is.slow
+
+  pub crew_forwarders : length w.forwarders ≡ link_count c
+  crew_forwarders = let x = forwarding_long c 0 p.outer w.forwarders is.forwarders in let y = is.pipes.links in omega arith
+
+-- there is room for as many as these are read of
+pub mapped_fits : {X Y : Type 0} (f : X → Y) (xs : List X) (n room : ℕ) → length (map f xs) ≡ n → n ≤ room → length xs ≤ room
+mapped_fits f xs n room e fits = let l = length-map xs f in omega arith
+
+pub berths_seen : (links processors : ℕ) (v w : Berths) → v ≡ w → HaveBerths links processors w → HaveBerths links processors v
+berths_seen links processors v w e have = subst (λ (x : Berths). HaveBerths links processors x) (sym e) have
+
+pub is_sized : {S G K : Type 0} (c : Config) (p : Piping) (old new : Crew S G K) → IsCrew c p old → IsBack old new → IsSized (link_count c) c.processors new
+is_sized {S = S} {G = G} c p old new is back =
+    let inner = is.pipes.processors in
+    let outer = is.pipes.links in
+    let slow = slow_sized c p old.slow new.slow is.slow back.slow in
+    record {
+      receivers = (
+        subst (λ (n : ℕ). Each (λ (r : Receiving S). length r.side.processors ≡ n) new.receivers) inner (receivers_sized c p 0 old.receivers new.receivers is.receivers back.receivers),
+        back_long _ old.receivers new.receivers back.receivers ∙ is.receiver_count,
+      );
+      workers = (
+        subst (λ (n : ℕ). Each (λ (w : Working G). length w.side.links ≡ n) new.processors) outer (workers_sized c p 0 p.inner old.processors new.processors is.processors back.processors),
+        back_long _ old.processors new.processors back.processors ∙ crew_processors c p old is,
+      );
+      slow = (subst (λ (n : ℕ). Each (λ (a : Answering). length a.side.links ≡ n) new.slow) outer slow.0, slow.1);
+      forwarders = back_long _ old.forwarders new.forwarders back.forwarders ∙ crew_forwarders c p old is;
+      shutters = each_ends_long old.shutters new.shutters back.shutters ∙ (shutters_long (are_used c) 0 (c.processors + 1) p.outer old.shutters is.shutters ∙ outer);
+    }

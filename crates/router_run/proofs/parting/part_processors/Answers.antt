@@ -1,0 +1,54 @@
+use Rattle.std.proofs.Common.{rules, length, ◌∙◌, ap, subst, arith}
+use Rattle.stage_parts.specs.Outlet.{IsMarked, Offering}
+use Rattle.stage_parts.specs.Outlets.{senders}
+use Rattle.router_ends.specs.Handing.{AreMarked, NeverClosed}
+use Rattle.router_run.proofs.PartLemmas.{each_none, longer, grown, one_behind, room_kept, fits_still}
+use Rattle.router_run.proofs.RestLemmas.{all_done, each_back, each_first, shorter}
+use Rattle.router_run.proofs.parting.part_processors.Goals as goal
+
+pub loop-k-preserved : goal.loop-k-preserved
+loop-k-preserved g c =
+    let inv = c.loop-k.invariant in
+    let is = c.next-processor.ensures in
+    let row = c.next-row.ensures in
+    let parts = c.into_parts-from.ensures.parts in
+    let ends = c.bare.ensures.same ∙ ap senders parts.1 in
+    let took = c.push_reserved.ensures in
+    let put = c.push_reserved-in-loop-k.ensures in
+    let shared = c.push_reserved-in-loop-k-2.ensures in
+    record {
+      left = shorter _ _ _ _ _ is inv.left;
+      ends = (each_first _ _ _ _ is inv.ends).1;
+      rows = ((each_first _ _ _ _ row inv.rows.0).1, (let a = ap length is in let b = ap length row in let r = inv.rows.1 in omega arith), shorter _ _ _ _ _ row inv.rows.2);
+      takers = grown _ _ _ _ _ _ _ _ is took.items (c.into_consumer.ensures ∙ parts.0) inv.takers;
+      taker_room = (longer _ _ _ _ took.items inv.taker_room.0, fits_still _ _ _ took.capacity inv.taker_room.1);
+      asking = grown _ _ _ _ _ _ _ _ is c.put.ensures.0 (c.into_producer.ensures.same ∙ ap (λ (o : Offering _). o.sender) parts.2) inv.asking;
+      asking_room = (longer _ _ _ _ c.put.ensures.0 inv.asking_room.0, fits_still _ _ _ c.put.ensures.1 inv.asking_room.1);
+      bundles = grown _ _ _ _ _ _ _ _ is (one_behind _ _ _ _ put.items) ends inv.bundles;
+      bundle_room = (longer _ _ _ _ put.items inv.bundle_room.0, fits_still _ _ _ put.capacity inv.bundle_room.1, put.capacity ∙ inv.bundle_room.2);
+      shares = grown _ _ _ _ _ _ _ _ is shared.items parts.4 inv.shares;
+      share_room = (room_kept _ _ _ _ _ _ _ _ shared.items is shared.capacity inv.share_room.0, shared.capacity ∙ inv.share_room.1);
+      laws = each_back _ _ _ _ _ is inv.laws (c.into_parts-from.ensures.law, subst (λ xs. NeverClosed xs) ends c.bare.ensures.unclosed);
+      marks = each_back _ _ _ _ _ is inv.marks (
+        subst (λ xs. AreMarked xs) parts.1 c.bare.ensures.marks,
+        subst (λ (o : Offering _). IsMarked o.sender o.ended) parts.2 (subst (λ s. IsMarked s c.into_parts-from.result.2.ended) c.into_producer.ensures.same c.into_producer.ensures.marks),
+      );
+    }
+
+pub returns-clause-takers : goal.returns-clause-takers
+returns-clause-takers g c = all_done _ _ _ _ (search rules) c.loop-k.invariant.takers
+
+pub returns-clause-asking : goal.returns-clause-asking
+returns-clause-asking g c = all_done _ _ _ _ (search rules) c.loop-k.invariant.asking
+
+pub returns-clause-bundles : goal.returns-clause-bundles
+returns-clause-bundles g c = (all_done _ _ _ _ (search rules) c.loop-k.invariant.bundles, c.loop-k.invariant.bundle_room.2)
+
+pub returns-clause-shares : goal.returns-clause-shares
+returns-clause-shares g c = (all_done _ _ _ _ (search rules) c.loop-k.invariant.shares, c.loop-k.invariant.share_room.1)
+
+pub returns-clause-laws : goal.returns-clause-laws
+returns-clause-laws g c = c.loop-k.invariant.laws (each_none _ _ (search rules))
+
+pub returns-clause-marks : goal.returns-clause-marks
+returns-clause-marks g c = c.loop-k.invariant.marks (each_none _ _ (search rules))

@@ -1,0 +1,64 @@
+use Rattle.std.proofs.Common.{rules, length, refl, sym, ◌∙◌, ap, subst, arith}
+use Rattle.stage_parts.specs.Outlets.{senders}
+use Rattle.router_ends.specs.Handing.{AreMarked, NeverClosed}
+use Rattle.router_ends.specs.Rows.{rows_of}
+use Rattle.router_run.proofs.PartLemmas.{each_same, each_none, longer, started, same_behind, grown, one_behind, room_kept, fits_still}
+use Rattle.router_run.proofs.RestLemmas.{all_done, each_back, each_first, shorter}
+use Rattle.router_run.proofs.parting.part_receivers.Goals as goal
+
+pub loop-k-init : goal.loop-k-init
+loop-k-init g c =
+    let e = c.of-receivers.ensures in
+    let f = c.of-rows.ensures in
+    record {
+      left = let a = ap length e in omega arith;
+      ends = each_same _ _ _ e c.requires.ends;
+      rows = (each_same _ _ _ f c.requires.rows.0, let a = ap length e in let b = ap length f in let r = c.requires.rows.1 in omega arith);
+      bundles = started _ _ _ _ (ap rows_of c.requires.bundles.0) e;
+      bundle_room = (ap length c.requires.bundles.0, c.requires.bundles.1);
+      sources = started _ _ _ _ c.requires.sources.0 e;
+      source_room = (ap length c.requires.sources.0, c.requires.sources.1);
+      shares = same_behind _ _ _ _ e;
+      share_room = (let a = ap length e in let r = c.requires.shares in omega arith, refl);
+      laws = λ all. each_same _ _ _ (sym e) all;
+      marks = λ all. each_same _ _ _ (sym e) all;
+    }
+
+pub loop-k-preserved : goal.loop-k-preserved
+loop-k-preserved g c =
+    let inv = c.loop-k.invariant in
+    let is = c.next-receiver.ensures in
+    let row = c.next-row.ensures in
+    let parts = c.into_parts-source.ensures.parts in
+    let ends = c.bare.ensures.same ∙ ap senders parts.1 in
+    let put = c.push_reserved.ensures in
+    let read = c.push_reserved-in-loop-k.ensures in
+    let shared = c.push_reserved-in-loop-k-2.ensures in
+    record {
+      left = shorter _ _ _ _ _ is inv.left;
+      ends = (each_first _ _ _ _ is inv.ends).1;
+      rows = ((each_first _ _ _ _ row inv.rows.0).1, let a = ap length is in let b = ap length row in let r = inv.rows.1 in omega arith);
+      bundles = grown _ _ _ _ _ _ _ _ is (one_behind _ _ _ _ put.items) ends inv.bundles;
+      bundle_room = (longer _ _ _ _ put.items inv.bundle_room.0, fits_still _ _ _ put.capacity inv.bundle_room.1);
+      sources = grown _ _ _ _ _ _ _ _ is read.items parts.0 inv.sources;
+      source_room = (longer _ _ _ _ read.items inv.source_room.0, fits_still _ _ _ read.capacity inv.source_room.1);
+      shares = grown _ _ _ _ _ _ _ _ is shared.items parts.3 inv.shares;
+      share_room = (room_kept _ _ _ _ _ _ _ _ shared.items is shared.capacity inv.share_room.0, shared.capacity ∙ inv.share_room.1);
+      laws = each_back _ _ _ _ _ is inv.laws (c.into_parts-source.ensures.law, subst (λ xs. NeverClosed xs) ends c.bare.ensures.unclosed);
+      marks = each_back _ _ _ _ _ is inv.marks (subst (λ xs. AreMarked xs) parts.1 c.bare.ensures.marks);
+    }
+
+pub returns-clause-bundles : goal.returns-clause-bundles
+returns-clause-bundles g c = all_done _ _ _ _ (search rules) c.loop-k.invariant.bundles
+
+pub returns-clause-sources : goal.returns-clause-sources
+returns-clause-sources g c = all_done _ _ _ _ (search rules) c.loop-k.invariant.sources
+
+pub returns-clause-shares : goal.returns-clause-shares
+returns-clause-shares g c = (all_done _ _ _ _ (search rules) c.loop-k.invariant.shares, c.loop-k.invariant.share_room.1)
+
+pub returns-clause-laws : goal.returns-clause-laws
+returns-clause-laws g c = c.loop-k.invariant.laws (each_none _ _ (search rules))
+
+pub returns-clause-marks : goal.returns-clause-marks
+returns-clause-marks g c = c.loop-k.invariant.marks (each_none _ _ (search rules))

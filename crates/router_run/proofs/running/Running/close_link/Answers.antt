@@ -1,0 +1,29 @@
+use Rattle.std.proofs.Common.{◌≡◌, ◌+◌, ◌*◌, ◌≤◌, ℕ, length, refl, sym, ◌∙◌, ap, subst, arith}
+use Rattle.std.specs.Arc.{arc_value}
+use Rattle.process_packet.specs.declared.config.Config.{Config}
+use Rattle.router_rules.specs.Links.{has_two_bands, link_count, link_index}
+use Rattle.router_rules.specs.declared.shared.Shared.{Shared}
+use Rattle.router_stages.specs.Exits.{is_used}
+use Rattle.router_run.specs.Run.{Run}
+use Rattle.router_run.proofs.ClosingLemmas.{controller_long, controller_used, no_link}
+use Rattle.router_run.proofs.running.Running.close_link.Goals as goal
+
+pub returns-then-from-count-clause-closing : goal.returns-then-from-count-clause-closing
+returns-then-from-count-clause-closing g c =
+    let config = (arc_value c.self.inside.shared).config in
+    let id = c.args.link in
+    let first = c.deref.result.now in
+    let second = c.deref-2.result.now in
+    let number : c.number-number.result ≡ link_index config id = c.number-number.ensures first.config first.of ∙ ap (λ (s : Shared). link_index s.config id) c.deref.ensures in
+    let count : c.count.result ≡ link_count config = c.count.ensures second.config second.of ∙ ap (λ (s : Shared). link_count s.config) c.deref-2.ensures in
+    let none : link_count config ≤ link_index config id = let f = c.from.ensures in let t = c.if-from-count.true in omega arith in
+    let is : config ≡ c.args.self.now.config = ap (λ (r : Run _ _ _). r.config) c.self.view_is in
+    (subst (λ (k : Config). link_index k id ≡ link_count k) is (no_link config id none), refl)
+
+pub close_both-closed-requires-clause-count : goal.close_both-closed-requires-clause-count
+close_both-closed-requires-clause-count g c =
+    controller_long _ _ _ _ _ _ c.self.inside.shutters.items c.self.invariant.1 ∙ ap (λ (s : Shared). 2 * link_count s.config) (sym c.deref-3.ensures)
+
+pub close_both-closed-requires-clause-used : goal.close_both-closed-requires-clause-used
+close_both-closed-requires-clause-used g c =
+    λ j d lt. controller_used _ _ _ _ _ _ c.self.inside.shutters.items c.self.invariant.1 j d lt ∙ ap (λ (s : Shared). is_used (has_two_bands s.config) j) (sym c.deref-3.ensures)

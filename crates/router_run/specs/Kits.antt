@@ -1,0 +1,71 @@
+-- What workers with devices are made of, but for their devices; and workers by their numbers.
+use Rattle.std.specs.Prelude.{◌≡◌, ◌+◌, ◌*◌, ℕ, List, [], ◌∷◌, length, Some, slice_get}
+use Rattle.pipe_order.specs.Item.{Arrival, Outgoing}
+use Rattle.process_packet.specs.declared.config.Config.{Config}
+use Rattle.ruled_pipe.specs.Producer.{Sender}
+use Rattle.ruled_pipe.specs.Consumer.{Taker}
+use Rattle.ruled_pipe.specs.Pipe.{Shape}
+use Rattle.router_rules.specs.Rules.{kinds}
+use Rattle.router_stages.specs.Forwarding.{Band, Forwarding, first_delivery, first_forwarding}
+use Rattle.router_stages.specs.Receiving.{Receiving, first_receiving}
+use Rattle.router_stages.specs.Working.{Working}
+use Rattle.stage_parts.specs.Outlet.{Offering}
+use Rattle.stage_parts.specs.Outlets.{senders}
+use Rattle.router_ends.specs.Rows.{AreEndsOf}
+use Rattle.run_laws.specs.Crew.{IsTakerOf, IsWorkingAt, Piping}
+
+-- a receiver without its source
+pub record Entry : Type 0 where
+  pub config : Config
+  pub link : ℕ
+  pub free : Taker (Unit {0})
+  pub processors : List (Offering (Arrival kinds))
+
+pub record IsEnteringAt (c : Config) (inner : List Shape) (a : ℕ) (e : Entry) : Type 0 where
+  pub config : e.config ≡ c
+  pub link : e.link ≡ a
+  pub processors : AreEndsOf a inner (senders e.processors)
+
+module _ {S : Type 0} where
+  -- with their sources, one by one
+  abbrev pub receivings : List Entry → List S → List (Receiving S)
+  receivings [] sources = []
+  receivings (e ∷ es) [] = []
+  receivings (e ∷ es) (s ∷ ss) = first_receiving e.config e.link s e.free e.processors ∷ receivings es ss
+
+-- a forwarder without its sink
+pub record Exit : Type 0 where
+  pub config : Config
+  pub link : ℕ
+  pub low : Band
+  pub high : Band
+  pub free : List (Sender (Unit {0}))
+
+-- its pipes are those of its link
+pub record IsLeavingAt (c : Config) (outer : List Shape) (l : ℕ) (e : Exit) : Type 0 where
+  pub config : e.config ≡ c
+  pub link : e.link ≡ l
+  pub first : Shape
+  pub second : Shape
+  pub first_there : slice_get outer (2 * l) ≡ Some first
+  pub second_there : slice_get outer (2 * l + 1) ≡ Some second
+  pub low : IsTakerOf first e.low.taker
+  pub high : IsTakerOf second e.high.taker
+
+module _ {K : Type 0} (failed : K → ℕ) where
+  -- with their sinks, one by one
+  abbrev pub forwardings : List Exit → List K → List (Forwarding K)
+  forwardings [] sinks = []
+  forwardings (e ∷ es) [] = []
+  forwardings (e ∷ es) (k ∷ ks) = first_forwarding e.link e.low e.high (failed k) (first_delivery e.config k e.free) ∷ forwardings es ks
+
+-- the processor of a number
+pub record IsWorkingThere {G : Type 0} (c : Config) (p : Piping) (i : ℕ) (w : Working G) : Type 0 where
+  pub own : Shape
+  pub there : slice_get p.inner i ≡ Some own
+  pub works : IsWorkingAt c p i own w
+
+-- a worker's ends of the links' pipes and of those of free buffers
+pub record Way : Type 0 where
+  pub links : List (Offering (Outgoing kinds))
+  pub free : List (Sender (Unit {0}))

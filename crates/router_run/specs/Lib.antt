@@ -1,0 +1,7 @@
+pub mod Rest
+pub mod Dealing
+pub mod Kits
+pub mod Room
+pub mod Run
+pub mod Starting
+pub mod Closing

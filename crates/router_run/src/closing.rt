@@ -1,0 +1,101 @@
+//! Closing a link by its marks.
+
+ghost use Rattle.std.specs.Prelude.{◌≡◌, ◌+◌, ◌*◌, ◌<◌, ℕ, length, slice_get, slice_index_or, true, false};
+ghost use Rattle.router_ends.specs.Shutting.{AreOpen, Shutting, closed_at};
+ghost use Rattle.router_rules.specs.Links.{has_two_bands, link_count};
+ghost use Rattle.router_stages.specs.Exits.{is_used};
+ghost use Rattle.router_run.specs.Closing.{ClosesMarks, StayEnds, TriesAt};
+
+use crate::fault::CloseFault;
+use router_ends::{Shutter, close_at};
+use router_rules::Shared;
+use std::sync::Wait;
+
+// Tries the closing mark of the pipe at a place, where it isn't there. Whether it is there now.
+fn close_one<T: Drop, R: Wait>(rt: &R, shutters: &mut Vec<Shutter<T>>, at: usize) -> bool
+    requires there { at < length shutters.old.items }
+    requires used { (d : Shutting T) → (slice_index_or shutters.old.items at d).used ≡ true }
+    requires unended { AreOpen shutters.old.items }
+    ensures tried { TriesAt at shutters.old.items shutters.new.items }
+    ensures closed { closed_at shutters.new.items at ≡ result }
+    ensures long { length shutters.new.items ≡ length shutters.old.items }
+    ensures others { (j : ℕ) → (j ≡ at → ⊥) → slice_get shutters.new.items j ≡ slice_get shutters.old.items j }
+    ensures stay { StayEnds shutters.old.items shutters.new.items }
+{
+    match close_at(rt, shutters, at) {
+        Ok(()) => true,
+        Err(router_ends::CloseFault::AlreadyClosed) => true,
+        Err(router_ends::CloseFault::Full) => false,
+    }
+}
+
+// Closes a link of one band.
+fn close_single<T: Drop, R: Wait>(
+    rt: &R,
+    shutters: &mut Vec<Shutter<T>>,
+    low: usize,
+) -> Result<(), CloseFault>
+    requires there { low < length shutters.old.items }
+    requires used { (d : Shutting T) → (slice_index_or shutters.old.items low d).used ≡ true }
+    requires unended { AreOpen shutters.old.items }
+    ensures closes { ClosesMarks false low result shutters.old.items shutters.new.items }
+    ensures stay { StayEnds shutters.old.items shutters.new.items }
+{
+    if shutters[low].is_closed() {
+        return Err(CloseFault::AlreadyClosed);
+    }
+    if close_one(rt, shutters, low) {
+        Ok(())
+    } else {
+        Err(CloseFault::Full)
+    }
+}
+
+// Closes a link of two bands, the high one first.
+fn close_double<T: Drop, R: Wait>(
+    rt: &R,
+    shutters: &mut Vec<Shutter<T>>,
+    low: usize,
+) -> Result<(), CloseFault>
+    requires there { low + 1 < length shutters.old.items }
+    requires used { (d : Shutting T) → (slice_index_or shutters.old.items low d).used ≡ true }
+    requires high_used { (d : Shutting T) → (slice_index_or shutters.old.items (low + 1) d).used ≡ true }
+    requires unended { AreOpen shutters.old.items }
+    ensures closes { ClosesMarks true low result shutters.old.items shutters.new.items }
+    ensures stay { StayEnds shutters.old.items shutters.new.items }
+{
+    let high_was = shutters[low + 1].is_closed();
+    let low_was = shutters[low].is_closed();
+    if high_was && low_was {
+        return Err(CloseFault::AlreadyClosed);
+    }
+    let high = close_one(rt, shutters, low + 1);
+    let low = close_one(rt, shutters, low);
+    if high && low {
+        Ok(())
+    } else {
+        Err(CloseFault::Full)
+    }
+}
+
+/// Tries each closing mark of a link that isn't there yet, the high band's first.
+pub fn close_both<T: Drop, R: Wait>(
+    rt: &R,
+    shared: &Shared,
+    shutters: &mut Vec<Shutter<T>>,
+    number: u16,
+) -> Result<(), CloseFault>
+    requires there { number < link_count shared.now.config }
+    requires count { length shutters.old.items ≡ 2 * link_count shared.now.config }
+    requires used { (j : ℕ) (d : Shutting T) → j < length shutters.old.items → (slice_index_or shutters.old.items j d).used ≡ is_used (has_two_bands shared.now.config) j }
+    requires unended { AreOpen shutters.old.items }
+    ensures closes { ClosesMarks (has_two_bands shared.now.config number) (2 * number) result shutters.old.items shutters.new.items }
+    ensures stay { StayEnds shutters.old.items shutters.new.items }
+{
+    let low = 2 * usize::from(number);
+    if shared.ports.two_bands(number) {
+        close_double(rt, shutters, low)
+    } else {
+        close_single(rt, shutters, low)
+    }
+}
