@@ -42,7 +42,7 @@ fn takes(sink: &mut UdpSink, to: Option<Underlay>, bytes: &[u8]) -> bool {
 /// byte more than the longest datagram.
 fn gives<R: Clock + Drop>(source: &mut UdpSource<R>, from: Underlay, len: usize) -> bool {
     let mut buffer = [0u8; 9217];
-    if !source.wait_for_one() || source.failures() > 5 {
+    if !source.wait() || source.failures() > 5 {
         return false;
     }
     match source.next_into(&mut buffer) {

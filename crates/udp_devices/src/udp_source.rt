@@ -84,11 +84,6 @@ impl<R: Clock + Drop> UdpSource<R> {
             Err(_) => None,
         }
     }
-
-    /// Waits until there is a datagram, for 100 milliseconds at most. False where it can't be waited for.
-    pub fn wait_for_one(&self) -> bool {
-        wait_for_datagram(&self.socket)
-    }
 }
 
 impl<R: Clock + Drop> Source for UdpSource<R> {
@@ -102,6 +97,10 @@ impl<R: Clock + Drop> Source for UdpSource<R> {
             self.failed += 1;
         }
         answer
+    }
+
+    fn wait(&mut self) -> bool {
+        wait_for_datagram(&self.socket)
     }
 
     fn failures(&self) -> u64 {
