@@ -21,11 +21,27 @@ use Rattle.std.specs.Box.{box_value}
 use Rattle.std.specs.Prelude.{Box}
 use Rattle.clap.proofs.WalkLemmas.{first_value-rows}
 use Rattle.process_packet.specs.declared.underlay.Underlay.{Underlay}
-use Rattle.command_words.specs.Words.{Asked, Routes, Replays, Asks, AsksOf, AsksRoute, asked_of, from_of, router}
+use Rattle.command_words.specs.Words.{Asked, Routes, Replays, Runs, Checks, Asks, AsksOf, AsksRoute, asked_of, from_of, router}
 use Rattle.command_words.specs.declared.words.Order.{Order}
 
-other_names : codes "route" ≢ codes "replay"
-other_names same = false≢true ((bytes_eq-Decides (codes "route") (codes "replay")).1 same)
+-- names that differ
+route_replay : codes "route" ≢ codes "replay"
+route_replay same = false≢true ((bytes_eq-Decides (codes "route") (codes "replay")).1 same)
+
+route_run : codes "route" ≢ codes "run"
+route_run same = false≢true ((bytes_eq-Decides (codes "route") (codes "run")).1 same)
+
+route_check : codes "route" ≢ codes "check"
+route_check same = false≢true ((bytes_eq-Decides (codes "route") (codes "check")).1 same)
+
+replay_run : codes "replay" ≢ codes "run"
+replay_run same = false≢true ((bytes_eq-Decides (codes "replay") (codes "run")).1 same)
+
+replay_check : codes "replay" ≢ codes "check"
+replay_check same = false≢true ((bytes_eq-Decides (codes "replay") (codes "check")).1 same)
+
+run_check : codes "run" ≢ codes "check"
+run_check same = false≢true ((bytes_eq-Decides (codes "run") (codes "check")).1 same)
 
 abbrev pub Entered : Type 0
 Entered = Option (Text × List Row)
@@ -38,11 +54,27 @@ asks_along s t asked same asks = let P : Entered → Type 0 = λ x. AsksOf x ask
 
 route_asked : (rows : List Row) (asked : Asked) → ((config : Text) (link now : ℕ) (from : Option Underlay) → ¬ AsksRoute rows config link now from) → ¬ Asks (codes "route", rows) asked
 route_asked rows (Routes config link now from) none asks = none config link now from asks.1
-route_asked rows (Replays config) none asks = other_names asks.0
+route_asked rows (Replays config) none asks = route_replay asks.0
+route_asked rows (Runs config) none asks = route_run asks.0
+route_asked rows (Checks config) none asks = route_check asks.0
 
 replay_asked : (rows : List Row) (asked : Asked) → ((config : Text) → first_of (codes "config") rows ≢ Some config) → ¬ Asks (codes "replay", rows) asked
-replay_asked rows (Routes config link now from) none asks = other_names (sym asks.0)
+replay_asked rows (Routes config link now from) none asks = route_replay (sym asks.0)
 replay_asked rows (Replays config) none asks = none config asks.1
+replay_asked rows (Runs config) none asks = replay_run asks.0
+replay_asked rows (Checks config) none asks = replay_check asks.0
+
+run_asked : (rows : List Row) (asked : Asked) → ((config : Text) → first_of (codes "config") rows ≢ Some config) → ¬ Asks (codes "run", rows) asked
+run_asked rows (Routes config link now from) none asks = route_run (sym asks.0)
+run_asked rows (Replays config) none asks = replay_run (sym asks.0)
+run_asked rows (Runs config) none asks = none config asks.1
+run_asked rows (Checks config) none asks = run_check asks.0
+
+check_asked : (rows : List Row) (asked : Asked) → ((config : Text) → first_of (codes "config") rows ≢ Some config) → ¬ Asks (codes "check", rows) asked
+check_asked rows (Routes config link now from) none asks = route_check (sym asks.0)
+check_asked rows (Replays config) none asks = replay_check (sym asks.0)
+check_asked rows (Runs config) none asks = run_check (sym asks.0)
+check_asked rows (Checks config) none asks = none config asks.1
 
 pub name_read : {Z : Type 0} → (o : Option (Box SubCommand Z)) → option_map (λ (p : Text × List Row). p.0) (subcommand_rows o) ≡ option_map (λ (b : Box SubCommand Z). (out-SubCommand (box_value b)).name.now) o
 name_read None = refl
@@ -92,10 +124,23 @@ pub replay_none : (s : Entered) (rows : List Row) (r : Option Order) → s ≡ S
 replay_none s rows (Some o) same none = tt
 replay_none s rows None same none = λ asked asks. replay_asked rows asked none (asks_along s (Some (codes "replay", rows)) asked same asks)
 
-pub no_order : (s : Entered) (name : Option Text) → option_map (λ (p : Text × List Row). p.0) s ≡ name → name ≢ Some (codes "route") → name ≢ Some (codes "replay") → (asked : Asked) → ¬ AsksOf s asked
-no_order None name named route replay asked asks = absurd asks
-no_order (Some p) name named route replay (Routes config link now from) asks = route (sym named ∙ ap (λ (n : Text). Some n) asks.0)
-no_order (Some p) name named route replay (Replays config) asks = replay (sym named ∙ ap (λ (n : Text). Some n) asks.0)
+pub run_none : (s : Entered) (rows : List Row) (r : Option Order) → s ≡ Some (codes "run", rows) → IfNone r ((config : Text) → first_of (codes "config") rows ≢ Some config)
+    → IfNone r ((asked : Asked) → ¬ AsksOf s asked)
+run_none s rows (Some o) same none = tt
+run_none s rows None same none = λ asked asks. run_asked rows asked none (asks_along s (Some (codes "run", rows)) asked same asks)
+
+pub check_none : (s : Entered) (rows : List Row) (r : Option Order) → s ≡ Some (codes "check", rows) → IfNone r ((config : Text) → first_of (codes "config") rows ≢ Some config)
+    → IfNone r ((asked : Asked) → ¬ AsksOf s asked)
+check_none s rows (Some o) same none = tt
+check_none s rows None same none = λ asked asks. check_asked rows asked none (asks_along s (Some (codes "check", rows)) asked same asks)
+
+pub no_order : (s : Entered) (name : Option Text) → option_map (λ (p : Text × List Row). p.0) s ≡ name → name ≢ Some (codes "route") → name ≢ Some (codes "replay") → name ≢ Some (codes "run")
+    → name ≢ Some (codes "check") → (asked : Asked) → ¬ AsksOf s asked
+no_order None name named route replay run check asked asks = absurd asks
+no_order (Some p) name named route replay run check (Routes config link now from) asks = route (sym named ∙ ap (λ (n : Text). Some n) asks.0)
+no_order (Some p) name named route replay run check (Replays config) asks = replay (sym named ∙ ap (λ (n : Text). Some n) asks.0)
+no_order (Some p) name named route replay run check (Runs config) asks = run (sym named ∙ ap (λ (n : Text). Some n) asks.0)
+no_order (Some p) name named route replay run check (Checks config) asks = check (sym named ∙ ap (λ (n : Text). Some n) asks.0)
 
 -- ---- the parse of the words
 

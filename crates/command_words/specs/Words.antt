@@ -23,16 +23,20 @@ route =
     with_rule (with_rule (with_rule (with_rule (new_app (codes "route")) (wanted (codes "config"))) (wanted (codes "link"))) (wanted (codes "now")))
     (offered (codes "from"))
 
--- `replay --config FILE`
-abbrev pub replay : App
-replay = with_rule (new_app (codes "replay")) (wanted (codes "config"))
+-- `replay --config FILE`, `run --config FILE`, `check --config FILE`
+abbrev pub alone : Text → App
+alone name = with_rule (new_app name) (wanted (codes "config"))
 
 -- the program, whose words begin after its name
 abbrev pub router : App
 router =
     with_subcommand
+    (with_subcommand
+    (with_subcommand
     (with_subcommand (on_top (λ top. record top { has_version = true; no_binary_name = true; subcommand_required = true }) (new_app (codes "router"))) route.top)
-    replay.top
+    (alone (codes "replay")).top)
+    (alone (codes "run")).top)
+    (alone (codes "check")).top
 
 -- the address that a word names, if it is one; no word names none
 abbrev pub from_of : Option Text → Option (Option Underlay)
@@ -43,10 +47,14 @@ from_of (Some text) = option_map (λ u. Some u) (underlay_of text)
 pub data Asked : Type 0 where
   Routes : Text → ℕ → ℕ → Option Underlay → Asked  -- the configuration, the link, the moment, the source
   Replays : Text → Asked  -- the configuration
+  Runs : Text → Asked
+  Checks : Text → Asked
 
 abbrev pub asked_of : Order → Asked
 asked_of (order.Route config link now from) = Routes config.now link now from
 asked_of (order.Replay config) = Replays config.now
+asked_of (order.Run config) = Runs config.now
+asked_of (order.Check config) = Checks config.now
 
 -- The options of `route` have these values. A number stands there as its decimal digits.
 pub record AsksRoute (rows : List Row) (config : Text) (link now : ℕ) (from : Option Underlay) : Type 0 where
@@ -61,6 +69,8 @@ pub record AsksRoute (rows : List Row) (config : Text) (link now : ℕ) (from : 
 abbrev pub Asks : Text × List Row → Asked → Type 0
 Asks entered (Routes config link now from) = (entered.0 ≡ codes "route") × AsksRoute entered.1 config link now from
 Asks entered (Replays config) = (entered.0 ≡ codes "replay") × (first_of (codes "config") entered.1 ≡ Some config)
+Asks entered (Runs config) = (entered.0 ≡ codes "run") × (first_of (codes "config") entered.1 ≡ Some config)
+Asks entered (Checks config) = (entered.0 ≡ codes "check") × (first_of (codes "config") entered.1 ≡ Some config)
 
 abbrev pub AsksOf : Option (Text × List Row) → Asked → Type 0
 AsksOf None asked = ⊥

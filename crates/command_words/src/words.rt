@@ -1,13 +1,13 @@
 //! The command line.
 ghost use Rattle.std.specs.Prelude.{◌≡◌, ◌≢◌, ◌≤◌, ℕ, List, Option, Some, codes, map, option_map, string_bytes, false, IfErr, IfNone, IfOk, IfSome};
-ghost use Rattle.clap.specs.Simple.{app_of, subcommand_rows_of};
+ghost use Rattle.clap.specs.Simple.{app_of, subcommand_rows_of, with_subcommand};
 ghost use Rattle.clap.specs.Values.{kind_of};
 ghost use Rattle.clap.specs.Matches.{found_of};
 ghost use Rattle.clap.specs.Walk.{first_of, rows_of, rule_of};
 ghost use Rattle.clap.specs.declared.builder.command.Command.TheViews.{out-Command as fields_of};
 ghost use Rattle.clap.specs.declared.error.kind.ErrorKind.TheVariants.{OutOfMemory};
 ghost use Rattle.process_packet.specs.declared.underlay.Underlay.{Underlay as Address};
-ghost use Rattle.command_words.specs.Words.{Asked, Asks, AsksOf, AsksRoute, Orders, asked_of, from_of, offered, replay, route, router, wanted};
+ghost use Rattle.command_words.specs.Words.{Asked, Asks, AsksOf, AsksRoute, Orders, alone, asked_of, from_of, offered, route, router, wanted};
 ghost use Rattle.command_words.specs.declared.words.WordsFault.TheVariants.{Memory, Told};
 
 use clap::error::ErrorKind;
@@ -22,6 +22,15 @@ const LAST_SECOND: u64 = 1099511627775;
 
 /// What is told of `--config`.
 const CONFIG_HELP: &str = "The border router's configuration, as TOML";
+
+/// What is told of the orders that take a configuration alone.
+const REPLAY_ABOUT: &str =
+    "Makes the steps of the pipeline that the standard input lists, and reports";
+
+const RUN_ABOUT: &str =
+    "Runs the router over its sockets until its standard input ends, and reports";
+
+const CHECK_ABOUT: &str = "Tells whether a configuration is good, and else where it isn't";
 
 /// What the command line asks for.
 #[derive(Clone, Copy, Debug)]
@@ -39,6 +48,16 @@ pub enum Order<'a> {
     },
     /// To make the steps on the standard input.
     Replay {
+        /// The path of the configuration.
+        config: &'a str,
+    },
+    /// To run the router over its sockets, with its commands on the standard input.
+    Run {
+        /// The path of the configuration.
+        config: &'a str,
+    },
+    /// To tell whether a configuration is good, and else where it isn't.
+    Check {
         /// The path of the configuration.
         config: &'a str,
     },
@@ -135,15 +154,30 @@ fn route_grammar<'a>(alloc: Global) -> Result<Command<'a>, AllocError>
         .arg(from)
 }
 
-/// The words of `replay`.
-fn replay_grammar<'a>(alloc: Global) -> Result<Command<'a>, AllocError>
-    ensures app { IfOk result (λ command. app_of command ≡ replay) }
+/// The words of an order that takes a configuration alone.
+fn alone_grammar<'a>(
+    alloc: Global,
+    name: &'a str,
+    about: &'a str,
+) -> Result<Command<'a>, AllocError>
+    ensures app { IfOk result (λ command. app_of command ≡ alone name.now) }
     ensures own { IfOk result (λ command. (fields_of command).has_globals ≡ false) }
 {
     let config = wanted(alloc, "config", "FILE", CONFIG_HELP);
-    Command::new(alloc, "replay")
-        .about("Makes the steps of the pipeline that the standard input lists, and reports")
-        .arg(config)
+    Command::new(alloc, name).about(about).arg(config)
+}
+
+/// The words of a program with such an order more.
+fn with_alone<'a>(
+    alloc: Global,
+    program: Command<'a>,
+    name: &'a str,
+    about: &'a str,
+) -> Result<Command<'a>, AllocError>
+    ensures { IfOk result (λ command. app_of command ≡ with_subcommand (app_of program.entry) (alone name.now).top) }
+{
+    let order = alone_grammar(alloc, name, about)?;
+    program.subcommand(order)
 }
 
 /// The words that the program takes.
@@ -151,14 +185,15 @@ fn grammar<'a>(alloc: Global) -> Result<Command<'a>, AllocError>
     ensures { IfOk result (λ command. app_of command ≡ router) }
 {
     let route = route_grammar(alloc)?;
-    let replay = replay_grammar(alloc)?;
-    Command::new(alloc, "router")
+    let program = Command::new(alloc, "router")
         .about("A SCION border router")
         .version("0.1.0")
         .no_binary_name(true)
         .subcommand_required(true)
-        .subcommand(route)?
-        .subcommand(replay)
+        .subcommand(route)?;
+    let program = with_alone(alloc, program, "replay", REPLAY_ABOUT)?;
+    let program = with_alone(alloc, program, "run", RUN_ABOUT)?;
+    with_alone(alloc, program, "check", CHECK_ABOUT)
 }
 
 /// The address that a word names, if it is one; no word names none.
@@ -204,6 +239,28 @@ fn replay_of<'a>(replay: &ArgMatches<'a>) -> Option<Order<'a>>
     }
 }
 
+/// The order that the option of `run` gives.
+fn run_of<'a>(run: &ArgMatches<'a>) -> Option<Order<'a>>
+    ensures found { IfSome result (λ order. Asks (codes "run", rows_of (found_of run.now)) (asked_of order)) }
+    ensures none { IfNone result ((config : List ℕ) → first_of (codes "config") (rows_of (found_of run.now)) ≢ Some config) }
+{
+    match run.get_str("config") {
+        Some(config) => Some(Order::Run { config }),
+        None => None,
+    }
+}
+
+/// The order that the option of `check` gives.
+fn check_of<'a>(check: &ArgMatches<'a>) -> Option<Order<'a>>
+    ensures found { IfSome result (λ order. Asks (codes "check", rows_of (found_of check.now)) (asked_of order)) }
+    ensures none { IfNone result ((config : List ℕ) → first_of (codes "config") (rows_of (found_of check.now)) ≢ Some config) }
+{
+    match check.get_str("config") {
+        Some(config) => Some(Order::Check { config }),
+        None => None,
+    }
+}
+
 /// The order that the parsed words give.
 fn order_of<'a>(matches: &ArgMatches<'a>) -> Option<Order<'a>>
     ensures found { IfSome result (λ order. AsksOf (subcommand_rows_of matches.now) (asked_of order)) }
@@ -214,6 +271,12 @@ fn order_of<'a>(matches: &ArgMatches<'a>) -> Option<Order<'a>>
     }
     if let Some(replay) = matches.subcommand_matches("replay") {
         return replay_of(replay);
+    }
+    if let Some(run) = matches.subcommand_matches("run") {
+        return run_of(run);
+    }
+    if let Some(check) = matches.subcommand_matches("check") {
+        return check_of(check);
     }
     None
 }

@@ -4,6 +4,7 @@ pub mod Entry
 pub mod Neighbours
 pub mod Config
 pub mod Parts
+pub mod Place
 pub use Rattle.text_values.specs.Pieces
 pub use Rattle.text_values.specs.Address
 pub use Rattle.text_values.specs.Shown

@@ -36,6 +36,9 @@ service_of_number given (pos n) = if nat_lt 32767 n then Err Limit
     else if list_any (λ other. other == n) given then Err Interface
     else Ok n
 
+abbrev pub number_at : List ℕ → Members → Result ℕ ConfigFault
+number_at given table = value_at as_integer (codes "number") table >>= service_of_number given
+
 -- ---- members
 
 unfoldable pub link_of : Version → List Link → Data → Result Link ConfigFault
@@ -59,7 +62,7 @@ sibling_of links given member = do
 unfoldable pub service_of : List Service → Data → Result Service ConfigFault
 service_of given member = do
   table ← or_fault WrongType (as_table member)
-  number ← value_at as_integer (codes "number") table >>= service_of_number (map service_number given)
+  number ← number_at (map service_number given) table
   at ← address_at (codes "at") table
   Ok (record { number = number; at = at })
 

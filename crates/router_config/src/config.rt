@@ -55,7 +55,7 @@ struct Around {
 
 /// The ISD-AS number of the local AS.
 #[tactic(auto, unfolding(crate::specs::Config::isd_as_at))]
-fn isd_as_at(table: &Table) -> Result<(u16, u64), ConfigFault>
+pub(crate) fn isd_as_at(table: &Table) -> Result<(u16, u64), ConfigFault>
     ensures value { result ≡ isd_as_at (table_view table.now) }
     ensures isd_is_there { IfOk result (λ numbers. 1 ≤ numbers.0) }
     ensures autonomous_system_is_there { IfOk result (λ numbers. 1 ≤ numbers.1) }
@@ -72,7 +72,7 @@ fn isd_as_at(table: &Table) -> Result<(u16, u64), ConfigFault>
 
 /// The key of the local AS.
 #[tactic(auto, unfolding(crate::specs::Config::key_at))]
-fn key_at(table: &Table) -> Result<[u8; 16], ConfigFault>
+pub(crate) fn key_at(table: &Table) -> Result<[u8; 16], ConfigFault>
     ensures { result ≡ key_at (table_view table.now) }
 {
     match text_at(table, "key") {
@@ -117,7 +117,7 @@ fn internal_at(version: Version, table: &Table) -> Result<Internal, ConfigFault>
 
 /// How many buffers each link has.
 #[tactic(auto, unfolding(crate::specs::Config::buffers_at))]
-fn buffers_at(table: &Table) -> Result<u32, ConfigFault>
+pub(crate) fn buffers_at(table: &Table) -> Result<u32, ConfigFault>
     ensures value { result ≡ buffers_at (table_view table.now) }
     ensures some { IfOk result (λ buffers. 2 ≤ buffers) }
     ensures few { IfOk result (λ buffers. buffers ≤ 65536) }
@@ -202,7 +202,7 @@ fn config_of(local: Local, internal: Internal, sizes: Sizes, around: Around) -> 
 }
 
 /// The configuration that a table gives, or its first fault.
-fn config_at(alloc: Global, table: &Table) -> Result<Config, ConfigFault>
+pub(crate) fn config_at(alloc: Global, table: &Table) -> Result<Config, ConfigFault>
     ensures { Answers values (values_at (table_view table.now)) result }
 {
     let version = match version_at(table) {

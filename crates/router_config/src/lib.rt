@@ -8,7 +8,10 @@ mod fault;
 mod isd_as;
 mod lists;
 mod neighbours;
+mod place;
+mod words;
 
 pub use config::read_config;
 pub use fault::ConfigFault;
 pub use text_values::{pieces, push_decimal, push_underlay, read_decimal, read_underlay};
+pub use words::fault_words;

@@ -15,13 +15,13 @@ use toml::Table;
 use toml::value::Array;
 
 /// The most links that a border router has.
-const MOST_LINKS: usize = 32;
+pub(crate) const MOST_LINKS: usize = 32;
 
 /// The most interfaces that its siblings have.
-const MOST_SIBLINGS: usize = 256;
+pub(crate) const MOST_SIBLINGS: usize = 256;
 
 /// The most services that an AS has.
-const MOST_SERVICES: usize = 64;
+pub(crate) const MOST_SERVICES: usize = 64;
 
 /// The links of an array: one to 32 of them, with numbers of their own.
 fn read_links(alloc: Global, version: Version, members: &Array) -> Result<Vec<Link>, ConfigFault>

@@ -3,7 +3,7 @@ ghost use Rattle.std.specs.Prelude.{◌≡◌, ◌≤◌, ◌==◌, [], IfOk, Is
 ghost use Rattle.std.specs.List.{list_any};
 ghost use Rattle.toml.specs.View.{table_view, view};
 ghost use Rattle.process_packet.specs.Neighbours.{is_link, is_service, is_sibling, link_id, service_number, sibling_id};
-ghost use Rattle.router_config.specs.Neighbours.{id_at, id_of, link_of, service_of, service_of_number, sibling_of, taken};
+ghost use Rattle.router_config.specs.Neighbours.{id_at, id_of, link_of, number_at, service_of, service_of_number, sibling_of, taken};
 
 use crate::entry::{Version, address_at, bands_at, integer_at, kind_at};
 use crate::fault::ConfigFault;
@@ -81,13 +81,25 @@ fn read_number(given: &[Service], number: i64) -> Result<u16, ConfigFault>
 }
 
 /// The number of the interface that a table tells, beside those that have been given.
-fn id_at(links: &[Link], siblings: &[Sibling], table: &Table) -> Result<u16, ConfigFault>
+pub(crate) fn id_at(links: &[Link], siblings: &[Sibling], table: &Table) -> Result<u16, ConfigFault>
     ensures value { result ≡ id_at (taken links.now siblings.now) (table_view table.now) }
     ensures external { IfOk result (λ id. 1 ≤ id) }
     ensures fresh { IfOk result (λ id. list_any (λ other. other == id) (taken links.now siblings.now) ≡ false) }
 {
     match integer_at(table, "id") {
         Ok(number) => read_id(links, siblings, number),
+        Err(fault) => Err(fault),
+    }
+}
+
+/// The number of the service that a table tells, beside those that have been given.
+pub(crate) fn number_at(given: &[Service], table: &Table) -> Result<u16, ConfigFault>
+    ensures value { result ≡ number_at (map service_number given.now) (table_view table.now) }
+    ensures small { IfOk result (λ found. found ≤ 32767) }
+    ensures fresh { IfOk result (λ found. list_any (λ other. other == found) (map service_number given.now) ≡ false) }
+{
+    match integer_at(table, "number") {
+        Ok(number) => read_number(given, number),
         Err(fault) => Err(fault),
     }
 }
@@ -150,8 +162,7 @@ pub(crate) fn read_service(given: &[Service], member: &Value) -> Result<Service,
     let Some(table) = member.as_table() else {
         return Err(ConfigFault::WrongType);
     };
-    let number = integer_at(table, "number")?;
-    let number = read_number(given, number)?;
+    let number = number_at(given, table)?;
     let at = address_at(table, "at")?;
     Ok(Service { number, at })
 }

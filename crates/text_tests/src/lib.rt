@@ -6,3 +6,5 @@
 mod config;
 #[cfg(test)]
 mod words;
+#[cfg(test)]
+mod words_of_faults;

@@ -28,7 +28,14 @@ fn reads_words(rt: HostRuntime) {
         ("route --config c --link one --now 1", None),
         ("replay", None),
         ("replay --config c --link 1", None),
+        ("run --config c", Some((0, 8))),
+        ("run --config=c", Some((0, 8))),
+        ("check --config c", Some((0, 9))),
         ("run", None),
+        ("check", None),
+        ("run --config c --config c", None),
+        ("run --config c --now 1", None),
+        ("check --config c end", None),
         ("", None),
     ] {
         let mut words = Vec::new(alloc);
@@ -50,6 +57,14 @@ fn reads_words(rt: HostRuntime) {
             }
             Ok(Order::Replay { config }) => {
                 assert_eq!(rt; want, Some((0, 7)), "at {line:?}");
+                assert_eq!(rt; config, "c", "at {line:?}");
+            }
+            Ok(Order::Run { config }) => {
+                assert_eq!(rt; want, Some((0, 8)), "at {line:?}");
+                assert_eq!(rt; config, "c", "at {line:?}");
+            }
+            Ok(Order::Check { config }) => {
+                assert_eq!(rt; want, Some((0, 9)), "at {line:?}");
                 assert_eq!(rt; config, "c", "at {line:?}");
             }
             Err(WordsFault::Told(error)) => {

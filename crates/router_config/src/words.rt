@@ -1,0 +1,98 @@
+//! The first fault of a configuration in words.
+ghost use Rattle.std.specs.Prelude.{◌≡◌, IfOk, is_err, is_some};
+ghost use Rattle.router_config.specs.Config.{values_of};
+
+use crate::config::config_at;
+use crate::fault::ConfigFault;
+use crate::place::{Key, Place, place_in};
+use std::alloc::{AllocError, Global};
+use std::ops::Range;
+use toml::{Table, Value};
+
+/// What stands there, in one line. The forwarding key isn't told.
+fn found(alloc: Global, key: Key, value: &Value) -> Result<String, AllocError> {
+    match value {
+        Value::String(text) if key == Key::Forwarding => {
+            format!(in alloc; "a text of {} bytes", text.len())
+        }
+        _ if key == Key::Forwarding => String::from_str(alloc, "no text"),
+        Value::Array(members) => format!(in alloc; "a list of {}", members.len()),
+        Value::Table(_) => String::from_str(alloc, "a table"),
+        other => format!(in alloc; "{other}"),
+    }
+}
+
+/// What stands at a key of a table, if there is one.
+fn found_at(alloc: Global, key: Key, table: Option<&Table>) -> Result<String, AllocError> {
+    match table {
+        Some(table) => match table.get(key.name()) {
+            Some(value) => found(alloc, key, value),
+            None => String::from_str(alloc, "missing"),
+        },
+        None => String::from_str(alloc, "missing"),
+    }
+}
+
+/// The member of a list with a number, counted from 1, if it is a table.
+fn member_at(table: &Table, list: Key, number: usize) -> Option<&Table> {
+    let members = table.get(list.name())?.as_array()?;
+    members.get(number.checked_sub(1)?)?.as_table()
+}
+
+/// What stands at a place, and what is wanted there.
+fn words_at(alloc: Global, table: &Table, place: Place) -> Result<String, AllocError> {
+    match place {
+        Place::Value(key) => {
+            let found = found_at(alloc, key, Some(table))?;
+            format!(in alloc; "`{}` is {found}; wanted: {}", key.name(), key.wanted())
+        }
+        Place::Member(list, number) => { format!(in alloc; "{} {number} is no table", list.name()) }
+        Place::MemberValue(list, number, key) => {
+            let found = found_at(alloc, key, member_at(table, list, number))?;
+            format!(in alloc;
+                "`{}` of {} {number} is {found}; wanted: {}",
+                key.name(),
+                list.name(),
+                key.wanted()
+            )
+        }
+    }
+}
+
+/// The line in which a span of a text begins, counted from 1.
+fn line_of(text: &str, span: Option<Range<usize>>) -> usize {
+    let start = match span {
+        Some(span) => span.start,
+        None => 0,
+    };
+    let ends = text.as_bytes().iter().take(start);
+    ends.filter(|byte| **byte == b'\n')
+        .count()
+        .saturating_add(1)
+}
+
+/// Where the first fault of a text stands, in words: at which key, in a list also of which of its members,
+/// counted from 1; what stands there; and what is wanted. The forwarding key isn't told. None where the text
+/// is a configuration.
+pub fn fault_words(alloc: Global, text: &str) -> Result<Option<String>, AllocError>
+    ensures { IfOk result (λ words. is_some words ≡ is_err (values_of text.now)) }
+{
+    match toml::table_from_str(alloc, text) {
+        Ok(table) => match config_at(alloc, &table) {
+            Ok(_) => Ok(None),
+            Err(fault) => match fault {
+                ConfigFault::Memory => Err(AllocError),
+                _ => {
+                    let place = place_in(alloc, &table)?;
+                    Ok(Some(words_at(alloc, &table, place)?))
+                }
+            },
+        },
+        Err(error) if error.is_memory() => Err(AllocError),
+        Err(error) => Ok(Some(format!(in alloc;
+            "line {}: {}",
+            line_of(text, error.span()),
+            error.message()
+        )?)),
+    }
+}
