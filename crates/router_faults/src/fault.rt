@@ -8,6 +8,7 @@ ghost use Rattle.router_faults.specs.declared.fault.Fault.TheVariants as fault;
 use command_words::WordsFault;
 use router_config::ConfigFault;
 use router_engine::LinesFault;
+use run_engine::RunFault;
 use std::alloc::AllocFailed;
 use std::io;
 use thiserror::Error;
@@ -24,9 +25,15 @@ pub enum Fault {
     /// The configuration is none.
     #[error("config {number}", number = .0.number())]
     Config(ConfigFault),
+    /// The configuration is none, in words: where it isn't, what stands there, and what is wanted.
+    #[error("config {number}: {1}", number = .0.number())]
+    Told(ConfigFault, String),
     /// The configuration has no such link.
     #[error("link")]
     Link,
+    /// The router over its sockets can't be had, or ended before its report.
+    #[error(transparent)]
+    Run(RunFault),
     /// The engine stopped.
     #[error(transparent)]
     Lines(LinesFault),

@@ -1,17 +1,23 @@
-//! A SCION border router: `router route --config FILE --link N --now S [--from ADDR]` answers
-//! datagrams, one a line in hex; `router replay --config FILE` makes steps of the pipeline, one a line.
+//! A SCION border router: `router run --config FILE` runs it over its sockets; `router route --config FILE
+//! --link N --now S [--from ADDR]` answers datagrams, one a line in hex; `router replay --config FILE` makes
+//! steps of the pipeline, one a line; `router check --config FILE` tells whether a configuration is good.
 #![tactic(auto)]
 
 use command_words::{Order, WordsFault, read_words};
 use process_packet::{Config, Underlay};
-use router_config::read_config;
+use router_config::{ConfigFault, fault_words, read_config};
 use router_engine::{LinesFault, replay_lines, route_lines};
 use router_faults::Fault;
 use router_lines::{Arriving, usual_source};
+use std::alloc::Global;
 use std::io::BufReader;
+use std::net::Net;
 use std::process::ExitCode;
-use std::rt::{Env, Files};
+use std::rt::{Clock, Env, Files};
+use std::sync::Wait;
+use std::thread::Threads;
 use std::{env, fs, io};
+use udp_router::run_router;
 
 /// The words after the program's name.
 fn words_of<R: Env + AllocGlobal>(rt: &R) -> Result<Vec<String>, Fault> {
@@ -22,10 +28,36 @@ fn words_of<R: Env + AllocGlobal>(rt: &R) -> Result<Vec<String>, Fault> {
     Ok(words)
 }
 
+/// The text in a file.
+fn text_at<R: Files + AllocGlobal>(rt: &R, path: &str) -> Result<String, Fault> {
+    fs::read_to_string(rt, path).map_err(Fault::of_file)
+}
+
 /// The configuration that a file holds.
 fn config_at<R: Files + AllocGlobal>(rt: &R, path: &str) -> Result<Config, Fault> {
-    let text = fs::read_to_string(rt, path).map_err(Fault::of_file)?;
+    let text = text_at(rt, path)?;
     read_config(rt.alloc(), text.as_str()).map_err(Fault::Config)
+}
+
+/// The fault of a text that is no configuration, with its words where there is memory for them.
+fn told(alloc: Global, fault: ConfigFault, text: &str) -> Fault {
+    match (fault, fault_words(alloc, text)) {
+        (ConfigFault::Memory, _) => Fault::Config(fault),
+        (_, Ok(Some(words))) => Fault::Told(fault, words),
+        _ => Fault::Config(fault),
+    }
+}
+
+/// Tells whether the configuration in a file is good, and else where it isn't.
+fn check_config<R: Files + Print + AllocGlobal>(rt: &R, path: &str) -> Result<(), Fault> {
+    let text = text_at(rt, path)?;
+    match read_config(rt.alloc(), text.as_str()) {
+        Ok(_) => match println!(rt; "ok") {
+            Ok(()) => Ok(()),
+            Err(_) => Err(Fault::Lines(LinesFault::Output)),
+        },
+        Err(fault) => Err(told(rt.alloc(), fault, text.as_str())),
+    }
 }
 
 /// Answers the datagrams on the standard input, which arrive on a link at a moment.
@@ -58,8 +90,34 @@ fn replay_schedule<R: Input + Print + AllocGlobal>(rt: &R, config: Config) -> Re
     replay_lines(alloc, config, &mut reader, &mut writer).map_err(Fault::Lines)
 }
 
+/// Runs the router over its sockets, led by the standard input.
+fn run_over_sockets<R>(rt: &R, config: Config) -> Result<(), Fault>
+where
+    R: Input + Print + AllocGlobal + Net + Threads + Wait + Clock + Copy + Send + Drop + 'static,
+{
+    let alloc = rt.alloc();
+    let mut reader = BufReader::new(alloc, rt.reader()).map_err(|_| Fault::Memory)?;
+    let mut writer = io::writer(rt);
+    run_router(*rt, alloc, config, &mut reader, &mut writer).map_err(Fault::Run)
+}
+
 /// Does what the command line asks for.
-fn run<R: Files + Env + Input + Print + AllocGlobal>(rt: &R) -> Result<(), Fault> {
+fn run<R>(rt: &R) -> Result<(), Fault>
+where
+    R: Files
+        + Env
+        + Input
+        + Print
+        + AllocGlobal
+        + Net
+        + Threads
+        + Wait
+        + Clock
+        + Copy
+        + Send
+        + Drop
+        + 'static,
+{
     let words = words_of(rt)?;
     match read_words(rt.alloc(), words.as_slice()).map_err(Fault::Words)? {
         Order::Route {
@@ -69,10 +127,19 @@ fn run<R: Files + Env + Input + Print + AllocGlobal>(rt: &R) -> Result<(), Fault
             from,
         } => route_datagrams(rt, &config_at(rt, config)?, link, now, from),
         Order::Replay { config } => replay_schedule(rt, config_at(rt, config)?),
+        Order::Run { config } => run_over_sockets(rt, config_at(rt, config)?),
+        Order::Check { config } => check_config(rt, config),
     }
 }
 
 fn main(rt: HostRuntime) -> ExitCode {
+    // The descriptor of a standard stream that was closed before goes to what is opened next. That may be
+    // no socket, whose datagrams would be read as commands: so these take them, to the end.
+    let _held = [
+        fs::open(&rt, "/dev/null"),
+        fs::open(&rt, "/dev/null"),
+        fs::open(&rt, "/dev/null"),
+    ];
     let Err(fault) = run(&rt) else {
         return ExitCode::SUCCESS;
     };

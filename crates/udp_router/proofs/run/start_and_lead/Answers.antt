@@ -1,0 +1,26 @@
+use Rattle.std.proofs.Common.{subst, sym}
+use Rattle.udp_router.specs.OverUdp.{Router}
+use Rattle.udp_router.specs.Run.{IsNew}
+use Rattle.udp_router.proofs.Devices.{is_new, is_no_count}
+use Rattle.udp_router.proofs.Led.{led_ill, led_well}
+use Rattle.udp_router.proofs.run.start_and_lead.Goals as goal
+
+pub returns-in-Ok-run_lines-clause-ran : goal.returns-in-Ok-run_lines-clause-ran
+returns-in-Ok-run_lines-clause-ran g c =
+    let P : Router → Type 0 = λ r. IsNew c.args.config r in
+    let new : IsNew c.args.config c.of.result =
+    subst P (sym c.of.ensures) (is_new c.args.config c.in-Ok.running c.args.devices.sources.items c.args.devices.sinks.items c.requires.sources c.requires.sinks c.in-Ok.ensures) in
+    led_well c.args.config c.args.links.now c.of.result c.requires.links new (g.O.Write.contents c.args.writer.now) (g.O.Write.contents c.run_lines.new.writer) (g.I.Read.remaining c.args.reader.now)
+    c.in-Ok-run_lines.ensures
+
+pub returns-in-Err-run_lines-clause-ran : goal.returns-in-Err-run_lines-clause-ran
+returns-in-Err-run_lines-clause-ran g c =
+    let P : Router → Type 0 = λ r. IsNew c.args.config r in
+    let new : IsNew c.args.config c.of.result =
+    subst P (sym c.of.ensures) (is_new c.args.config c.in-Ok.running c.args.devices.sources.items c.args.devices.sinks.items c.requires.sources c.requires.sinks c.in-Ok.ensures) in
+    led_ill c.args.config c.args.links.now c.of.result c.requires.links new (g.O.Write.contents c.args.writer.now) (g.O.Write.contents c.run_lines.new.writer) (g.I.Read.remaining c.args.reader.now)
+    c.in-Err-run_lines.fault c.in-Err-run_lines.ensures
+
+pub returns-in-Err-clause-fault : goal.returns-in-Err-clause-fault
+returns-in-Err-clause-fault g c =
+    is_no_count c.args.config c.in-Err.fault c.unstarted.result c.args.devices.sources.items c.args.devices.sinks.items c.requires.sources c.requires.sinks c.in-Err.ensures c.unstarted.ensures

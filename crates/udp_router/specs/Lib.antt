@@ -1,0 +1,2 @@
+pub mod OverUdp
+pub mod Run

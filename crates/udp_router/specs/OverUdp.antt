@@ -1,0 +1,29 @@
+-- A router that runs over its sockets, as the one who runs it sees it.
+use Rattle.std.specs.Prelude.{◌≡◌, ⊤, ℕ, List, None, Result, Ok, Err}
+use Rattle.router_lines.specs.declared.closing.Closing.{Closing}
+use Rattle.router_lines.specs.declared.closing.Closing.TheVariants as closing
+use Rattle.router_run.specs.Closing.{Closing as Marking, IsSameRun}
+use Rattle.router_run.specs.Run.{HasRun, Run}
+use Rattle.router_run.specs.declared.fault.CloseFault.{CloseFault}
+use Rattle.router_run.specs.declared.fault.CloseFault.TheVariants as fault
+use Rattle.run_engine.specs.declared.control.Figures.{Figures}
+use Rattle.udp_devices.specs.Devices.{Sending}
+
+-- A source over a socket is seen as how often it failed; the gate holds nothing back.
+abbrev pub Router : Type 0
+Router = Run ℕ ⊤ Sending
+
+abbrev pub result_of : Closing → Result (Unit {0}) CloseFault
+result_of closing.Closed = Ok tt
+result_of closing.Full = Err fault.Full
+result_of closing.Unknown = Err fault.Unknown
+result_of closing.Already = Err fault.AlreadyClosed
+
+-- What is told of a link is what became of its closing marks, and all else of the router is as it was.
+pub record Closes (before : Router) (link : ℕ) (told : Closing) (after : Router) : Type 0 where
+  pub marks : Marking before.config link (result_of told) before.crew.shutters after.crew.shutters
+  pub same : IsSameRun before after
+
+-- The figures are those of a run of it. Neither its sources nor its sinks tell what a socket gave or took.
+abbrev pub Tells : Router → Figures → Type 0
+Tells router figures = (sources : List ℕ) × (sinks : List Sending) × HasRun (λ s. None) (λ k. None) (λ k. k.failed) router figures.totals figures.sent.items sources sinks

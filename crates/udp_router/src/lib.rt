@@ -1,0 +1,7 @@
+//! The router over UDP: its sockets, its workers, and the one who leads it by lines.
+#![tactic(auto)]
+
+mod over_udp;
+mod run;
+
+pub use run::run_router;
