@@ -1,0 +1,129 @@
+//! Sources and sinks that keep nothing of what they are asked for.
+
+ghost use Rattle.std.specs.Prelude.{◌≡◌, ◌+◌, ◌-◌, ◌^◌, ◌<◌, None, is_ok, if◌then◌else◌, length};
+ghost use Rattle.stage_laws.specs.Forwards.{AddsTo};
+ghost use Rattle.stage_parts.specs.Heard.{failures_of, fits, heard};
+ghost use Rattle.stage_parts.specs.Told.{telling};
+
+use crate::cued::give;
+use crate::cues::Words;
+use router_rules::Outgoing;
+use sample_packets::FIRST;
+use stage_parts::{NextLen, Sink, SinkFault, Source};
+use std::alloc::Global;
+use std::sync::Arc;
+use std::sync::atomic::Ordering;
+
+/// Gives the first datagram so often, each once the sink was handed the one before, and then ends.
+#[derive(Drop)]
+pub struct Paced {
+    words: Arc<Words, Global>,
+    count: u64,
+    given: u64,
+    // Whether it was ever asked.
+    asked: bool,
+}
+
+impl Paced {
+    pub fn new(words: Arc<Words, Global>, count: u64) -> Paced {
+        Paced {
+            words,
+            count,
+            given: 0,
+            asked: false,
+        }
+    }
+
+    pub fn was_asked(&self) -> bool {
+        self.asked
+    }
+}
+
+impl Source for Paced {
+    ghost told = { λ s. None };
+
+    ghost failed = { λ s. 0 };
+
+    fn next_into(&mut self, buffer: &mut [u8]) -> NextLen {
+        self.asked = true;
+        if self.given >= self.count {
+            return NextLen::End;
+        }
+        if self.words.handed.load(Ordering::SeqCst) < self.given {
+            return NextLen::Quiet;
+        }
+        self.given += 1;
+        give(&FIRST, buffer)
+    }
+
+    fn failures(&self) -> u64 {
+        0
+    }
+}
+
+/// Counts what it is handed.
+#[derive(Drop)]
+pub struct Counting {
+    words: Arc<Words, Global>,
+    // Whether it was ever asked.
+    asked: bool,
+}
+
+impl Counting {
+    pub fn new(words: Arc<Words, Global>) -> Counting {
+        Counting {
+            words,
+            asked: false,
+        }
+    }
+
+    pub fn was_asked(&self) -> bool {
+        self.asked
+    }
+}
+
+impl Sink for Counting {
+    ghost told = { λ s. None };
+
+    ghost failed = { λ s. 0 };
+
+    fn send(&mut self, out: &Outgoing, bytes: &[u8]) -> Result<(), SinkFault> {
+        let _ = out;
+        let _ = bytes;
+        self.asked = true;
+        self.words.handed.fetch_add(1, Ordering::SeqCst);
+        Ok(())
+    }
+
+    fn failures(&self) -> u64 {
+        0
+    }
+}
+
+/// Fails whenever it is asked.
+#[derive(Drop)]
+pub struct Failing {
+    failed: u64,
+}
+
+impl Failing {
+    pub fn new() -> Failing {
+        Failing { failed: 0 }
+    }
+}
+
+impl Source for Failing {
+    ghost told = { λ s. None };
+
+    ghost failed = { λ s. s.failed };
+
+    fn next_into(&mut self, buffer: &mut [u8]) -> NextLen {
+        let _ = buffer;
+        self.failed += 1;
+        NextLen::Failed
+    }
+
+    fn failures(&self) -> u64 {
+        self.failed
+    }
+}

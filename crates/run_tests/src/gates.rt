@@ -1,0 +1,96 @@
+//! Two processors that meet, and gates.
+
+use crate::cues::comes;
+use crate::lists::{NEAR, datagram, four_sources, list_sinks};
+use crate::play::{ran, sent_by};
+use crate::routers::{NOTHING, router};
+use router_rules::Worker;
+use sample_packets::{FIRST, with_bytes};
+use stage_parts::Gate;
+use std::alloc::{AllocError, Global};
+use std::rt::Clock;
+use std::sync::Arc;
+use std::sync::atomic::{AtomicU64, Ordering};
+use std::test::*;
+
+/// Admits all.
+#[derive(Drop)]
+pub struct Open;
+
+impl Gate for Open {
+    ghost use Rattle.std.specs.Prelude.{◌≡◌, true};
+
+    ghost answers = { λ g worker link number admitted. admitted ≡ true };
+
+    fn admits(&self, worker: Worker, link: u16, number: u64) -> bool {
+        let _ = (worker, link, number);
+        true
+    }
+}
+
+/// What two processors tell each other: that one asked, and how many saw that the other did.
+#[derive(Drop)]
+struct Meeting {
+    zero: AtomicU64,
+    one: AtomicU64,
+    met: AtomicU64,
+}
+
+/// Admits a packet of processor 0 or 1 once a packet of the other one waits here too.
+#[derive(Drop)]
+struct Meet<R: Clock + Drop> {
+    rt: R,
+    meeting: Arc<Meeting, Global>,
+}
+
+impl<R: Clock + Drop> Gate for Meet<R> {
+    ghost answers = { λ g worker link number admitted. Unit {0} };
+
+    fn admits(&self, worker: Worker, link: u16, number: u64) -> bool {
+        let _ = (link, number);
+        let (own, other) = match worker {
+            Worker::Processor(0) => (&self.meeting.zero, &self.meeting.one),
+            _ => (&self.meeting.one, &self.meeting.zero),
+        };
+        own.store(1, Ordering::SeqCst);
+        if comes(&self.rt, other, 1) {
+            self.meeting.met.fetch_add(1, Ordering::SeqCst);
+        }
+        true
+    }
+}
+
+fn new_meeting(alloc: Global) -> Result<Arc<Meeting, Global>, AllocError> {
+    let meeting = Meeting {
+        zero: AtomicU64::new(0),
+        one: AtomicU64::new(0),
+        met: AtomicU64::new(0),
+    };
+    Ok(Arc::new(alloc, meeting)?)
+}
+
+/// Two flows are decided by two processors, each of which sees that the other is at work.
+#[test]
+fn gate_two_processors(rt: HostRuntime) -> Result<(), Fail> {
+    let alloc = rt.alloc();
+    let other = with_bytes(FIRST, 3, &[2]);
+    let mut answers = Vec::new(alloc);
+    answers.push(datagram(alloc, &FIRST, NEAR)?)?;
+    answers.push(datagram(alloc, &other, NEAR)?)?;
+    let sources = four_sources(alloc, answers)?;
+    let sinks = list_sinks(alloc, 4, 0)?;
+    let meeting = new_meeting(alloc)?;
+    let gate = Meet {
+        rt,
+        meeting: Arc::try_clone(&meeting)?,
+    };
+    let config = router(&rt, 2, 64);
+    let played = ran(rt, config, sources, sinks, gate, None);
+    let mut wanted = NOTHING;
+    wanted.received = 2;
+    wanted.sent = 2;
+    assert_eq!(rt; played.report.totals, wanted);
+    assert!(rt; sent_by(&played.report, &[0, 0, 2, 0]));
+    assert_eq!(rt; meeting.met.load(Ordering::SeqCst), 2);
+    Ok(())
+}

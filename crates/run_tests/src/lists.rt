@@ -1,0 +1,84 @@
+//! Datagrams, and lists that are given and kept.
+
+ghost use Rattle.std.specs.Prelude.{◌≡◌, IfOk};
+ghost use Rattle.pipe_order.specs.Deeds.{Each};
+ghost use Rattle.router_laws.specs.Heard.{ToldNothing};
+
+use process_packet::{Ip, Underlay};
+use sample_packets::{FIRST, IN_TIME};
+use stage_parts::{ListSink, ListSource, Next};
+use std::alloc::{AllocError, Global};
+
+/// The other end of link 1.
+pub const NEAR: Underlay = Underlay {
+    ip: Ip::V4([10, 1, 0, 2]),
+    port: 40000,
+};
+
+/// The first datagram, with the traffic class of what is urgent.
+pub const URGENT: [u8; 92] = *b"\x0b\x80\x00\x01\x11\x15\x00\x08\x01\x00\x00\x00\
+    \x00\x01\xff\x00\x00\x00\x01\x12\x00\x01\xff\x00\x00\x00\x01\x11\x0a\x02\x00\x07\x0a\x01\x00\x05\
+    \x01\x00\x30\x00\x01\x00\x12\x34\x65\x00\x00\x00\
+    \x00\x3f\x00\x00\x00\x11\xa0\xa1\xa2\xa3\xa4\xa5\
+    \x00\x3f\x00\x01\x00\x02\x0e\x66\xd2\x97\x45\x36\
+    \x00\x3f\x00\x12\x00\x00\xb0\xb1\xb2\xb3\xb4\xb5\
+    \x75\x59\x75\x59\x00\x08\x00\x00";
+
+/// A datagram from an underlay address.
+pub fn datagram(alloc: Global, bytes: &[u8], from: Underlay) -> Result<Next, AllocError> {
+    let bytes = Vec::from_slice(alloc, bytes)?;
+    Ok(Next::Datagram {
+        bytes,
+        from,
+        now: IN_TIME,
+    })
+}
+
+/// The first datagram, so often.
+pub fn firsts(alloc: Global, count: usize) -> Result<Vec<Next>, AllocError> {
+    let mut answers = Vec::new(alloc);
+    for _ in 0..count {
+        answers.push(datagram(alloc, &FIRST, NEAR)?)?;
+    }
+    Ok(answers)
+}
+
+/// Sources that give the answers of a list each.
+pub fn list_sources(alloc: Global, lists: Vec<Vec<Next>>) -> Result<Vec<ListSource>, AllocError>
+    ensures { IfOk result (λ v. Each (λ s. ToldNothing s.told) v.items) }
+{
+    let mut sources = Vec::new(alloc);
+    for list in lists {
+        sources.push(ListSource::new(list))?;
+    }
+    Ok(sources)
+}
+
+/// The sources of four links: link 1's gives these answers, the others end at once.
+pub fn four_sources(alloc: Global, one: Vec<Next>) -> Result<Vec<ListSource>, AllocError>
+    ensures { IfOk result (λ v. Each (λ s. ToldNothing s.told) v.items) }
+{
+    let lists = [Vec::new(alloc), one, Vec::new(alloc), Vec::new(alloc)];
+    list_sources(alloc, Vec::from_array(alloc, lists)?)
+}
+
+/// So many sinks, which fail at their first calls, so many of them.
+pub fn list_sinks(alloc: Global, count: usize, fails: u64) -> Result<Vec<ListSink>, AllocError>
+    ensures { IfOk result (λ v. Each (λ s. ToldNothing s.told) v.items) }
+{
+    let mut sinks = Vec::new(alloc);
+    for _ in 0..count {
+        let calls = first_numbers(alloc, fails)?;
+        sinks.push(ListSink::new(alloc, calls))?;
+    }
+    Ok(sinks)
+}
+
+// The numbers from 1 on, so many.
+fn first_numbers(alloc: Global, count: u64) -> Result<Vec<u64>, AllocError> {
+    let mut numbers = Vec::new(alloc);
+    for k in 0..count {
+        numbers.push(k + 1)?;
+    }
+    Ok(numbers)
+}

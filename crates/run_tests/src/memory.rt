@@ -1,0 +1,109 @@
+//! Runs over lists: what a router without datagrams, one with a single one, and failing devices come to.
+
+use crate::devices::Failing;
+use crate::gates::Open;
+use crate::lists::{NEAR, datagram, firsts, four_sources, list_sinks};
+use crate::play::{ran, sent_by};
+use crate::routers::{NOTHING, SEND_FAILED, router};
+use sample_packets::{FIRST, PATH_AT, with_bytes};
+use stage_parts::{Next, Sent, Sink, Source};
+use std::alloc::{AllocError, Global};
+use std::test::*;
+
+/// Where the identifier of the first datagram's segment stands.
+const SEGMENT_AT: usize = 42;
+
+#[test]
+fn ended_sources_count_nothing(rt: HostRuntime) -> Result<(), Fail> {
+    let sources = four_sources(rt.alloc(), Vec::new(rt.alloc()))?;
+    let sinks = list_sinks(rt.alloc(), 4, 0)?;
+    let played = ran(rt, router(&rt, 1, 4), sources, sinks, Open, None);
+    assert_eq!(rt; played.report.totals, NOTHING);
+    assert!(rt; sent_by(&played.report, &[0; 4]));
+    Ok(())
+}
+
+// Whether the first datagram of link 1 was taken, as it leaves: one hop further, and its identifier chained.
+fn is_first(sent: &Sent) -> bool {
+    let moved = with_bytes(FIRST, PATH_AT, &[0x02]);
+    let wanted = with_bytes(moved, SEGMENT_AT, &[0x1c, 0x52]);
+    let out = sent.out;
+    sent.took
+        && (out.arrived, out.number, out.answer) == (1, 1, false)
+        && out.to.is_none()
+        && sent.bytes.as_slice() == wanted.as_slice()
+}
+
+#[test]
+fn the_first_datagram_crosses(rt: HostRuntime) -> Result<(), Fail> {
+    let sources = four_sources(rt.alloc(), firsts(rt.alloc(), 1)?)?;
+    let sinks = list_sinks(rt.alloc(), 4, 0)?;
+    let played = ran(rt, router(&rt, 1, 64), sources, sinks, Open, None);
+    let mut wanted = NOTHING;
+    wanted.received = 1;
+    wanted.sent = 1;
+    assert_eq!(rt; played.report.totals, wanted);
+    assert!(rt; sent_by(&played.report, &[0, 0, 1, 0]));
+    let told = played.report.sinks.get(2).and_then(|sink| sink.told());
+    match told {
+        Some([sent]) => assert!(rt; is_first(sent)),
+        _ => assert!(rt; false),
+    }
+    Ok(())
+}
+
+#[test]
+fn sources_that_always_fail_give_nothing(rt: HostRuntime) -> Result<(), Fail> {
+    let failing = [
+        Failing::new(),
+        Failing::new(),
+        Failing::new(),
+        Failing::new(),
+    ];
+    let sources = Vec::from_array(rt.alloc(), failing)?;
+    let sinks = list_sinks(rt.alloc(), 4, 0)?;
+    let played = ran(rt, router(&rt, 1, 4), sources, sinks, Open, None);
+    assert_eq!(rt; played.report.totals, NOTHING);
+    assert!(rt; sent_by(&played.report, &[0; 4]));
+    for source in &played.report.sources {
+        assert!(rt; source.failures() > 0);
+    }
+    Ok(())
+}
+
+// Two datagrams, and a failure.
+fn before_a_failure(alloc: Global) -> Result<Vec<Next>, AllocError> {
+    let mut answers = Vec::new(alloc);
+    answers.push(datagram(alloc, &FIRST, NEAR)?)?;
+    answers.push(datagram(alloc, &FIRST, NEAR)?)?;
+    answers.push(Next::Failed)?;
+    Ok(answers)
+}
+
+#[test]
+fn a_failure_is_no_datagram(rt: HostRuntime) -> Result<(), Fail> {
+    let sources = four_sources(rt.alloc(), before_a_failure(rt.alloc())?)?;
+    let sinks = list_sinks(rt.alloc(), 4, 0)?;
+    let played = ran(rt, router(&rt, 1, 64), sources, sinks, Open, None);
+    let mut wanted = NOTHING;
+    wanted.received = 2;
+    wanted.sent = 2;
+    assert_eq!(rt; played.report.totals, wanted);
+    assert!(rt; sent_by(&played.report, &[0, 0, 2, 0]));
+    Ok(())
+}
+
+#[test]
+fn a_sink_that_always_refuses_is_counted(rt: HostRuntime) -> Result<(), Fail> {
+    let sources = four_sources(rt.alloc(), firsts(rt.alloc(), 20)?)?;
+    let sinks = list_sinks(rt.alloc(), 4, 20)?;
+    let played = ran(rt, router(&rt, 1, 64), sources, sinks, Open, None);
+    let mut wanted = NOTHING;
+    wanted.received = 20;
+    wanted.dropped[SEND_FAILED] = 20;
+    assert_eq!(rt; played.report.totals, wanted);
+    assert!(rt; sent_by(&played.report, &[0; 4]));
+    let failures = played.report.sinks.get(2).map(|sink| sink.failures());
+    assert_eq!(rt; failures, Some(20));
+    Ok(())
+}

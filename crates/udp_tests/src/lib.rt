@@ -1,0 +1,5 @@
+//! Tests of the router over its sockets.
+#![tactic(auto)]
+
+#[cfg(test)]
+mod loopback;
