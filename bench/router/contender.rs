@@ -1,0 +1,157 @@
+//! The programs that carry datagrams from port 41001 to port 42002.
+
+use std::fmt;
+use std::fs;
+use std::io::{BufRead, BufReader, Read, Write};
+use std::path::Path;
+use std::process::{Child, ChildStdout, Command, Stdio};
+use std::thread;
+use std::time::{Duration, Instant};
+
+pub struct Programs<'a> {
+    pub router: &'a Path,
+    pub plain: &'a Path,
+    pub forward: &'a Path,
+    /// Where configurations are written.
+    pub room: &'a Path,
+}
+
+/// Its links are those to other ASes.
+#[derive(Clone, Copy)]
+pub enum Kind {
+    /// The router.
+    Router { links: u16, processors: u16 },
+    /// The same in plain Rust.
+    Plain { links: u16, processors: u16 },
+    /// C by recvfrom and sendto.
+    One,
+    /// C by recvmmsg and sendmmsg.
+    Many,
+}
+
+impl fmt::Display for Kind {
+    fn fmt(&self, f: &mut fmt::Formatter) -> fmt::Result {
+        match self {
+            Kind::Router { links, processors } => write!(f, "router, {links} links, {processors}"),
+            Kind::Plain { links, processors } => write!(f, "rust, {links} links, {processors}"),
+            Kind::One => write!(f, "c, recvfrom and sendto"),
+            Kind::Many => write!(f, "c, recvmmsg and sendmmsg"),
+        }
+    }
+}
+
+/// A program that runs.
+pub struct Contender {
+    kind: Kind,
+    child: Child,
+    output: BufReader<ChildStdout>,
+}
+
+fn configuration(links: u16, processors: u16) -> String {
+    let mut text = format!(
+        "version = 1\nisd_as = \"1-ff00:0:110\"\nkey = \"2b7e151628aed2a6abf7158809cf4f3c\"\n\
+         internal = \"127.0.0.1:41000\"\nhost_port = 30041\nprocessors = {processors}\n\
+         capacity = 1024\nbuffers = 2048\nseed = 0\n"
+    );
+    for id in 1..=links {
+        let (local, remote) = (41000 + id, 42000 + id);
+        text.push_str(&format!(
+            "[[link]]\nid = {id}\nkind = \"core\"\nlocal = \"127.0.0.1:{local}\"\nremote = \"127.0.0.1:{remote}\"\n"
+        ));
+    }
+    text
+}
+
+fn command(programs: &Programs, kind: Kind) -> Command {
+    match kind {
+        Kind::Router { links, processors } => {
+            let path = programs.room.join(format!("{links}-{processors}.toml"));
+            fs::write(&path, configuration(links, processors)).expect("room for a configuration");
+            let mut command = Command::new(programs.router);
+            command.arg("run").arg("--config").arg(path);
+            command
+        }
+        Kind::Plain { links, processors } => {
+            let mut command = Command::new(programs.plain);
+            command.arg(links.to_string()).arg(processors.to_string());
+            command
+        }
+        Kind::One | Kind::Many => {
+            let mut command = Command::new(programs.forward);
+            let how = if matches!(kind, Kind::One) {
+                "one"
+            } else {
+                "many"
+            };
+            command.args([how, "41001", "41002", "42002"]);
+            command
+        }
+    }
+}
+
+impl Contender {
+    /// Starts it, and waits until it is ready.
+    pub fn start(programs: &Programs, kind: Kind) -> Contender {
+        let mut child = command(programs, kind)
+            .stdin(Stdio::piped())
+            .stdout(Stdio::piped())
+            .spawn()
+            .expect("a program that starts");
+        let mut output = BufReader::new(child.stdout.take().expect("an output"));
+        let mut line = String::new();
+        output.read_line(&mut line).expect("a line");
+        assert_eq!(line, "ready\n", "{kind}");
+        Contender {
+            kind,
+            child,
+            output,
+        }
+    }
+
+    /// The processor time of all its threads so far, in nanoseconds.
+    pub fn spent(&self) -> u64 {
+        let tasks = fs::read_dir(format!("/proc/{}/task", self.child.id())).expect("tasks");
+        let of_task = |path: &Path| {
+            let text = fs::read_to_string(path.join("schedstat")).unwrap_or_default();
+            text.split(' ')
+                .next()
+                .and_then(|word| word.parse::<u64>().ok())
+                .unwrap_or(0)
+        };
+        tasks.flatten().map(|task| of_task(&task.path())).sum()
+    }
+
+    /// Its share of a core while nothing comes, in percent.
+    pub fn idle_share(&self, length: Duration) -> f64 {
+        thread::sleep(Duration::from_millis(500));
+        let (start, before) = (Instant::now(), self.spent());
+        thread::sleep(length);
+        (self.spent() - before) as f64 * 100.0 / start.elapsed().as_nanos() as f64
+    }
+
+    /// Ends it. The router's report has to account for each datagram that was read.
+    pub fn end(mut self) {
+        if !matches!(self.kind, Kind::Router { .. }) {
+            self.child.kill().expect("an end");
+            self.child.wait().expect("an end");
+            return;
+        }
+        let mut commands = self.child.stdin.take().expect("an input");
+        commands.write_all(b"end\n").expect("an end");
+        let mut report = String::new();
+        self.output.read_to_string(&mut report).expect("a report");
+        assert!(self.child.wait().expect("an end").success());
+        let mut received = 0;
+        let mut gone = 0;
+        for line in report.lines() {
+            let words: Vec<&str> = line.split(' ').collect();
+            let count: u64 = words[words.len() - 1].parse().expect("a count");
+            match words[0] {
+                "received" => received = count,
+                "sent" | "answered" | "dropped" => gone += count,
+                _ => {}
+            }
+        }
+        assert_eq!(received, gone, "the report doesn't add up:\n{report}");
+    }
+}

@@ -1,0 +1,241 @@
+//! The two neighbours: one sends to port 41001 from port 42001, the other one reads at port 42002.
+
+use crate::datagrams::{FLOWS, PAYLOAD_AT, datagrams};
+use std::ffi::c_void;
+use std::net::{Ipv4Addr, UdpSocket};
+use std::os::fd::AsRawFd;
+use std::ptr::null_mut;
+use std::sync::atomic::{AtomicBool, AtomicU64, Ordering};
+use std::thread;
+use std::time::{Duration, Instant};
+
+#[repr(C)]
+struct Place {
+    base: *mut u8,
+    len: usize,
+}
+
+#[repr(C)]
+struct Header {
+    name: *mut c_void,
+    name_len: u32,
+    places: *mut Place,
+    count: usize,
+    control: *mut c_void,
+    control_len: usize,
+    flags: i32,
+}
+
+#[repr(C)]
+struct Message {
+    header: Header,
+    len: u32,
+}
+
+unsafe extern "C" {
+    fn sendmmsg(fd: i32, messages: *mut Message, count: u32, flags: i32) -> i32;
+    fn recvmmsg(fd: i32, messages: *mut Message, count: u32, flags: i32, limit: *mut c_void)
+    -> i32;
+    fn setsockopt(fd: i32, level: i32, name: i32, value: *const i32, len: u32) -> i32;
+}
+
+/// Returns once one message is there, with all that are there then.
+const WAIT_FOR_ONE: i32 = 0x10000;
+
+fn message(place: &mut Place) -> Message {
+    Message {
+        header: Header {
+            name: null_mut(),
+            name_len: 0,
+            places: place,
+            count: 1,
+            control: null_mut(),
+            control_len: 0,
+            flags: 0,
+        },
+        len: 0,
+    }
+}
+
+/// Buffers for as many datagrams as there are flows, as the system wants them.
+struct Batch {
+    bytes: Vec<Vec<u8>>,
+}
+
+impl Batch {
+    /// Calls with the messages of all buffers, whose contents the call may change.
+    fn with<T>(&mut self, call: impl FnOnce(*mut Message, u32) -> T) -> T {
+        let mut places: Vec<Place> = self
+            .bytes
+            .iter_mut()
+            .map(|bytes| Place {
+                base: bytes.as_mut_ptr(),
+                len: bytes.len(),
+            })
+            .collect();
+        let mut messages: Vec<Message> = places.iter_mut().map(message).collect();
+        call(messages.as_mut_ptr(), messages.len() as u32)
+    }
+}
+
+/// What came of a steady pace.
+pub struct Paced {
+    /// Processor time a datagram, in nanoseconds.
+    pub nanos: f64,
+    /// Microseconds from sender to receiver: of the middle datagram, and of the one that 99 of 100 are before.
+    pub middle: f64,
+    pub late: f64,
+    pub lost: f64,
+}
+
+pub struct Load {
+    sender: UdpSocket,
+    receiver: UdpSocket,
+    size: usize,
+}
+
+/// Reads datagrams until it is stopped, and counts them.
+fn count_all(socket: &UdpSocket, size: usize, count: &AtomicU64, stop: &AtomicBool) {
+    let mut batch = Batch {
+        bytes: vec![vec![0; 2048]; FLOWS],
+    };
+    while !stop.load(Ordering::Relaxed) {
+        let came = batch.with(|messages, many| unsafe {
+            let came = recvmmsg(socket.as_raw_fd(), messages, many, WAIT_FOR_ONE, null_mut());
+            (0..came.max(0) as usize)
+                .filter(|at| (*messages.add(*at)).len as usize == size)
+                .count()
+        });
+        count.fetch_add(came as u64, Ordering::Relaxed);
+    }
+}
+
+/// Sends a datagram of each flow, again and again, until it is stopped.
+fn send_all(socket: &UdpSocket, size: usize, stop: &AtomicBool) {
+    let mut batch = Batch {
+        bytes: datagrams(size),
+    };
+    while !stop.load(Ordering::Relaxed) {
+        batch.with(|messages, many| unsafe { sendmmsg(socket.as_raw_fd(), messages, many, 0) });
+    }
+}
+
+impl Load {
+    pub fn new(size: usize) -> Load {
+        let sender = UdpSocket::bind((Ipv4Addr::LOCALHOST, 42001)).expect("port 42001");
+        sender
+            .connect((Ipv4Addr::LOCALHOST, 41001))
+            .expect("an address");
+        let receiver = UdpSocket::bind((Ipv4Addr::LOCALHOST, 42002)).expect("port 42002");
+        let (level, receive_buffer) = (1, 8);
+        unsafe { setsockopt(receiver.as_raw_fd(), level, receive_buffer, &(1 << 30), 4) };
+        let patience = Some(Duration::from_millis(100));
+        receiver.set_read_timeout(patience).expect("a limit");
+        Load {
+            sender,
+            receiver,
+            size,
+        }
+    }
+
+    /// Sends as fast as it can, and tells how many datagrams a second came through.
+    pub fn flood(&self, length: Duration) -> f64 {
+        let (count, stop) = (AtomicU64::new(0), AtomicBool::new(false));
+        let rate = thread::scope(|scope| {
+            scope.spawn(|| count_all(&self.receiver, self.size, &count, &stop));
+            scope.spawn(|| send_all(&self.sender, self.size, &stop));
+            thread::sleep(Duration::from_millis(300));
+            let (start, before) = (Instant::now(), count.load(Ordering::Relaxed));
+            thread::sleep(length);
+            let came = count.load(Ordering::Relaxed) - before;
+            let rate = came as f64 / start.elapsed().as_secs_f64();
+            stop.store(true, Ordering::Relaxed);
+            rate
+        });
+        self.drain();
+        rate
+    }
+
+    /// Waits until nothing comes any more.
+    fn drain(&self) {
+        let mut room = [0; 2048];
+        while self.receiver.recv(&mut room).is_ok() {}
+    }
+
+    /// Sends so many a second. `spent` tells the processor time of who carries them.
+    pub fn pace(&self, pace: u64, length: Duration, spent: impl Fn() -> u64) -> Paced {
+        let warm = pace / 5;
+        let total = warm + pace * length.as_secs();
+        let begin = Instant::now();
+        let mut before = 0;
+        let mut delays = thread::scope(|scope| {
+            let reading = scope.spawn(|| self.delays(begin, warm, total));
+            before = self.send_paced(begin, pace, warm, total, &spent);
+            reading.join().expect("delays")
+        });
+        let nanos = (spent() - before) as f64;
+        let came = delays.len().max(1);
+        delays.sort();
+        delays.push(u64::MAX);
+        Paced {
+            nanos: nanos / came as f64,
+            middle: delays[came / 2] as f64 / 1000.0,
+            late: delays[came * 99 / 100] as f64 / 1000.0,
+            lost: (total - warm - (delays.len() as u64 - 1)) as f64 * 1000.0
+                / (total - warm) as f64,
+        }
+    }
+
+    /// Sends at the pace, and tells the time that was spent before those which count.
+    fn send_paced(
+        &self,
+        begin: Instant,
+        pace: u64,
+        warm: u64,
+        total: u64,
+        spent: &impl Fn() -> u64,
+    ) -> u64 {
+        let mut all = datagrams(self.size);
+        let mut before = 0;
+        for number in 0..total {
+            if number == warm {
+                before = spent();
+            }
+            let due = Duration::from_nanos(number * 1_000_000_000 / pace);
+            while begin.elapsed() < due {
+                std::hint::spin_loop();
+            }
+            let bytes = &mut all[number as usize % FLOWS];
+            let moment = begin.elapsed().as_nanos() as u64;
+            bytes[PAYLOAD_AT..][..8].copy_from_slice(&moment.to_be_bytes());
+            bytes[PAYLOAD_AT + 8..][..8].copy_from_slice(&number.to_be_bytes());
+            let _ = self.sender.send(bytes);
+        }
+        before
+    }
+
+    /// The delays of those datagrams that count, in nanoseconds, until nothing comes any more.
+    fn delays(&self, begin: Instant, warm: u64, total: u64) -> Vec<u64> {
+        let mut delays = Vec::with_capacity(total as usize);
+        let mut room = [0; 2048];
+        let mut quiet = 0;
+        // the first one may take a while
+        while quiet < 5 {
+            let Ok(len) = self.receiver.recv(&mut room) else {
+                quiet += 1;
+                continue;
+            };
+            let now = begin.elapsed().as_nanos() as u64;
+            let at = |at: usize| u64::from_be_bytes(room[at..at + 8].try_into().expect("eight"));
+            let number = at(PAYLOAD_AT + 8);
+            if len == self.size && number >= warm {
+                delays.push(now - at(PAYLOAD_AT));
+            }
+            quiet = 0;
+            if number + 1 == total {
+                break;
+            }
+        }
+        delays
+    }
+}

@@ -1,0 +1,34 @@
+#!/usr/bin/env bash
+# Times packets through three workers by turns in one thread, and through plain Rust beside them. Each figure is the
+# median of nine runs, which take turns. The last line is the workers' time over plain Rust's.
+set -eu
+cd "$(dirname "$0")/.."
+RUSTC=${RUSTC:-rustc}
+mkdir -p bin
+"$RUSTC" --edition 2024 -C opt-level=3 -C target-cpu=x86-64-v2 -o bin/bench-stages-plain bench/stages/main.rs
+STAGES=crates/stages_bench/out/stages_bench
+
+one_tenth() { echo "$(($1 / 10)).$(($1 % 10))"; }
+median() { sort -n | sed -n 5p; }
+
+ours= plains= sum=
+for _ in 1 2 3 4 5 6 7 8 9; do
+  for kind in ours plain; do
+    if [ "$kind" = ours ]; then
+      read -r tenths left <<< "$("$STAGES" time)"
+      ours+="$tenths"$'\n'
+    else
+      read -r tenths left <<< "$(bin/bench-stages-plain)"
+      plains+="$tenths"$'\n'
+    fi
+    if [ "${sum:=$left}" != "$left" ]; then
+      echo "what left isn't the same: $sum, $left" >&2
+      exit 1
+    fi
+  done
+done
+our=$(printf %s "$ours" | median) plain=$(printf %s "$plains" | median)
+printf '%-28s %10s %10s\n' 'nanoseconds a packet' workers rust
+printf '%-28s %10s %10s\n' 'three workers by turns' "$(one_tenth "$our")" "$(one_tenth "$plain")"
+ratio=$((our * 100 / plain))
+printf 'stages/rust %d.%02d\n' $((ratio / 100)) $((ratio % 100))

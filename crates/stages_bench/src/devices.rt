@@ -1,0 +1,107 @@
+//! The devices: datagrams of many flows, and a sum of what leaves.
+
+ghost use Rattle.std.specs.Prelude.{◌≡◌, ◌+◌, ◌-◌, ◌^◌, ◌<◌, None, is_ok, if◌then◌else◌, length, true};
+ghost use Rattle.stage_laws.specs.Forwards.{AddsTo};
+ghost use Rattle.stage_parts.specs.Heard.{failures_of, fits, heard};
+ghost use Rattle.stage_parts.specs.Told.{telling};
+
+use process_packet::{Ip, Underlay};
+use router_rules::{Outgoing, Worker};
+use sample_packets::{FIRST, IN_TIME, PATH_AT};
+use stage_parts::{Gate, NextLen, Sink, SinkFault, Source};
+
+const NEAR: Underlay = Underlay {
+    ip: Ip::V4([10, 1, 0, 2]),
+    port: 40000,
+};
+
+/// How many flows there are.
+const FLOWS: u8 = 64;
+
+/// Where the segment's identifier stands.
+const SEGMENT_AT: usize = PATH_AT + 6;
+
+/// Gives the first datagram, of one flow after the other.
+#[derive(Drop)]
+pub struct Flows {
+    flow: u8,
+}
+
+impl Flows {
+    pub fn new() -> Flows {
+        Flows { flow: 0 }
+    }
+}
+
+impl Source for Flows {
+    ghost told = { λ s. None };
+
+    ghost failed = { λ s. 0 };
+
+    fn next_into(&mut self, buffer: &mut [u8]) -> NextLen {
+        let mut datagram = FIRST;
+        datagram[3] = self.flow;
+        self.flow = self.flow.wrapping_add(1) % FLOWS;
+        let (front, _) = buffer.split_at_mut(92);
+        front.copy_from_slice(&datagram);
+        NextLen::Datagram {
+            len: 92,
+            from: NEAR,
+            now: IN_TIME,
+        }
+    }
+
+    fn failures(&self) -> u64 {
+        0
+    }
+}
+
+/// Adds up the numbers, flows, cursors and segment identifiers of what it is handed.
+#[derive(Drop)]
+pub struct Sums {
+    sum: u64,
+}
+
+impl Sums {
+    pub fn new() -> Sums {
+        Sums { sum: 0 }
+    }
+
+    pub fn sum(&self) -> u64 {
+        self.sum
+    }
+}
+
+impl Sink for Sums {
+    ghost told = { λ s. None };
+
+    ghost failed = { λ s. 0 };
+
+    fn send(&mut self, out: &Outgoing, bytes: &[u8]) -> Result<(), SinkFault> {
+        let mut sum = self.sum.wrapping_add(out.number);
+        for at in [3, PATH_AT, SEGMENT_AT, SEGMENT_AT + 1] {
+            if let Some(byte) = bytes.get(at) {
+                sum = sum.wrapping_add(u64::from(*byte));
+            }
+        }
+        self.sum = sum;
+        Ok(())
+    }
+
+    fn failures(&self) -> u64 {
+        0
+    }
+}
+
+/// Admits all.
+#[derive(Drop)]
+pub struct Open;
+
+impl Gate for Open {
+    ghost answers = { λ g worker link number admitted. admitted ≡ true };
+
+    fn admits(&self, worker: Worker, link: u16, number: u64) -> bool {
+        let _ = (worker, link, number);
+        true
+    }
+}
