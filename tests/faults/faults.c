@@ -1,0 +1,482 @@
+/* Runs each command of the router over and over. In each run one call that a system may refuse fails, or one
+   and all of its kind after it; the next run refuses the next call, up to the last. Each run has to end as
+   docs/FORMATS.md tells, after a beginning of the text that the run without a fault writes, and within some
+   seconds. */
+#define _GNU_SOURCE
+#include "../datagrams.h"
+#include "page.h"
+
+#include <arpa/inet.h>
+#include <errno.h>
+#include <fcntl.h>
+#include <netinet/in.h>
+#include <poll.h>
+#include <signal.h>
+#include <stdio.h>
+#include <stdlib.h>
+#include <string.h>
+#include <sys/mman.h>
+#include <sys/socket.h>
+#include <sys/wait.h>
+#include <time.h>
+#include <unistd.h>
+
+enum { MOST = 1 << 16, PATIENCE = 10000, ROUTER = 43000, NEIGHBOUR = 43010, SENT = 4 };
+
+static const char *router, *library;
+static char page_name[] = "/tmp/faults-page-XXXXXX";
+static struct page *page;
+static int neighbours[2];
+static pid_t child;
+static int closed = -1; /* the standard stream that the program begins without */
+
+static void stop(const char *why) {
+    perror(why);
+    exit(2);
+}
+
+static long now(void) {
+    struct timespec at;
+    clock_gettime(CLOCK_MONOTONIC, &at);
+    return at.tv_sec * 1000 + at.tv_nsec / 1000000;
+}
+
+/* A command, what it reads, and what it writes where nothing fails. */
+struct command {
+    const char *name;
+    const char *const *words;
+    const char *input; /* a file; none: the router runs over its sockets, and the driver leads it */
+    bool runs;
+    int status; /* what it ends with, and writes, where nothing fails */
+    char right[MOST], errors[MOST];
+};
+
+/* How a run of the program ended. */
+struct ending {
+    int status; /* the exit status, or minus the signal */
+    bool hangs;
+    unsigned arrived; /* how many datagrams came back from a running router */
+    size_t length;
+    char output[MOST], errors[MOST];
+};
+
+/* ---- the running router's neighbours ---- */
+
+static struct sockaddr_in loopback(int port) {
+    return (struct sockaddr_in){
+        .sin_family = AF_INET, .sin_port = htons((uint16_t)port), .sin_addr.s_addr = htonl(INADDR_LOOPBACK)};
+}
+
+static void open_neighbours(void) {
+    for (int k = 0; k < 2; k++) {
+        struct sockaddr_in at = loopback(NEIGHBOUR + 1 + k);
+        neighbours[k] = socket(AF_INET, SOCK_DGRAM | SOCK_CLOEXEC | SOCK_NONBLOCK, 0);
+        if (neighbours[k] < 0 || bind(neighbours[k], (struct sockaddr *)&at, sizeof at))
+            stop("a neighbour's socket");
+    }
+}
+
+/* Whether there is a datagram within some time, while the router runs. Only some refusals are let to lose
+ * one. */
+static bool comes(int to) {
+    bool loses = page->kind == SEND || page->kind == CLOCK || (page->kind == RECEIVE && page->lasts);
+    struct pollfd asked = {.fd = to, .events = POLLIN};
+    for (long until = now() + (loses ? 300 : PATIENCE / 2); now() < until;) {
+        siginfo_t ended = {0};
+        if (poll(&asked, 1, 20) == 1) return true;
+        if (waitid(P_PID, (id_t)child, &ended, WEXITED | WNOHANG | WNOWAIT) || ended.si_pid) return false;
+    }
+    return false;
+}
+
+/* Sends a datagram by a neighbour, and waits for what comes to one. */
+static bool crosses(int from, const uint8_t *sent, size_t length, int to, const uint8_t *wanted,
+                    size_t wanted_length) {
+    struct sockaddr_in at = loopback(ROUTER + 1 + from);
+    uint8_t came[2000];
+    if (sendto(neighbours[from], sent, length, 0, (struct sockaddr *)&at, sizeof at) < 0) stop("sendto");
+    if (!comes(neighbours[to])) return false;
+    ssize_t count = recv(neighbours[to], came, sizeof came, 0);
+    return count >= (ssize_t)wanted_length && !memcmp(came, wanted, wanted_length);
+}
+
+/* A packet each way, a traceroute and a datagram that is too short: what the running router is tried with.
+   Each is through before the next one is sent, so that the report is the same each time. */
+static unsigned exchange(void) {
+    uint8_t drain[2000], sent[2000], wanted[2000], request[REQUEST];
+    const uint8_t reply[1] = {0};
+    for (int k = 0; k < 2; k++)
+        while (recv(neighbours[k], drain, sizeof drain, 0) >= 0) {
+        }
+    struct datagram of = {.destination = LAST_AS,
+                          .source = FIRST_AS,
+                          .destination_host = 0x0a020007,
+                          .source_host = 0x0a010005,
+                          .flow = 1,
+                          .next_header = UDP,
+                          .along = true,
+                          .hop = 1,
+                          .ingress = 1,
+                          .egress = 2,
+                          .identifier = 0x1234,
+                          .timestamp = (uint32_t)time(NULL) - 60,
+                          .expiry = 63};
+    unsigned arrived = 0;
+    for (int against = 0; against < 2; against++) {
+        of.along = !against;
+        size_t length = arriving(&of, (const uint8_t *)"a packet", 8, sent);
+        memcpy(wanted, sent, length);
+        leaving(&of, wanted);
+        arrived += crosses(against, sent, length, !against, wanted, length);
+    }
+    of.along = true;
+    of.alerts = 2;
+    of.next_header = SCMP;
+    size_t length = arriving(&of, request, trace_request(7, 8, request), sent);
+    arrived += crosses(0, sent, length, 0, reply, sizeof reply);
+    struct sockaddr_in at = loopback(ROUTER + 2);
+    if (sendto(neighbours[1], sent, 11, 0, (struct sockaddr *)&at, sizeof at) < 0) stop("sendto");
+    return arrived;
+}
+
+/* ---- one run ---- */
+
+static const char commands[] = "close 1\nclose 1\nclose 9\nno word\nend\n";
+
+static void begin(const struct command *command, int *in, int *out, int *err) {
+    int input[2] = {-1, -1}, output[2], errors[2];
+    if (command->runs ? pipe2(input, O_CLOEXEC) : (input[0] = open(command->input, O_RDONLY | O_CLOEXEC)) < 0)
+        stop("the input");
+    if (pipe2(output, O_CLOEXEC) || pipe2(errors, O_CLOEXEC)) stop("pipe");
+    child = fork();
+    if (child < 0) stop("fork");
+    if (!child) {
+        dup2(input[0], 0), dup2(output[1], 1), dup2(errors[1], 2);
+        if (closed >= 0) close(closed);
+        setenv("LD_PRELOAD", library, 1);
+        setenv(PAGE_VARIABLE, page_name, 1);
+        execv(router, (char *const *)command->words);
+        _exit(127);
+    }
+    close(input[0]), close(output[1]), close(errors[1]);
+    *in = input[1], *out = output[0], *err = errors[0];
+}
+
+static size_t collect(int from, char *to, size_t length) {
+    ssize_t count = read(from, to + length, MOST - 1 - length);
+    return count > 0 ? (size_t)count : 0;
+}
+
+/* Reads what the program writes, and leads a router once it says that it is ready. */
+static void follow(struct ending *ending, int in, int out, int err) {
+    long until = now() + PATIENCE;
+    size_t errors = 0;
+    struct pollfd both[2] = {{.fd = out, .events = POLLIN}, {.fd = err, .events = POLLIN}};
+    while (both[0].fd >= 0 || both[1].fd >= 0) {
+        if (poll(both, 2, 100) < 0) stop("poll");
+        if (now() > until) {
+            ending->hangs = true;
+            return;
+        }
+        for (int k = 0; k < 2; k++) {
+            if (both[k].fd < 0 || !both[k].revents) continue;
+            size_t *length = k ? &errors : &ending->length;
+            size_t more = collect(both[k].fd, k ? ending->errors : ending->output, *length);
+            *length += more;
+            if (!more) both[k].fd = -1;
+        }
+        if (in >= 0 && !strcmp(ending->output, "ready\n")) {
+            ending->arrived = exchange();
+            if (write(in, commands, strlen(commands)) < 0 && errno != EPIPE) stop("write");
+            in = -1;
+        }
+    }
+}
+
+static void run(const struct command *command, struct ending *ending) {
+    int in, out, err, status;
+    memset(ending, 0, sizeof *ending);
+    begin(command, &in, &out, &err);
+    follow(ending, in, out, err);
+    long until = now() + PATIENCE;
+    pid_t ended = 0;
+    while (!ending->hangs && !(ended = waitpid(child, &status, WNOHANG))) {
+        if (now() > until) ending->hangs = true;
+        usleep(200);
+    }
+    if (!ended) {
+        kill(child, SIGKILL);
+        waitpid(child, &status, 0);
+    }
+    ending->status = WIFEXITED(status) ? WEXITSTATUS(status) : -WTERMSIG(status);
+    if (in >= 0) close(in);
+    close(out), close(err);
+}
+
+static void set_page(enum kind kind, unsigned long at, bool lasts, int error, unsigned long chop) {
+    memset(page, 0, sizeof *page);
+    page->kind = kind;
+    page->at = at;
+    page->lasts = lasts;
+    page->error = error;
+    page->chop = chop;
+}
+
+/* ---- what a run may come to ---- */
+
+static bool is_right(const struct command *command, const struct ending *ending) {
+    return ending->status == command->status && !strcmp(ending->errors, command->errors) &&
+           !strcmp(ending->output, command->right) && (!command->runs || ending->arrived == SENT - 1);
+}
+
+/* One line that tells one of these faults, after a beginning of the right text. */
+static bool tells(const struct command *command, const struct ending *ending, const char *const *faults) {
+    if (ending->status != 1 || strncmp(ending->output, command->right, ending->length)) return false;
+    for (; *faults; faults++) {
+        char line[64];
+        size_t length = (size_t)snprintf(line, sizeof line, "fault: %s\n", *faults),
+               all = strlen(ending->errors);
+        if (all >= length && !strcmp(ending->errors + all - length, line) &&
+            !strncmp(ending->errors, command->errors, all - length))
+            return true;
+    }
+    return false;
+}
+
+static bool tells_one(const struct command *command, const struct ending *ending, const char *fault) {
+    return tells(command, ending, (const char *const[]){fault, NULL});
+}
+
+/* Of a running router: nothing was refused to the one who leads it, and the report accounts for all that
+   arrived. So many packets and answers couldn't be sent. */
+static bool adds_up(const struct command *command, const struct ending *ending, unsigned long unsent) {
+    const char *at = strstr(command->right, "link 0");
+    if (!command->runs || ending->status || *ending->errors || !at) return false;
+    size_t before = (size_t)(at - command->right);
+    if (strncmp(ending->output, command->right, before)) return false;
+    char text[MOST], *rest = text;
+    strcpy(text, ending->output + before);
+    unsigned long links = 0, received = 0, sent = 0, answered = 0, dropped = 0, failed = 0;
+    for (char *line; (line = strsep(&rest, "\n")) && *line;) {
+        unsigned long number, count;
+        if (sscanf(line, "link %lu sent %lu", &number, &count) == 2)
+            links += count;
+        else if (sscanf(line, "dropped %lu %lu", &number, &count) == 2)
+            dropped += count, failed += number == 17 ? count : 0;
+        else if (sscanf(line, "received %lu", &received) + sscanf(line, "sent %lu", &sent) +
+                     sscanf(line, "answered %lu", &answered) !=
+                 1)
+            return false;
+    }
+    return received <= SENT && received == sent + answered + dropped && links == sent + answered &&
+           failed == unsent;
+}
+
+static bool names_a_socket(const struct command *command, const struct ending *ending) {
+    return command->runs &&
+           tells(command, ending, (const char *const[]){"socket 0", "socket 1", "socket 2", NULL});
+}
+
+/* What want of memory is told as; a router alone is started, and a thread that can't be had for it is told as
+ * one. */
+static const char *const lacks[] = {"start 1", "start 3", "memory", "config 9", NULL};
+
+static bool is_good(const struct command *command, const struct ending *ending) {
+    unsigned long failed = atomic_load(&page->failed[page->kind]);
+    int descriptor = atomic_load(&page->descriptor);
+    bool silent = ending->status == 1 && !strncmp(ending->errors, command->errors, strlen(ending->errors)) &&
+                  !strncmp(ending->output, command->right, ending->length);
+    if (!failed) return is_right(command, ending);
+    switch (page->kind) {
+    case GROWTH:
+        return is_right(command, ending) || tells(command, ending, command->runs ? lacks : lacks + 2);
+    case OPEN: return is_right(command, ending) || tells_one(command, ending, "file");
+    case READ:
+        if (page->error == EINTR) return is_right(command, ending);
+        return tells_one(command, ending, descriptor ? "file" : "input");
+    case WRITE:
+        if (page->error == EINTR && is_right(command, ending)) return true;
+        /* Where no write succeeds the fault can't be told. */
+        return page->lasts ? silent : tells_one(command, ending, "output");
+    case SOCKET:
+    case BIND:
+    case CONTROL: return names_a_socket(command, ending);
+    case THREAD: return command->runs && tells_one(command, ending, "start 3");
+    case SEND:
+        /* Where there is no room a send is tried twice. */
+        if (page->error == EAGAIN)
+            return page->lasts ? adds_up(command, ending, failed / 2) : is_right(command, ending);
+        return adds_up(command, ending, failed);
+    case RECEIVE:
+    case CLOCK: return is_right(command, ending) || (command->runs && adds_up(command, ending, 0));
+    default: return is_right(command, ending);
+    }
+}
+
+/* ---- all runs ---- */
+
+/* What fails, and how. */
+struct refusal {
+    const char *name;
+    enum kind kind;
+    int error;
+    bool lasts;
+    unsigned long chop;
+};
+
+static const struct refusal refusals[] = {
+    {"reads and writes of one byte", NONE, 0, false, 1},
+    {"growths", GROWTH, ENOMEM, false, 0},
+    {"growths, from one on", GROWTH, ENOMEM, true, 0},
+    {"opening", OPEN, EMFILE, false, 0},
+    {"seeks", SEEK, ESPIPE, false, 0},
+    {"closing", CLOSE, EIO, false, 0},
+    {"reads", READ, EIO, false, 0},
+    {"reads, of 16 bytes", READ, EIO, false, 16},
+    {"reads, interrupted", READ, EINTR, false, 16},
+    {"writes", WRITE, EIO, false, 0},
+    {"writes, of 16 bytes", WRITE, EIO, false, 16},
+    {"writes, from one on", WRITE, ENOSPC, true, 0},
+    {"writes, would block", WRITE, EAGAIN, false, 0},
+    {"writes, of nothing", WRITE, NOTHING_WRITTEN, false, 0},
+    {"writes, interrupted", WRITE, EINTR, false, 16},
+    {"sockets", SOCKET, EMFILE, false, 0},
+    {"binding", BIND, EADDRINUSE, false, 0},
+    {"options", OPTION, ENOBUFS, false, 0},
+    {"control of descriptors", CONTROL, EMFILE, false, 0},
+    {"threads", THREAD, EAGAIN, false, 0},
+    {"receives", RECEIVE, EIO, false, 0},
+    {"receives, refused by a port", RECEIVE, ECONNREFUSED, false, 0},
+    {"receives, from one on", RECEIVE, ENOMEM, true, 0},
+    {"sends", SEND, ENOBUFS, false, 0},
+    {"sends, refused by a port", SEND, ECONNREFUSED, false, 0},
+    {"sends, would block", SEND, EAGAIN, false, 0},
+    {"sends, from one on", SEND, ENOBUFS, true, 0},
+    {"sends, would block for ever", SEND, EAGAIN, true, 0},
+    {"polls", POLL, EINTR, false, 0},
+    {"polls, from one on", POLL, ENOMEM, true, 0},
+    {"clock", CLOCK, EINVAL, false, 0},
+    {"clock, from one on", CLOCK, EINVAL, true, 0},
+};
+
+static void show(const struct command *command, const struct refusal *refusal, unsigned long at,
+                 const struct ending *ending) {
+    printf("  %s, %s, number %lu: %s %d, after %zu bytes, ", command->name, refusal->name, at,
+           ending->hangs        ? "it hangs, and"
+           : ending->status < 0 ? "signal"
+                                : "status",
+           abs(ending->status), ending->length);
+    if (command->runs) printf("%u came back, ", ending->arrived);
+    printf("standard error: %s%s", ending->errors, *ending->errors ? "" : "-\n");
+    if (!ending->status) printf("%s", ending->output);
+}
+
+/* Threads reach their calls in any order, and some as often as they look: a run in which none failed ends it,
+   and so does this many. */
+enum { ENOUGH_BY_THREADS = 40 };
+
+static void refuse(const struct command *command, const struct refusal *refusal, unsigned long *tried,
+                   unsigned long *bad) {
+    struct ending *ending = malloc(sizeof *ending);
+    unsigned long before = *tried, before_bad = *bad;
+    for (unsigned long at = 1;; at++) {
+        set_page(refusal->kind, at, refusal->lasts, refusal->error, refusal->chop);
+        run(command, ending);
+        bool met = atomic_load(&page->failed[page->kind]) || refusal->kind == NONE;
+        bool good = !ending->hangs && ending->status >= 0 && is_good(command, ending);
+        *tried += met;
+        *bad += !good;
+        if (!good && *bad - before_bad <= 3) show(command, refusal, at, ending);
+        if (!met || refusal->kind == NONE || (refusal->kind >= RECEIVE && at == ENOUGH_BY_THREADS)) break;
+    }
+    if (*tried > before)
+        printf("%-8s %-30s %6lu %6lu\n", command->name, refusal->name, *tried - before, *bad - before_bad);
+    fflush(stdout);
+    free(ending);
+}
+
+static void learn(struct command *command) {
+    struct ending *ending = calloc(1, sizeof *ending);
+    set_page(NONE, 0, false, 0, 0);
+    run(command, ending);
+    if (ending->hangs || ending->status != command->status ||
+        (command->runs && ending->arrived != SENT - 1)) {
+        printf("%s fails without a fault: status %d, %u came back\n%s%s", command->name, ending->status,
+               ending->arrived, ending->output, ending->errors);
+        exit(1);
+    }
+    strcpy(command->right, ending->output);
+    strcpy(command->errors, ending->errors);
+    free(ending);
+}
+
+/* Where a standard stream is closed from the beginning no socket may come into its place: datagrams would be
+   read as commands. */
+static void close_streams(const struct command *command, unsigned long *tried, unsigned long *bad) {
+    static struct ending ending;
+    unsigned long before = *bad;
+    for (closed = 0; closed < 3; closed++) {
+        set_page(NONE, 0, false, 0, 0);
+        run(command, &ending);
+        *tried += 1;
+        *bad += ending.hangs || ending.status < 0 || ending.status > 1 || atomic_load(&page->standard);
+    }
+    closed = -1;
+    printf("%-8s %-30s %6d %6lu\n", command->name, "standard streams, closed", 3, *bad - before);
+}
+
+static bool is_among(const char *name, char **words) {
+    for (; *words; words++)
+        if (!strcmp(*words, name)) return true;
+    return false;
+}
+
+static void open_page(void) {
+    int file = mkstemp(page_name);
+    if (file < 0 || ftruncate(file, sizeof *page)) stop("the page");
+    page = mmap(NULL, sizeof *page, PROT_READ | PROT_WRITE, MAP_SHARED, file, 0);
+    if (page == MAP_FAILED) stop("the page");
+    close(file);
+}
+
+int main(int count, char **words) {
+    static const uint8_t key[16] = {0x2b, 0x7e, 0x15, 0x16, 0x28, 0xae, 0xd2, 0xa6,
+                                    0xab, 0xf7, 0x15, 0x88, 0x09, 0xcf, 0x4f, 0x3c};
+    if (count < 7) {
+        fprintf(stderr, "usage: faults ROUTER LIBRARY CONFIG DATAGRAMS REPLAY RUN-CONFIG [COMMAND]..\n");
+        return 2;
+    }
+    router = words[1], library = words[2];
+    static struct command all[] = {{.name = "check"},  {.name = "route"},
+                                   {.name = "replay"}, {.name = "run", .runs = true},
+                                   {.name = "help"},   {.name = "refused", .status = 2}};
+    all[0].words = (const char *[]){"router", "check", "--config", words[3], NULL};
+    all[0].input = "/dev/null";
+    all[1].words =
+        (const char *[]){"router", "route", "--config", words[3], "--link", "1", "--now", "1694499816", NULL};
+    all[1].input = words[4];
+    all[2].words = (const char *[]){"router", "replay", "--config", words[3], NULL};
+    all[2].input = words[5];
+    all[3].words = (const char *[]){"router", "run", "--config", words[6], NULL};
+    all[4].words = (const char *[]){"router", "--help", NULL};
+    all[4].input = "/dev/null";
+    all[5].words =
+        (const char *[]){"router", "route", "--config", words[3], "--link", "65536", "--now", "1", NULL};
+    all[5].input = "/dev/null";
+    signal(SIGPIPE, SIG_IGN);
+    set_key(key);
+    open_page();
+    open_neighbours();
+    unsigned long tried = 0, bad = 0;
+    printf("%-39s %6s %6s\n", "", "tried", "failed");
+    for (size_t k = 0; k < sizeof all / sizeof *all; k++) {
+        if (count > 7 && !is_among(all[k].name, words + 7)) continue;
+        learn(&all[k]);
+        for (size_t j = 0; j < sizeof refusals / sizeof *refusals; j++)
+            refuse(&all[k], &refusals[j], &tried, &bad);
+        if (all[k].runs) close_streams(&all[k], &tried, &bad);
+    }
+    unlink(page_name);
+    printf("tried %lu, failed %lu\n", tried, bad);
+    return bad > 0;
+}

@@ -1,0 +1,46 @@
+/* What the driver tells the library that stands before the C library, and what it is told by it: a page of
+   memory that both share. */
+#ifndef PAGE_H
+#define PAGE_H
+
+#include <stdatomic.h>
+
+enum kind {
+    NONE,
+    GROWTH,
+    OPEN,
+    READ,
+    WRITE,
+    SEEK,
+    CLOSE,
+    SOCKET,
+    BIND,
+    OPTION,
+    CONTROL,
+    THREAD,
+    RECEIVE,
+    SEND,
+    POLL,
+    CLOCK,
+    KINDS
+};
+
+/* No error, but no byte is written either. */
+enum { NOTHING_WRITTEN = -1 };
+
+struct page {
+    enum kind kind;     /* which calls fail */
+    unsigned long at;   /* the first that fails, counted from 1 */
+    int lasts;          /* whether those after it fail too */
+    int error;          /* their errno */
+    unsigned long chop; /* how many bytes a read or a write takes at most; 0 for no limit */
+    atomic_ulong counts[KINDS];
+    atomic_ulong failed[KINDS];
+    atomic_ulong received, sent; /* how many receives and sends succeeded */
+    atomic_ulong standard;       /* how many sockets got the descriptor of a standard stream */
+    atomic_int descriptor;       /* of the last read, write, receive or send that failed */
+};
+
+#define PAGE_VARIABLE "FAULTS_PAGE"
+
+#endif

@@ -1,0 +1,568 @@
+/* Runs the router over loopback and floods it for a while, after a gentle beginning. Its neighbours are
+   sockets of this program: some are read, one is not, one is closed in mid-run; links are closed by commands;
+   and by times the system refuses the router's sends, receives and polls. In the end the router's report has
+   to account for every datagram that the system gave it. */
+#define _GNU_SOURCE
+#include "../datagrams.h"
+#include "../faults/page.h"
+
+#include <arpa/inet.h>
+#include <errno.h>
+#include <fcntl.h>
+#include <netinet/in.h>
+#include <poll.h>
+#include <pthread.h>
+#include <signal.h>
+#include <stdarg.h>
+#include <stdio.h>
+#include <stdlib.h>
+#include <string.h>
+#include <sys/mman.h>
+#include <sys/socket.h>
+#include <sys/wait.h>
+#include <time.h>
+#include <unistd.h>
+
+/* Neighbours 1 to 6 are those of the links. */
+enum { HOST = 0, SLOW = 5, DYING = 6, SIBLING, STRANGER, NEIGHBOURS };
+enum { ROUTER = 43100, LINKS = 7, SENDERS = 3, FLOWS = 256, GENTLE = 4000, WINDOW = 32, PATIENCE = 10000 };
+
+static const int ports[NEIGHBOURS] = {43141, 43111, 43112, 43113, 43114, 43115, 43116, 43120, 43130};
+static int sockets[NEIGHBOURS];
+static atomic_bool dead, paused, over;
+static char page_name[] = "/tmp/soak-page-XXXXXX";
+static struct page *page;
+static atomic_int failures;
+
+static void stop(const char *why) {
+    perror(why);
+    exit(2);
+}
+
+static void fail(const char *format, ...) {
+    va_list rest;
+    if (atomic_fetch_add(&failures, 1) > 20) return;
+    va_start(rest, format);
+    printf("FAILED: ");
+    vprintf(format, rest);
+    putchar('\n');
+    va_end(rest);
+}
+
+static long now(void) {
+    struct timespec at;
+    clock_gettime(CLOCK_MONOTONIC, &at);
+    return at.tv_sec * 1000 + at.tv_nsec / 1000000;
+}
+
+static struct sockaddr_in loopback(int port) {
+    return (struct sockaddr_in){
+        .sin_family = AF_INET, .sin_port = htons((uint16_t)port), .sin_addr.s_addr = htonl(INADDR_LOOPBACK)};
+}
+
+static void open_sockets(void) {
+    for (int k = 0; k < NEIGHBOURS; k++) {
+        struct sockaddr_in at = loopback(ports[k]);
+        int wide = 1 << 22;
+        sockets[k] = socket(AF_INET, SOCK_DGRAM | SOCK_CLOEXEC | SOCK_NONBLOCK, 0);
+        if (sockets[k] < 0 || bind(sockets[k], (struct sockaddr *)&at, sizeof at))
+            stop("a neighbour's socket");
+        setsockopt(sockets[k], SOL_SOCKET, SO_RCVBUF, &wide, sizeof wide);
+    }
+}
+
+/* ---- packets that the router forwards ---- */
+
+/* A way through the router: from a neighbour to another one. What stays within the AS leaves as it came. */
+struct way {
+    int from, to;
+    bool along;
+    unsigned hop;
+    uint16_t ingress, egress;
+    uint64_t source, destination;
+    bool unchanged;
+};
+
+static const struct way ways[] = {
+    {1, 2, true, 1, 1, 2, FIRST_AS, LAST_AS, false},
+    {2, 1, false, 1, 1, 2, LAST_AS, FIRST_AS, false},
+    {3, 4, true, 1, 3, 4, FIRST_AS, LAST_AS, false},
+    {4, 3, true, 1, 4, 3, LAST_AS, FIRST_AS, false},
+    {1, DYING, true, 1, 1, 6, FIRST_AS, LAST_AS, false},
+    {DYING, 1, true, 1, 6, 1, LAST_AS, FIRST_AS, false},
+    {HOST, 1, true, 0, 0, 1, LOCAL_AS, FIRST_AS, false},
+    {HOST, 2, true, 0, 0, 2, LOCAL_AS, LAST_AS, false},
+    {1, HOST, true, 2, 1, 0, FIRST_AS, LOCAL_AS, true},
+    {4, HOST, true, 2, 4, 0, LAST_AS, LOCAL_AS, true},
+    {1, SIBLING, true, 1, 1, 9, FIRST_AS, LAST_AS, true},
+    {SIBLING, 1, true, 1, 9, 1, LAST_AS, FIRST_AS, false},
+    {1, SLOW, true, 1, 1, 5, FIRST_AS, LAST_AS, false},
+    {SLOW, 1, true, 1, 5, 1, LAST_AS, FIRST_AS, false},
+};
+enum { WAYS = sizeof ways / sizeof *ways, READ_WAYS = WAYS - 2 };
+
+/* The headers of each way's packets, as they arrive and as they leave, but for class, flow and length. */
+static uint8_t heads[WAYS][2][HEADER];
+static uint32_t began;
+
+static struct datagram on(const struct way *way) {
+    return (struct datagram){.destination = way->destination,
+                             .source = way->source,
+                             .destination_host = INADDR_LOOPBACK,
+                             .source_host = 0x0a010005,
+                             .next_header = UDP,
+                             .along = way->along,
+                             .hop = way->hop,
+                             .ingress = way->ingress,
+                             .egress = way->egress,
+                             .identifier = 0x1234,
+                             .timestamp = began,
+                             .expiry = 63};
+}
+
+static void make_heads(void) {
+    for (int k = 0; k < WAYS; k++) {
+        struct datagram of = on(&ways[k]);
+        arriving(&of, NULL, 0, heads[k][0]);
+        memcpy(heads[k][1], heads[k][0], HEADER);
+        if (!ways[k].unchanged) leaving(&of, heads[k][1]);
+    }
+}
+
+/* What a packet carries, so that it tells what it has to be. */
+struct mark {
+    uint32_t way, sender, flow, length;
+    uint64_t number;
+};
+
+/* A quarter of the flows asks for expedited forwarding. Flows of all senders and ways are different ones. */
+static size_t packet(const struct mark *mark, bool leaves, uint8_t *bytes) {
+    uint32_t class = mark->flow % 4 ? 0 : 46 << 2;
+    uint32_t first = class << 20 | mark->way << 16 | mark->sender << 12 | mark->flow;
+    memcpy(bytes, heads[mark->way][leaves], HEADER);
+    for (int k = 0; k < 4; k++) bytes[k] = (uint8_t)(first >> (24 - 8 * k));
+    bytes[6] = (uint8_t)(mark->length >> 8), bytes[7] = (uint8_t)mark->length;
+    memcpy(bytes + HEADER, mark, sizeof *mark);
+    memset(bytes + HEADER + sizeof *mark, (int)(mark->number % 251), mark->length - sizeof *mark);
+    return HEADER + mark->length;
+}
+
+/* ---- neighbours that read ---- */
+
+static atomic_ulong arrived[NEIGHBOURS], packets, answers, replies;
+static uint64_t last[WAYS][SENDERS + 1][FLOWS];
+
+/* A packet has to be what its way makes of it, and come after those of its flow that were sent before it. */
+static void look(int at, const uint8_t *bytes, size_t length) {
+    static const uint8_t local[8] = {0, 1, 0xff, 0, 0, 0, 1, 0x10}; /* LOCAL_AS */
+    static uint8_t wanted[1 << 16];
+    struct mark mark;
+    if (length > HEADER && bytes[4] == SCMP && !memcmp(bytes + 20, local, 8)) {
+        if (bytes[HEADER] == 131) atomic_fetch_add(&replies, 1);
+        atomic_fetch_add(&answers, 1);
+        return;
+    }
+    if (length < HEADER + sizeof mark) return fail("%zu bytes arrive at %d", length, at);
+    memcpy(&mark, bytes + HEADER, sizeof mark);
+    bool known =
+        mark.way < WAYS && mark.sender <= SENDERS && mark.flow < FLOWS && mark.length == length - HEADER;
+    if (!known || ways[mark.way].to != at) return fail("a packet that nobody sent there arrives at %d", at);
+    if (packet(&mark, true, wanted) != length || memcmp(wanted, bytes, length))
+        return fail("packet %lu of way %u arrives with other bytes", (unsigned long)mark.number, mark.way);
+    uint64_t *before = &last[mark.way][mark.sender][mark.flow];
+    if (mark.number <= *before)
+        fail("packet %lu of a flow of way %u arrives after %lu", (unsigned long)mark.number, mark.way,
+             (unsigned long)*before);
+    *before = mark.number;
+    atomic_fetch_add(&packets, 1);
+}
+
+static void *read_all(void *none) {
+    static uint8_t bytes[1 << 16];
+    struct pollfd asked[NEIGHBOURS];
+    while (!atomic_load(&over)) {
+        for (int k = 0; k < NEIGHBOURS; k++) {
+            bool reads = k != SLOW && !(k == DYING && atomic_load(&dead));
+            asked[k] = (struct pollfd){.fd = reads ? sockets[k] : -1, .events = POLLIN};
+        }
+        if (poll(asked, NEIGHBOURS, 50) < 0) stop("poll");
+        for (int k = 0; k < NEIGHBOURS; k++) {
+            ssize_t count;
+            if (asked[k].fd < 0 || !asked[k].revents) continue;
+            for (int turns = 0; turns < 64 && (count = recv(sockets[k], bytes, sizeof bytes, 0)) >= 0;
+                 turns++) {
+                atomic_fetch_add(&arrived[k], 1);
+                look(k, bytes, (size_t)count);
+            }
+        }
+    }
+    return none;
+}
+
+/* ---- senders ---- */
+
+static atomic_ulong offered;
+
+static bool offer(int from, int link, const uint8_t *bytes, size_t length) {
+    struct sockaddr_in at = loopback(ROUTER + link);
+    if (from == DYING && atomic_load(&dead)) return false;
+    if (sendto(sockets[from], bytes, length, 0, (struct sockaddr *)&at, sizeof at) < 0) {
+        if (errno != EAGAIN && errno != ENOBUFS && errno != ECONNREFUSED) stop("sendto");
+        return false;
+    }
+    atomic_fetch_add(&offered, 1);
+    return true;
+}
+
+/* The router's link by which a neighbour's datagrams come. */
+static int link_of(int from) { return from == SIBLING ? HOST : from == STRANGER ? 1 : from; }
+
+static uint64_t draw(uint64_t *state) {
+    *state ^= *state << 13, *state ^= *state >> 7, *state ^= *state << 17;
+    return *state >> 11;
+}
+
+/* A datagram that the router can't forward, made of a packet with room for the longest. */
+static size_t spoil(uint64_t *state, const struct way *way, uint8_t *bytes, size_t length, int *from) {
+    static const size_t lengths[] = {0, 1, 9217, LONGEST};
+    struct datagram of = on(way);
+    uint8_t request[REQUEST];
+    switch (draw(state) % 9) {
+    case 0: return lengths[draw(state) % 4];
+    case 1: return draw(state) % length;
+    case 2: bytes[HEADER - 1 - 12 * (2 - way->hop)] ^= 1; return length; /* the MAC's last byte */
+    case 3: bytes[44] ^= 0x10; return length;                            /* the segment's timestamp */
+    case 4: bytes[7] ^= 1; return length;                                /* the payload's length */
+    case 5: *from = STRANGER; return length;
+    case 6:
+        for (size_t k = 0; k < length; k++) bytes[k] = (uint8_t)draw(state);
+        return length;
+    case 7: /* to a link that nobody has; what is delivered leaves by none */
+        if (way->destination == LOCAL_AS) return 1;
+        *(of.along ? &of.egress : &of.ingress) = 77;
+        return arriving(&of, (const uint8_t *)"nowhere", 7, bytes);
+    default:
+        of.next_header = SCMP, of.alerts = 3;
+        return arriving(&of, request, trace_request(1, 2, request), bytes);
+    }
+}
+
+/* The payload's length: mostly short, now and then the longest that the router takes. */
+static uint32_t some_length(uint64_t *state) {
+    uint64_t drawn = draw(state);
+    return drawn % 64 ? (uint32_t)(sizeof(struct mark) + drawn / 64 % 1300) : 9216 - HEADER;
+}
+
+static void *flood(void *word) {
+    uint32_t sender = (uint32_t)(uintptr_t)word;
+    uint64_t state = 88172645463325252u + sender, number = 0;
+    uint8_t *bytes = calloc(1, 1 << 16);
+    while (!atomic_load(&over)) {
+        if (atomic_load(&paused) || draw(&state) % 2000 == 0) usleep(1000);
+        if (atomic_load(&paused)) continue;
+        struct mark mark = {.way = (uint32_t)(draw(&state) % WAYS), .sender = sender, .number = ++number};
+        mark.flow = (uint32_t)(draw(&state) % FLOWS);
+        mark.length = some_length(&state);
+        const struct way *way = &ways[mark.way];
+        int from = way->from;
+        size_t length = packet(&mark, false, bytes);
+        if (draw(&state) % 3 == 0) length = spoil(&state, way, bytes, length, &from);
+        offer(from, from == STRANGER ? link_of(way->from) : link_of(from), bytes, length);
+    }
+    free(bytes);
+    return NULL;
+}
+
+/* Waits until so many packets and answers came, while some still do. */
+static bool came(unsigned long wanted) {
+    unsigned long before = 0, count;
+    for (long since = now(); (count = atomic_load(&packets) + atomic_load(&answers)) < wanted; usleep(100)) {
+        if (count != before) since = now();
+        before = count;
+        if (now() - since > PATIENCE / 2) return false;
+    }
+    return true;
+}
+
+/* One at a time first, now and then after a rest, so that each finds the router's workers asleep, and then a
+   few at once, for which no buffer and no queue is short of room: each packet has to arrive, and each request
+   to be answered. */
+static void begin_gently(void) {
+    static uint8_t bytes[1 << 16];
+    uint8_t request[REQUEST];
+    uint64_t state = 42;
+    unsigned long sent = 0, asked = 0;
+    while (sent + asked < GENTLE) {
+        unsigned long window = sent + asked < GENTLE / 2 ? 1 : WINDOW;
+        if (sent + asked >= window && !came(sent + asked + 1 - window)) break;
+        struct mark mark = {.way = (uint32_t)(sent % READ_WAYS),
+                            .sender = SENDERS,
+                            .flow = (uint32_t)(draw(&state) % FLOWS),
+                            .length = some_length(&state),
+                            .number = sent + 1};
+        const struct way *way = &ways[mark.way];
+        if (!offer(way->from, link_of(way->from), bytes, packet(&mark, false, bytes)))
+            stop("the gentle beginning");
+        sent++;
+        if (sent % 16 == 0) {
+            struct datagram of = on(&ways[0]);
+            of.next_header = SCMP, of.alerts = 2;
+            offer(1, 1, bytes, arriving(&of, request, trace_request(3, (uint16_t)asked, request), bytes));
+            asked++;
+        }
+        usleep(draw(&state) % 64 ? 100 : 5000);
+    }
+    came(sent + asked);
+    printf("gentle: %lu of %lu packets arrived, %lu of %lu traceroutes were answered\n",
+           atomic_load(&packets), sent, atomic_load(&replies), asked);
+    if (atomic_load(&packets) != sent || atomic_load(&replies) != asked || atomic_load(&answers) != asked)
+        fail("the gentle beginning");
+}
+
+/* ---- the router ---- */
+
+static pid_t child;
+static int in, out;
+static char text[1 << 14];
+static size_t held;
+
+static void start(char **words) {
+    int input[2], output[2];
+    if (pipe2(input, O_CLOEXEC) || pipe2(output, O_CLOEXEC)) stop("pipe");
+    child = fork();
+    if (child < 0) stop("fork");
+    if (!child) {
+        dup2(input[0], 0), dup2(output[1], 1), dup2(output[1], 2);
+        setenv("LD_PRELOAD", words[2], 1);
+        setenv(PAGE_VARIABLE, page_name, 1);
+        execl(words[1], "router", "run", "--config", words[3], (char *)NULL);
+        _exit(127);
+    }
+    close(input[0]), close(output[1]);
+    in = input[1], out = output[0];
+}
+
+/* Waits for more of what the router writes; false at its end, or where nothing comes. */
+static bool more(void) {
+    struct pollfd asked = {.fd = out, .events = POLLIN};
+    if (poll(&asked, 1, PATIENCE) != 1) return false;
+    ssize_t count = read(out, text + held, sizeof text - 1 - held);
+    if (count <= 0) return false;
+    held += (size_t)count;
+    text[held] = 0;
+    return true;
+}
+
+/* The next line that the router writes, or an empty one. */
+static const char *line(void) {
+    static char taken[256];
+    char *end;
+    while (!(end = strchr(text, '\n')))
+        if (!more()) return "";
+    snprintf(taken, sizeof taken, "%.*s", (int)(end - text), text);
+    held -= (size_t)(end + 1 - text);
+    memmove(text, end + 1, held + 1);
+    return taken;
+}
+
+static void expect(const char *wanted) {
+    const char *got = line();
+    if (strcmp(got, wanted)) fail("the router says '%s' in place of '%s'", got, wanted);
+}
+
+static void command(const char *words) {
+    if (dprintf(in, "%s\n", words) < 0) stop("a command");
+}
+
+static void close_link(int link) {
+    char word[32], closed[32], full[32], already[32];
+    snprintf(word, sizeof word, "close %d", link), snprintf(closed, sizeof closed, "closed %d", link);
+    snprintf(full, sizeof full, "full %d", link), snprintf(already, sizeof already, "already %d", link);
+    for (long until = now() + PATIENCE;;) {
+        command(word);
+        const char *said = line();
+        if (!strcmp(said, closed)) break;
+        if (strcmp(said, full) || now() > until) return fail("the router says '%s' to '%s'", said, word);
+        usleep(1000);
+    }
+    command(word);
+    expect(already);
+}
+
+static long resident(void) {
+    char name[64], row[256];
+    long kilobytes = 0;
+    snprintf(name, sizeof name, "/proc/%d/status", child);
+    FILE *file = fopen(name, "r");
+    while (file && fgets(row, sizeof row, file)) sscanf(row, "VmRSS: %ld", &kilobytes);
+    if (file) fclose(file);
+    return kilobytes;
+}
+
+/* By times the system refuses the router's sends, its receives or its polls, for 20 milliseconds. */
+static void refuse_a_while(int turn) {
+    static const enum kind kinds[] = {SEND, RECEIVE, POLL};
+    static const int errors[] = {ENOBUFS, ECONNREFUSED, ENOMEM};
+    page->error = errors[turn % 3];
+    page->kind = kinds[turn % 3];
+    usleep(20000);
+    page->kind = NONE;
+}
+
+/* How much arrived from a link that was closed, once what it still sent is there. */
+static unsigned long behind_closing(int link) {
+    unsigned long before, count = atomic_load(&arrived[link]);
+    long until = now() + PATIENCE;
+    do {
+        before = count;
+        usleep(500000);
+        count = atomic_load(&arrived[link]);
+    } while (count != before && now() < until);
+    return count;
+}
+
+/* Floods the router for so many milliseconds. */
+static void flood_for(long millis) {
+    unsigned long behind[2] = {0, 0};
+    static const int closing[2] = {2, 4};
+    long start = now(), at;
+    int done = 0;
+    for (int turn = 0; (at = now() - start) < millis || done < 3; turn++) {
+        if (done == 0 && at > millis / 4) {
+            atomic_store(&dead, true);
+            usleep(100000);
+            close(sockets[DYING]);
+            done++;
+        }
+        for (int k = 0; k < 2; k++) {
+            if (done != k + 1 || at < (k + 2) * millis / 4) continue;
+            close_link(closing[k]);
+            behind[k] = behind_closing(closing[k]);
+            done++;
+        }
+        command("no word");
+        expect("no command");
+        refuse_a_while(turn);
+        usleep(200000);
+        if (turn % 8 == 7) {
+            atomic_store(&paused, true);
+            usleep(300000);
+            atomic_store(&paused, false);
+        }
+    }
+    for (int k = 0; k < 2; k++)
+        if (atomic_load(&arrived[closing[k]]) != behind[k])
+            fail("link %d sends after it was closed", closing[k]);
+}
+
+/* ---- the report ---- */
+
+struct report {
+    unsigned long links, received, sent, answered, dropped[19], lost;
+};
+
+static void read_report(struct report *report) {
+    const char *row;
+    while (*(row = line())) {
+        unsigned long number, count;
+        if (sscanf(row, "link %lu sent %lu", &number, &count) == 2) {
+            report->links += count;
+            if (number < LINKS && number != HOST && atomic_load(&arrived[number]) > count)
+                fail("more arrived from link %lu than it sent", number);
+        } else if (sscanf(row, "dropped %lu %lu", &number, &count) == 2 && number < 19) {
+            report->dropped[number] = count;
+            report->lost += count;
+        } else if (sscanf(row, "received %lu", &report->received) + sscanf(row, "sent %lu", &report->sent) +
+                       sscanf(row, "answered %lu", &report->answered) !=
+                   1) {
+            fail("the report has the line '%s'", row);
+        }
+        printf("    %s\n", row);
+    }
+}
+
+static void judge(const struct report *report) {
+    unsigned long received = atomic_load(&page->received), sent = atomic_load(&page->sent);
+    if (report->received != report->sent + report->answered + report->lost)
+        fail("received isn't sent, answered and dropped");
+    if (report->received != received) fail("the system gave %lu datagrams", received);
+    if (report->links != report->sent + report->answered) fail("the links sent %lu", report->links);
+    if (report->links != sent) fail("the system took %lu datagrams", sent);
+    if (report->received > atomic_load(&offered)) fail("more was received than was sent to it");
+    if (report->dropped[17] < atomic_load(&page->failed[SEND]))
+        fail("%lu sends failed", atomic_load(&page->failed[SEND]));
+    if (report->dropped[17] < 1) fail("no send failed, so this wasn't tried");
+    if (report->dropped[16] < 1) fail("nothing came to a closed link, so this wasn't tried");
+    if (atomic_load(&answers) > report->answered) fail("more answers arrived than were sent");
+}
+
+static void open_page(void) {
+    int file = mkstemp(page_name);
+    if (file < 0 || ftruncate(file, sizeof *page)) stop("the page");
+    page = mmap(NULL, sizeof *page, PROT_READ | PROT_WRITE, MAP_SHARED, file, 0);
+    if (page == MAP_FAILED) stop("the page");
+    close(file);
+    page->at = 1;
+    page->lasts = 1;
+}
+
+/* Ends the router while it is flooded, and a moment later the flood. */
+static void end(struct report *report) {
+    int status = 0;
+    command("end");
+    usleep(500000);
+    atomic_store(&paused, true);
+    read_report(report);
+    long until = now() + PATIENCE;
+    while (!waitpid(child, &status, WNOHANG)) {
+        if (now() > until) {
+            kill(child, SIGKILL);
+            return fail("the router doesn't end");
+        }
+        usleep(1000);
+    }
+    if (!WIFEXITED(status) || WEXITSTATUS(status)) fail("the router ends with status %d", status);
+}
+
+int main(int count, char **words) {
+    static const uint8_t key[16] = {0x2b, 0x7e, 0x15, 0x16, 0x28, 0xae, 0xd2, 0xa6,
+                                    0xab, 0xf7, 0x15, 0x88, 0x09, 0xcf, 0x4f, 0x3c};
+    if (count != 5) {
+        fprintf(stderr, "usage: soak ROUTER LIBRARY CONFIG SECONDS\n");
+        return 2;
+    }
+    pthread_t threads[SENDERS + 1];
+    struct report report = {0};
+    signal(SIGPIPE, SIG_IGN);
+    setvbuf(stdout, NULL, _IOLBF, 0);
+    set_key(key);
+    began = (uint32_t)time(NULL) - 60;
+    make_heads();
+    open_page();
+    open_sockets();
+    start(words);
+    expect("ready");
+    pthread_create(&threads[SENDERS], NULL, read_all, NULL);
+    begin_gently();
+    unsigned long growths = atomic_load(&page->counts[GROWTH]);
+    long before = resident();
+    for (uintptr_t k = 0; k < SENDERS; k++) pthread_create(&threads[k], NULL, flood, (void *)k);
+    flood_for(atol(words[4]) * 1000);
+    long after = resident();
+    growths = atomic_load(&page->counts[GROWTH]) - growths;
+    end(&report);
+    atomic_store(&over, true);
+    for (int k = 0; k <= SENDERS; k++) pthread_join(threads[k], NULL);
+    judge(&report);
+    printf("sent to it %lu, of which the system gave it %lu\n", atomic_load(&offered),
+           atomic_load(&page->received));
+    printf("arrived: %lu packets, each as it should and in order, and %lu answers\n", atomic_load(&packets),
+           atomic_load(&answers));
+    printf("the system refused %lu sends, %lu receives, %lu polls\n", atomic_load(&page->failed[SEND]),
+           atomic_load(&page->failed[RECEIVE]), atomic_load(&page->failed[POLL]));
+    printf("the flood made %lu growths, all for commands; resident before it %ld KiB, and %ld at its end\n",
+           growths, before, after);
+    unlink(page_name);
+    printf("failed %d\n", atomic_load(&failures));
+    return atomic_load(&failures) > 0;
+}
