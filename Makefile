@@ -25,6 +25,16 @@ try:
 demo: bin/router
 	bin/router $(ROUTE_FIRST) < examples/first-datagram.hex
 
+bin/path_probe: FORCE
+	cd crates/path_probe && $(RT) run -- --help
+	mkdir -p bin
+	cp crates/path_probe/out/path_probe bin/path_probe
+
+# Runs three ASes on loopback addresses of this machine, and carries a packet and a traceroute through them.
+.PHONY: try-net
+try-net: bin/router bin/path_probe
+	examples/three-ases/try.sh
+
 # The merge gate.
 test:
 	$(RT) ci
@@ -34,9 +44,17 @@ bench-decision:
 	cd crates/decision_bench && $(RT) lib
 	RT="$(RT)" bench/decision/run.sh
 
+# The program, its man page, the pages for operators, and a systemd unit, for packages under DESTDIR.
 install: bin/router
-	install -d $(DESTDIR)$(PREFIX)/bin
+	install -d $(DESTDIR)$(PREFIX)/bin $(DESTDIR)$(PREFIX)/share/man/man1
+	install -d $(DESTDIR)$(PREFIX)/share/doc/yewpleat $(DESTDIR)$(PREFIX)/lib/systemd/system
 	install -m 755 bin/router $(DESTDIR)$(PREFIX)/bin/router
+	install -m 644 packaging/router.1 $(DESTDIR)$(PREFIX)/share/man/man1/router.1
+	install -m 644 docs/OPERATING.md docs/CONFIGURATION.md docs/FORMATS.md docs/LIMITS.md \
+		examples/border-router.toml $(DESTDIR)$(PREFIX)/share/doc/yewpleat
+	sed 's|@BINDIR@|$(PREFIX)/bin|' packaging/yewpleat@.service.in \
+		> $(DESTDIR)$(PREFIX)/lib/systemd/system/yewpleat@.service
+	chmod 644 $(DESTDIR)$(PREFIX)/lib/systemd/system/yewpleat@.service
 
 clean:
 	rm -rf bin crates/*/out
@@ -49,3 +67,31 @@ FORCE:
 bench-joints:
 	cd crates/joints_bench && $(RT) run
 	bench/joints.sh
+
+.PHONY: bench-stages
+
+# Nanoseconds of a packet through three workers by turns, beside plain Rust; it needs rustc too.
+bench-stages:
+	cd crates/stages_bench && $(RT) run
+	bench/stages.sh
+
+.PHONY: bench-router
+
+# Datagrams a second, time and latency of the router over loopback, beside plain Rust and C; it needs rustc and cc too.
+bench-router: bin/router
+	bench/router.sh
+
+.PHONY: faults
+
+# Refuses each growth, read, write, send and more in turn, and gives bad input: each run has to end as documented.
+# It needs cc too.
+faults: bin/router
+	tests/faults/run.sh
+	tests/faults/input.sh
+
+MINUTES ?= 1
+.PHONY: soak
+
+# Floods the router over loopback for some minutes, and looks whether it accounts for all that it read; it needs cc too.
+soak: bin/router
+	MINUTES=$(MINUTES) tests/soak/run.sh
