@@ -1,13 +1,9 @@
-ghost use Rattle.std.specs.Prelude.{◌≡◌, None, true};
-ghost use Rattle.scion_packet.specs.Packet.{first_fault};
-
-use path_fields::check_path;
+use crate::sound::is_sound;
 use process_packet::{Arrival, Cause, Config, Ip, Problem, Underlay};
 use router_config::read_config;
 use sample_packets::{
     ANSWER, CONFIGURATION, FIRST, MAC_AT, OTHER_MAC, PATH_AT, PAYLOAD_AT, with_bytes,
 };
-use scion_header::check_header;
 use scmp_answer::{AnswerLen, Answered, answer, answer_into};
 use std::test::*;
 
@@ -30,19 +26,6 @@ const PAYLOAD_LENGTH: Problem = Problem {
     code: 19,
     pointer: 0,
 };
-
-/// Whether a datagram has no fault.
-fn is_sound(bytes: &[u8]) -> bool
-    ensures { result ≡ true → first_fault bytes.now ≡ None }
-{
-    let Ok(ends) = check_header(bytes) else {
-        return false;
-    };
-    match check_path(&bytes[ends.addresses..ends.header]) {
-        Ok(_) => true,
-        Err(_) => false,
-    }
-}
 
 /// Whether the buffer begins with the answer whose payload has this length: with this message and this
 /// quote.

@@ -6,3 +6,6 @@
 mod answers;
 #[cfg(test)]
 mod decision;
+mod sound;
+
+pub use sound::is_sound;

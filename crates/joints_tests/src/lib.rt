@@ -6,3 +6,6 @@
 mod ledger;
 #[cfg(test)]
 mod pipe;
+mod steps;
+
+pub use steps::{accepts, closes, gives};

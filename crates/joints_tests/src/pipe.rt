@@ -5,39 +5,13 @@ ghost use Rattle.ruled_pipe.specs.Pipe.{IsEndOf};
 ghost use Rattle.ruled_pipe.specs.Gathered.{IsSettled};
 ghost use Rattle.joints_tests.specs.Pipe.{IsExample};
 
+use crate::steps::{accepts, closes, gives};
 use ruled_pipe::{Consumer, Entry, Full, Gathered, Load, Mark, Pipe, Producer};
 use std::alloc::{AllocError, Global};
 use std::sync::Wait;
 use std::test::*;
 use std::thread;
 use std::thread::Threads;
-
-// Whether the offer was accepted. A refused one comes back.
-fn accepts<R: Wait>(rt: &R, producer: &mut Producer<u32>, item: u32) -> bool
-    ensures { MatchBool result (producer.new ≡ offered producer.old (entry producer.old.number (Load.Payload item))) (producer.new ≡ refused producer.old (entry producer.old.number (Load.Payload item))) }
-{
-    producer.offer(rt, item).is_ok()
-}
-
-fn closes<R: Wait>(rt: &R, producer: &mut Producer<u32>) -> bool
-    ensures { result ≡ true → producer.new ≡ offered producer.old (entry producer.old.number (Load.Marked Mark.Close)) }
-{
-    producer.mark(rt, Mark::Close).is_ok()
-}
-
-fn gives<R: Wait>(rt: &R, consumer: &mut Consumer<u32>, producer: usize, item: u32) -> bool
-    ensures { result ≡ true → consumer.new ≡ took consumer.old (entry producer (Load.Payload item)) }
-{
-    match consumer.take(rt) {
-        Some(
-            Entry {
-                from,
-                load: Load::Payload(x),
-            },
-        ) => from == producer && x == item,
-        _ => false,
-    }
-}
 
 fn gives_close<R: Wait>(rt: &R, consumer: &mut Consumer<u32>, producer: usize) -> bool
     ensures { result ≡ true → consumer.new ≡ took consumer.old (entry producer (Load.Marked Mark.Close)) }

@@ -1,5 +1,6 @@
 //! Values from outside: a hop field whose MAC was made by OpenSSL, and moments by hand.
 
+use crate::hops::hop_between;
 use cmac_core::Cmac;
 use hop_check::{beacon, chain, expired, mac_input, verify};
 use path_fields::{Hop, Info};
@@ -16,15 +17,7 @@ fn info() -> Info {
 }
 
 fn hop(expiry: u8, mac: [u8; 6]) -> Hop {
-    Hop {
-        reserved_flags: 0,
-        ingress_alert: false,
-        egress_alert: false,
-        expiry,
-        construction_ingress: 1,
-        construction_egress: 2,
-        mac,
-    }
+    hop_between(1, 2, expiry, mac)
 }
 
 #[test]
@@ -63,13 +56,6 @@ fn expires_behind_the_last_moment(rt: HostRuntime) {
     assert!(rt; !expired(&info(), &hop(0, [0; 6]), 0));
 }
 
-fn hop_between(ingress: u16, egress: u16) -> Hop {
-    let mut made = hop(0x3f, [0; 6]);
-    made.construction_ingress = ingress;
-    made.construction_egress = egress;
-    made
-}
-
 // The MACs of three ASes in a row, each with a key of its own, by OpenSSL.
 #[test]
 fn beacons_three_hops(rt: HostRuntime) {
@@ -80,7 +66,11 @@ fn beacons_three_hops(rt: HostRuntime) {
         Cmac::new(&KEY),
         Cmac::new(&last.to_be_bytes()),
     ];
-    let mut hops = [hop_between(0, 17), hop_between(1, 2), hop_between(18, 0)];
+    let mut hops = [
+        hop_between(0, 17, 0x3f, [0; 6]),
+        hop_between(1, 2, 0x3f, [0; 6]),
+        hop_between(18, 0, 0x3f, [0; 6]),
+    ];
     beacon(&keys, 0x1234, 1694498816, &mut hops);
     assert!(rt; hops[0].mac == [0x63, 0x49, 0xaa, 0x95, 0xd7, 0x7c]);
     assert!(rt; hops[1].mac == [0x61, 0x93, 0xb6, 0x54, 0x9f, 0x1e]);

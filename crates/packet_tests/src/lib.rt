@@ -15,7 +15,10 @@ mod flow;
 mod header;
 #[cfg(test)]
 mod hop;
+mod hops;
 #[cfg(test)]
 mod path;
 #[cfg(test)]
 mod segments;
+
+pub use hops::hop_between;

@@ -1,3 +1,4 @@
+use crate::hops::hop_between;
 use field_rows::array_at;
 use path_fields::{
     Hop, Info, Meta, NoRoom, PathEnd, PathFault, advance, check_path, lawful, read_hop, read_info,
@@ -11,16 +12,8 @@ fn one_segment() -> [u8; 48] {
     array_at::<48>(&FIRST, PATH_AT)
 }
 
-fn hop(construction_ingress: u16, construction_egress: u16, mac: [u8; 6]) -> Hop {
-    Hop {
-        reserved_flags: 0,
-        ingress_alert: false,
-        egress_alert: false,
-        expiry: 63,
-        construction_ingress,
-        construction_egress,
-        mac,
-    }
+fn hop(ingress: u16, egress: u16, mac: [u8; 6]) -> Hop {
+    hop_between(ingress, egress, 63, mac)
 }
 
 fn info() -> Info {

@@ -3,6 +3,8 @@
 //! steps of the pipeline, one a line; `router check --config FILE` tells whether a configuration is good.
 #![tactic(auto)]
 
+ghost use Rattle.std.specs.Prelude.{◌≡◌, IfErr};
+
 use command_words::{Order, WordsFault, read_words};
 use process_packet::{Config, Underlay};
 use router_config::{ConfigFault, fault_words, read_config};
@@ -48,14 +50,21 @@ fn told(alloc: Global, fault: ConfigFault, text: &str) -> Fault {
     }
 }
 
+/// What it means that the standard output was written to, or couldn't be.
+fn written(done: io::Result<()>) -> Result<(), Fault>
+    ensures { IfErr result (λ fault. fault ≡ Fault.Lines LinesFault.Output) }
+{
+    match done {
+        Ok(()) => Ok(()),
+        Err(_) => Err(Fault::Lines(LinesFault::Output)),
+    }
+}
+
 /// Tells whether the configuration in a file is good, and else where it isn't.
 fn check_config<R: Files + Print + AllocGlobal>(rt: &R, path: &str) -> Result<(), Fault> {
     let text = text_at(rt, path)?;
     match read_config(rt.alloc(), text.as_str()) {
-        Ok(_) => match println!(rt; "ok") {
-            Ok(()) => Ok(()),
-            Err(_) => Err(Fault::Lines(LinesFault::Output)),
-        },
+        Ok(_) => written(println!(rt; "ok")),
         Err(fault) => Err(told(rt.alloc(), fault, text.as_str())),
     }
 }

@@ -1,15 +1,15 @@
 //! Links that close while packets wait, and a router that ends while its pipes are full. Each packet and each
 //! order waits for its cue, so all runs are the same.
 
-ghost use Rattle.std.specs.Prelude.{◌<◌};
-
 use crate::cued::{CuedGate, CuedSink, CuedSource};
 use crate::cues::Cue::{High, Low};
 use crate::cues::{Cue, Order, Words};
-use crate::play::{Lead, ran, sent_by};
-use crate::routers::{CLOSED, FULL_PROCESSOR, NOTHING, router, two_band_router};
+use crate::play::{Lead, ran};
+use crate::reports::sent_by;
+use crate::routers::{router, two_band_router};
 use process_packet::{Config, Totals};
 use router_run::CloseFault;
+use sample_stages::{CLOSED, FULL_PROCESSOR, totals};
 use std::alloc::{AllocError, Global};
 use std::process::Abort;
 use std::rt::Clock;
@@ -68,16 +68,6 @@ where
     let totals = played.report.totals;
     let good = played.as_told && sent_by(&played.report, &[0, 0, totals.sent, 0]);
     Ok((totals, numbers, good))
-}
-
-fn totals(received: u128, sent: u128, cause: usize, count: u128) -> Totals
-    requires { cause < 18 }
-{
-    let mut totals = NOTHING;
-    totals.received = received;
-    totals.sent = sent;
-    totals.dropped[cause] = count;
-    totals
 }
 
 /// The sink holds packet 1, and 2 and 3 fill the link's pipe, when the closing mark is refused. Packet 4 is

@@ -6,9 +6,10 @@ ghost use Rattle.stage_parts.specs.Heard.{failures_of, fits, heard};
 ghost use Rattle.stage_parts.specs.Told.{telling};
 
 use crate::cues::{Cue, Words, comes};
-use crate::lists::{NEAR, URGENT};
+use crate::lists::URGENT;
 use router_rules::{Outgoing, Worker};
-use sample_packets::{FIRST, IN_TIME};
+use sample_packets::FIRST;
+use sample_stages::give;
 use stage_parts::{Gate, NextLen, Sink, SinkFault, Source};
 use std::alloc::Global;
 use std::rt::Clock;
@@ -16,22 +17,6 @@ use std::sync::Arc;
 use std::sync::atomic::Ordering;
 use std::thread;
 use std::time::Duration;
-
-/// Writes a datagram to the front of a buffer.
-pub fn give(datagram: &[u8; 92], buffer: &mut [u8]) -> NextLen
-    requires { length buffer.old ≡ 9217 }
-    ensures same { length buffer.new ≡ length buffer.old }
-    ensures gave { failures_of result ≡ 0 }
-    ensures fits { fits result }
-{
-    let (front, _) = buffer.split_at_mut(92);
-    front.copy_from_slice(datagram);
-    NextLen::Datagram {
-        len: 92,
-        from: NEAR,
-        now: IN_TIME,
-    }
-}
 
 /// Gives the first datagram, or the urgent one, once for each cue, and is quiet from then on.
 #[derive(Drop)]

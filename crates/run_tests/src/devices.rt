@@ -5,10 +5,10 @@ ghost use Rattle.stage_laws.specs.Forwards.{AddsTo};
 ghost use Rattle.stage_parts.specs.Heard.{failures_of, fits, heard};
 ghost use Rattle.stage_parts.specs.Told.{telling};
 
-use crate::cued::give;
 use crate::cues::Words;
 use router_rules::Outgoing;
 use sample_packets::FIRST;
+use sample_stages::give;
 use stage_parts::{NextLen, Sink, SinkFault, Source};
 use std::alloc::Global;
 use std::sync::Arc;

@@ -1,32 +1,19 @@
 //! Two processors that meet, and gates.
 
 use crate::cues::comes;
-use crate::lists::{NEAR, datagram, four_sources, list_sinks};
-use crate::play::{ran, sent_by};
-use crate::routers::{NOTHING, router};
+use crate::lists::{four_sources, list_sinks};
+use crate::play::ran;
+use crate::reports::sent_by;
+use crate::routers::router;
 use router_rules::Worker;
-use sample_packets::{FIRST, with_bytes};
+use sample_packets::{FIRST, IN_TIME, with_bytes};
+use sample_stages::{NEAR, NOTHING, datagram};
 use stage_parts::Gate;
 use std::alloc::{AllocError, Global};
 use std::rt::Clock;
 use std::sync::Arc;
 use std::sync::atomic::{AtomicU64, Ordering};
 use std::test::*;
-
-/// Admits all.
-#[derive(Drop)]
-pub struct Open;
-
-impl Gate for Open {
-    ghost use Rattle.std.specs.Prelude.{◌≡◌, true};
-
-    ghost answers = { λ g worker link number admitted. admitted ≡ true };
-
-    fn admits(&self, worker: Worker, link: u16, number: u64) -> bool {
-        let _ = (worker, link, number);
-        true
-    }
-}
 
 /// What two processors tell each other: that one asked, and how many saw that the other did.
 #[derive(Drop)]
@@ -75,8 +62,8 @@ fn gate_two_processors(rt: HostRuntime) -> Result<(), Fail> {
     let alloc = rt.alloc();
     let other = with_bytes(FIRST, 3, &[2]);
     let mut answers = Vec::new(alloc);
-    answers.push(datagram(alloc, &FIRST, NEAR)?)?;
-    answers.push(datagram(alloc, &other, NEAR)?)?;
+    answers.push(datagram(alloc, &FIRST, NEAR, IN_TIME)?)?;
+    answers.push(datagram(alloc, &other, NEAR, IN_TIME)?)?;
     let sources = four_sources(alloc, answers)?;
     let sinks = list_sinks(alloc, 4, 0)?;
     let meeting = new_meeting(alloc)?;

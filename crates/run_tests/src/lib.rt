@@ -21,5 +21,8 @@ mod memory;
 mod play;
 #[cfg(test)]
 mod pool;
+mod reports;
 #[cfg(test)]
 mod routers;
+
+pub use reports::sent_by;

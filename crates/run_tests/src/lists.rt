@@ -1,19 +1,11 @@
-//! Datagrams, and lists that are given and kept.
+//! An urgent datagram, and devices over lists.
 
 ghost use Rattle.std.specs.Prelude.{◌≡◌, IfOk};
 ghost use Rattle.pipe_order.specs.Deeds.{Each};
 ghost use Rattle.router_laws.specs.Heard.{ToldNothing};
 
-use process_packet::{Ip, Underlay};
-use sample_packets::{FIRST, IN_TIME};
 use stage_parts::{ListSink, ListSource, Next};
 use std::alloc::{AllocError, Global};
-
-/// The other end of link 1.
-pub const NEAR: Underlay = Underlay {
-    ip: Ip::V4([10, 1, 0, 2]),
-    port: 40000,
-};
 
 /// The first datagram, with the traffic class of what is urgent.
 pub const URGENT: [u8; 92] = *b"\x0b\x80\x00\x01\x11\x15\x00\x08\x01\x00\x00\x00\
@@ -23,25 +15,6 @@ pub const URGENT: [u8; 92] = *b"\x0b\x80\x00\x01\x11\x15\x00\x08\x01\x00\x00\x00
     \x00\x3f\x00\x01\x00\x02\x0e\x66\xd2\x97\x45\x36\
     \x00\x3f\x00\x12\x00\x00\xb0\xb1\xb2\xb3\xb4\xb5\
     \x75\x59\x75\x59\x00\x08\x00\x00";
-
-/// A datagram from an underlay address.
-pub fn datagram(alloc: Global, bytes: &[u8], from: Underlay) -> Result<Next, AllocError> {
-    let bytes = Vec::from_slice(alloc, bytes)?;
-    Ok(Next::Datagram {
-        bytes,
-        from,
-        now: IN_TIME,
-    })
-}
-
-/// The first datagram, so often.
-pub fn firsts(alloc: Global, count: usize) -> Result<Vec<Next>, AllocError> {
-    let mut answers = Vec::new(alloc);
-    for _ in 0..count {
-        answers.push(datagram(alloc, &FIRST, NEAR)?)?;
-    }
-    Ok(answers)
-}
 
 /// Sources that give the answers of a list each.
 pub fn list_sources(alloc: Global, lists: Vec<Vec<Next>>) -> Result<Vec<ListSource>, AllocError>

@@ -2,15 +2,16 @@
 
 ghost use Rattle.std.specs.Prelude.{◌≡◌, ◌<◌, length};
 
-use crate::gates::Open;
-use crate::lists::{datagram, list_sinks, list_sources};
-use crate::play::{ran, sent_by};
-use crate::routers::{FULL_LINK, FULL_PROCESSOR, NO_BUFFER, NOTHING, wide_router};
+use crate::lists::{list_sinks, list_sources};
+use crate::play::ran;
+use crate::reports::sent_by;
+use crate::routers::wide_router;
 use cmac_core::Cmac;
 use hop_check::beacon;
 use path_fields::Hop;
 use process_packet::{Ip, Totals, Underlay};
-use sample_packets::{FIRST, KEY, MAC_AT, PATH_AT, with_bytes};
+use sample_packets::{FIRST, IN_TIME, KEY, MAC_AT, PATH_AT, with_bytes};
+use sample_stages::{FULL_LINK, FULL_PROCESSOR, NO_BUFFER, NOTHING, Open, datagram};
 use stage_parts::{Next, Sent};
 use std::alloc::{AllocError, Global};
 use std::test::*;
@@ -76,7 +77,7 @@ fn datagrams_by(alloc: Global, link: u8) -> Result<Vec<Next>, AllocError> {
     for k in 0..DATAGRAMS {
         let flow = ((k + 1) % FLOWS) as u8;
         let bytes = with_bytes(first, 3, &[flow]);
-        answers.push(datagram(alloc, &bytes, from)?)?;
+        answers.push(datagram(alloc, &bytes, from, IN_TIME)?)?;
     }
     Ok(answers)
 }

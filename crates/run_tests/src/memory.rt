@@ -1,11 +1,12 @@
 //! Runs over lists: what a router without datagrams, one with a single one, and failing devices come to.
 
 use crate::devices::Failing;
-use crate::gates::Open;
-use crate::lists::{NEAR, datagram, firsts, four_sources, list_sinks};
-use crate::play::{ran, sent_by};
-use crate::routers::{NOTHING, SEND_FAILED, router};
-use sample_packets::{FIRST, PATH_AT, with_bytes};
+use crate::lists::{four_sources, list_sinks};
+use crate::play::ran;
+use crate::reports::sent_by;
+use crate::routers::router;
+use sample_packets::{FIRST, IN_TIME, PATH_AT, with_bytes};
+use sample_stages::{NEAR, NOTHING, Open, SEND_FAILED, datagram, firsts};
 use stage_parts::{Next, Sent, Sink, Source};
 use std::alloc::{AllocError, Global};
 use std::test::*;
@@ -74,8 +75,8 @@ fn sources_that_always_fail_give_nothing(rt: HostRuntime) -> Result<(), Fail> {
 // Two datagrams, and a failure.
 fn before_a_failure(alloc: Global) -> Result<Vec<Next>, AllocError> {
     let mut answers = Vec::new(alloc);
-    answers.push(datagram(alloc, &FIRST, NEAR)?)?;
-    answers.push(datagram(alloc, &FIRST, NEAR)?)?;
+    answers.push(datagram(alloc, &FIRST, NEAR, IN_TIME)?)?;
+    answers.push(datagram(alloc, &FIRST, NEAR, IN_TIME)?)?;
     answers.push(Next::Failed)?;
     Ok(answers)
 }

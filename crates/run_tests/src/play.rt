@@ -175,10 +175,3 @@ where
     let played = run(rt, config, sources, sinks, gate, lead).ok();
     played.expect(&rt, "a router that starts")
 }
-
-/// Whether these are the counts of what each link's sink took, and each link has its devices back.
-pub fn sent_by<S, K>(report: &Report<S, K>, counts: &[u128]) -> bool {
-    report.sent.as_slice() == counts
-        && report.sources.len() == counts.len()
-        && report.sinks.len() == counts.len()
-}

@@ -2,11 +2,12 @@
 
 use crate::cues::{Order, Words};
 use crate::devices::{Counting, Paced};
-use crate::gates::Open;
-use crate::play::{Lead, Played, ran, run, sent_by};
-use crate::routers::{NOTHING, router};
+use crate::play::{Lead, Played, ran, run};
+use crate::reports::sent_by;
+use crate::routers::router;
 use process_packet::Totals;
 use router_run::StartFault;
+use sample_stages::{NOTHING, Open};
 use std::alloc::{AllocError, Global};
 use std::sync::Arc;
 use std::test::*;

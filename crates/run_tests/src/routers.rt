@@ -1,27 +1,10 @@
-//! The routers that run here, and what they count.
+//! The routers that run here.
 
-use process_packet::{Config, Totals};
+use process_packet::Config;
 use router_config::read_config;
 use sample_packets::CONFIGURATION;
+use sample_stages::TWO_BANDS;
 use std::process::Abort;
-
-pub const NOTHING: Totals = Totals {
-    received: 0,
-    sent: 0,
-    answered: 0,
-    dropped: [0; 18],
-};
-
-/// The places of causes among what was dropped.
-pub const FULL_PROCESSOR: usize = 11;
-
-pub const FULL_LINK: usize = 12;
-
-pub const CLOSED: usize = 15;
-
-pub const SEND_FAILED: usize = 16;
-
-pub const NO_BUFFER: usize = 17;
 
 // The configuration of a text in which each `from` is replaced.
 fn with<R: AllocGlobal + Abort>(rt: &R, text: &str, from: &str, to: &str) -> String {
@@ -38,15 +21,6 @@ pub fn router<R: AllocGlobal + Abort>(rt: &R, processors: u8, capacity: u32) -> 
 }
 
 /// A router like it, of three links, whose link 2 has two bands.
-const TWO_BANDS: &str =
-    "version = 2\nisd_as = \"1-ff00:0:110\"\nkey = \"2b7e151628aed2a6abf7158809cf4f3c\"\n\
-    internal = \"10.0.0.1:30000\"\ninternal_bands = 1\nhost_port = 30041\nprocessors = 1\ncapacity = 4\nseed = 0\nlink = [\n\
-    {id=1, kind=\"parent\", local=\"10.1.0.1:40000\", remote=\"10.1.0.2:40000\", bands=1},\n\
-    {id=2, kind=\"child\", local=\"10.2.0.1:40000\", remote=\"10.2.0.2:40000\", bands=2},\n\
-    {id=3, kind=\"core\", local=\"10.3.0.1:40000\", remote=\"10.3.0.2:40000\", bands=1}]\n\
-    sibling = []\nservice = []\n";
-
-/// The same, whose link 2 has two bands.
 pub fn two_band_router<R: AllocGlobal + Abort>(rt: &R, capacity: u32) -> Config {
     let capacity = format!(in rt.alloc(); "capacity = {capacity}").expect(rt, "memory");
     let text = with(rt, TWO_BANDS, "capacity = 4", capacity.as_str());

@@ -1,19 +1,14 @@
 //! The devices: datagrams of many flows, and a sum of what leaves.
 
-ghost use Rattle.std.specs.Prelude.{◌≡◌, ◌+◌, ◌-◌, ◌^◌, ◌<◌, None, is_ok, if◌then◌else◌, length, true};
+ghost use Rattle.std.specs.Prelude.{◌≡◌, ◌+◌, ◌-◌, ◌^◌, ◌<◌, None, is_ok, if◌then◌else◌, length};
 ghost use Rattle.stage_laws.specs.Forwards.{AddsTo};
 ghost use Rattle.stage_parts.specs.Heard.{failures_of, fits, heard};
 ghost use Rattle.stage_parts.specs.Told.{telling};
 
-use process_packet::{Ip, Underlay};
-use router_rules::{Outgoing, Worker};
-use sample_packets::{FIRST, IN_TIME, PATH_AT};
-use stage_parts::{Gate, NextLen, Sink, SinkFault, Source};
-
-const NEAR: Underlay = Underlay {
-    ip: Ip::V4([10, 1, 0, 2]),
-    port: 40000,
-};
+use router_rules::Outgoing;
+use sample_packets::{FIRST, PATH_AT};
+use sample_stages::give;
+use stage_parts::{NextLen, Sink, SinkFault, Source};
 
 /// How many flows there are.
 const FLOWS: u8 = 64;
@@ -42,13 +37,7 @@ impl Source for Flows {
         let mut datagram = FIRST;
         datagram[3] = self.flow;
         self.flow = self.flow.wrapping_add(1) % FLOWS;
-        let (front, _) = buffer.split_at_mut(92);
-        front.copy_from_slice(&datagram);
-        NextLen::Datagram {
-            len: 92,
-            from: NEAR,
-            now: IN_TIME,
-        }
+        give(&datagram, buffer)
     }
 
     fn failures(&self) -> u64 {
@@ -90,18 +79,5 @@ impl Sink for Sums {
 
     fn failures(&self) -> u64 {
         0
-    }
-}
-
-/// Admits all.
-#[derive(Drop)]
-pub struct Open;
-
-impl Gate for Open {
-    ghost answers = { λ g worker link number admitted. admitted ≡ true };
-
-    fn admits(&self, worker: Worker, link: u16, number: u64) -> bool {
-        let _ = (worker, link, number);
-        true
     }
 }

@@ -16,6 +16,7 @@ use packet_ledger::Blank;
 use router_config::read_config;
 use router_rules::Shared;
 use sample_packets::CONFIGURATION;
+use sample_stages::is_small;
 use stage_parts::Router;
 use std::alloc::{AllocError, Global};
 use std::marker::Brand;
@@ -64,13 +65,6 @@ fn time<N: Router, R: Wait + Clock + Copy>(
     let mut stages = stages_of::<N, R>(rt, alloc, blank, &shared)?;
     let spent = tenths(rt, alloc, &mut stages)?;
     Ok((spent, stages.into_sum()))
-}
-
-/// Whether there are four links and one processor.
-fn is_small(shared: &Shared) -> bool
-    ensures { result ≡ true → (link_count shared.now.config ≡ 4) × (shared.now.config.processors ≡ 1) }
-{
-    shared.ports.count() == 4 && shared.config.processors == 1
 }
 
 /// The first datagram's router.

@@ -4,14 +4,15 @@ ghost use Rattle.std.specs.Prelude.{◌≡◌, ◌<◌, [], Some, All, false, le
 ghost use Rattle.std.specs.Arc.{arc_value};
 ghost use Rattle.packet_ledger.specs.Share.{new_share};
 ghost use Rattle.router_rules.specs.Links.{link_count};
-ghost use Rattle.stages_bench.specs.Ends.{IsFresh, IsNew, IsUntaken};
+ghost use Rattle.sample_stages.specs.Ends.{IsFresh, IsNew, IsUntaken};
 
-use crate::devices::{Flows, Open, Sums};
-use crate::ends::{ends_of, fill, new_links, new_returns, next_outlet, next_producer, next_share};
+use crate::devices::{Flows, Sums};
+use crate::ends::{fill, new_links, new_returns};
 use packet_ledger::{Blank, Book, Share};
 use router_rules::Shared;
 use router_stages::{Band, Forwarder, Processor, Receiver};
 use ruled_pipe::{Consumer, Producer};
+use sample_stages::{Open, ends_of, next_outlet, next_producer, next_share};
 use stage_parts::{Buffer, Inlet, Outlet, Packet, Parcel, Question, Router};
 use std::alloc::{AllocError, Global};
 use std::sync::atomic::AtomicU64;

@@ -1,21 +1,6 @@
--- What tests see of the ends of new pipes.
-use Rattle.std.specs.Prelude.{◌≡◌, ℕ, false, []}
-use Rattle.ruled_pipe.specs.Consumer.{Taker}
-use Rattle.ruled_pipe.specs.Producer.{Sender}
-use Rattle.stage_parts.specs.Outlet.{Offering}
+-- What tests see of a link's pipe.
+use Rattle.std.specs.Prelude.{◌≡◌, false, []}
 use Rattle.router_stages.specs.Forwarding.{Band}
-
-module _ {T : Type 0} where
-  -- nothing was pushed by it
-  abbrev pub IsNew : Sender T → Type 0
-  IsNew s = (s.offers ≡ []) × (s.refusals ≡ [])
-
-  abbrev pub IsFresh : Offering T → Type 0
-  IsFresh o = (o.ended ≡ false) × IsNew o.sender
-
-  -- nothing was taken of so many producers' pipe
-  abbrev pub IsUntaken : ℕ → Taker T → Type 0
-  IsUntaken producers t = (t.taken ≡ []) × (t.looks ≡ []) × (t.producers ≡ producers)
 
 -- nothing was taken
 abbrev pub IsNewBand : Band → Type 0

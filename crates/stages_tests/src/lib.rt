@@ -4,6 +4,7 @@
 
 #[cfg(test)]
 mod ends;
+mod letters;
 #[cfg(test)]
 mod run;
 #[cfg(test)]
@@ -12,3 +13,5 @@ mod seats;
 mod start;
 #[cfg(test)]
 mod turns;
+
+pub use letters::was;

@@ -4,12 +4,14 @@ ghost use Rattle.std.specs.Prelude.{◌≡◌, ◌<◌, ◌≤◌, Some, length,
 ghost use Rattle.std.specs.Arc.{arc_value};
 ghost use Rattle.router_rules.specs.Links.{link_count};
 
-use crate::start::{Open, start};
+use crate::letters::was;
+use crate::start::start;
 use packet_ledger::{Blank, Book, Share};
 use process_packet::Totals;
 use router_rules::Shared;
-use router_stages::{Forwarder, Processor, Receiver, SlowPath, Turn};
+use router_stages::{Forwarder, Processor, Receiver, SlowPath};
 use ruled_pipe::{Mark, Producer};
+use sample_stages::{Open, is_small};
 use stage_parts::{ListSink, ListSource, Next, Parcel, Router};
 use std::alloc::Global;
 use std::marker::Brand;
@@ -50,15 +52,6 @@ pub struct Workers<N: Router, R> {
     pub slow_path: SlowPath<N, R>,
     pub forwarder: Forwarder<N, R, ListSink>,
     pub controller: Producer<Parcel<N>>,
-}
-
-// Whether the turn was as its letter says.
-fn was(turn: Turn, letter: u8) -> bool {
-    match turn {
-        Turn::Did => letter.is_ascii_uppercase(),
-        Turn::Quiet => letter.is_ascii_lowercase(),
-        Turn::Ended => false,
-    }
 }
 
 impl<N: Router, R: Wait + Copy> Workers<N, R> {
@@ -128,13 +121,6 @@ fn play<N: Router, R: Abort + Wait + Copy>(
         sink,
         as_told,
     }
-}
-
-// Whether there are four links and one processor.
-fn is_small(shared: &Shared) -> bool
-    ensures { result ≡ true → (link_count shared.now.config ≡ 4) × (shared.now.config.processors ≡ 1) }
-{
-    shared.ports.count() == 4 && shared.config.processors == 1
 }
 
 /// Runs the workers of a router with this configuration, of four links and one processor.

@@ -1,13 +1,14 @@
 //! What a worker that passes packets on is given.
 
-ghost use Rattle.std.specs.Prelude.{◌≡◌, ◌+◌, ◌<◌, All, length};
+ghost use Rattle.std.specs.Prelude.{◌≡◌, length};
 ghost use Rattle.packet_ledger.specs.Share.{new_share};
 ghost use Rattle.stage_parts.specs.Outlets.{AreFresh};
-ghost use Rattle.stages_tests.specs.Ends.{IsFresh, IsNew};
+ghost use Rattle.sample_stages.specs.Ends.{IsFresh};
 
-use crate::ends::{ends_of, next_outlet, next_producer};
+use crate::ends::pipe_of;
 use packet_ledger::Share;
 use ruled_pipe::Producer;
+use sample_stages::{next_outlet, next_producer};
 use stage_parts::{Buffer, Outlet, Parcel, Router};
 use std::alloc::Global;
 use std::marker::Model;
@@ -44,7 +45,7 @@ fn new_links<T: Drop, R: Abort>(
     requires { IsFresh low × IsFresh high }
     ensures { (length result.items ≡ 8) × AreFresh result.items }
 {
-    let (mut spares, _) = ends_of::<T, R>(rt, alloc, 1, 6);
+    let (mut spares, _) = pipe_of::<T, R>(rt, alloc, 1, 6);
     let a = next_outlet(&mut spares);
     let b = next_outlet(&mut spares);
     let c = next_outlet(&mut spares);
@@ -63,25 +64,11 @@ fn new_links<T: Drop, R: Abort>(
 pub fn new_returns<R: Abort>(rt: &R, alloc: Global, one: Producer<Buffer>) -> Vec<Producer<Buffer>>
     ensures { length result.items ≡ 4 }
 {
-    let (mut spares, _) = ends_of::<Buffer, R>(rt, alloc, 1, 3);
+    let (mut spares, _) = pipe_of::<Buffer, R>(rt, alloc, 1, 3);
     let a = next_producer(&mut spares);
     let b = next_producer(&mut spares);
     let c = next_producer(&mut spares);
     Vec::from_array(alloc, [a, one, b, c]).expect(rt, "memory")
-}
-
-/// The next new counts.
-pub fn next_share<N: Router>(shares: &mut Vec<Share<N>>) -> Share<N>
-    requires new { All (λ s. s ≡ new_share) shares.old.items }
-    requires some { 0 < length shares.old.items }
-    ensures next { result ≡ new_share }
-    ensures rest { All (λ s. s ≡ new_share) shares.new.items }
-    ensures fewer { length shares.new.items + 1 ≡ length shares.old.items }
-{
-    match shares.pop() {
-        Some(share) => share,
-        None => unreachable!(),
-    }
 }
 
 /// What a worker is given that feeds the pipes of a link's low and high band.

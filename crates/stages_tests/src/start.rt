@@ -4,37 +4,24 @@ ghost use Rattle.std.specs.Prelude.{◌≡◌, ◌<◌, ◌≤◌, Some, [], All
 ghost use Rattle.std.specs.Arc.{arc_value};
 ghost use Rattle.packet_ledger.specs.Share.{new_share};
 ghost use Rattle.router_rules.specs.Links.{link_count};
-ghost use Rattle.stages_tests.specs.Ends.{IsFresh, IsNew, IsNewBand};
+ghost use Rattle.sample_stages.specs.Ends.{IsFresh};
+ghost use Rattle.stages_tests.specs.Ends.{IsNewBand};
 
-use crate::ends::{ends_of, next_outlet, next_producer, pipe_of_one};
+use crate::ends::{pipe_of, pipe_of_one};
 use crate::run::{Plan, Workers};
-use crate::seats::{Seat, new_returns, new_seat, next_share};
+use crate::seats::{Seat, new_returns, new_seat};
 use packet_ledger::Share;
-use router_rules::{Shared, Worker};
+use router_rules::Shared;
 use router_stages::{Band, Forwarder, Processor, Receiver, SlowPath};
 use ruled_pipe::{Consumer, Producer};
+use sample_stages::{Open, next_outlet, next_producer, next_share};
 use stage_parts::{
-    Buffer, Gate, Inlet, ListSink, ListSource, Next, Outlet, Packet, Parcel, Question, Router,
+    Buffer, Inlet, ListSink, ListSource, Next, Outlet, Packet, Parcel, Question, Router,
 };
 use std::alloc::Global;
 use std::process::Abort;
 use std::sync::atomic::AtomicU64;
 use std::sync::{Arc, Wait};
-
-/// Admits all.
-#[derive(Drop)]
-pub struct Open;
-
-impl Gate for Open {
-    ghost use Rattle.std.specs.Prelude.{◌≡◌, true};
-
-    ghost answers = { λ g worker link number admitted. admitted ≡ true };
-
-    fn admits(&self, worker: Worker, link: u16, number: u64) -> bool {
-        let _ = (worker, link, number);
-        true
-    }
-}
 
 fn share_of<R: Abort>(rt: &R, shared: &Arc<Shared, Global>) -> Arc<Shared, Global>
     ensures { arc_value result ≡ arc_value shared.now }
@@ -144,10 +131,10 @@ pub fn start<N: Router, R: Abort + Wait + Copy>(
     requires shares { All (λ s. s ≡ new_share) shares.items × (length shares.items ≡ 4) }
 {
     let mut shares = shares;
-    let (mut frees, free) = ends_of::<Buffer, R>(&rt, alloc, 64, 4);
+    let (mut frees, free) = pipe_of::<Buffer, R>(&rt, alloc, 64, 4);
     fill(&rt, alloc, next_producer(&mut frees), plan.buffers);
-    let (mut lows, low) = ends_of::<Parcel<N>, R>(&rt, alloc, plan.capacity, 3);
-    let (mut highs, high) = ends_of::<Parcel<N>, R>(&rt, alloc, plan.capacity, 2);
+    let (mut lows, low) = pipe_of::<Parcel<N>, R>(&rt, alloc, plan.capacity, 3);
+    let (mut highs, high) = pipe_of::<Parcel<N>, R>(&rt, alloc, plan.capacity, 2);
     let (outlet, packets) = pipe_of_one(&rt, alloc, plan.capacity);
     let (slow, questions) = pipe_of_one(&rt, alloc, plan.capacity);
     let share = next_share(&mut shares);

@@ -1,40 +1,22 @@
 //! Runs of the workers, turn by turn. Where a growth is refused a run ends for want of memory, but where it is
 //! refused to the sink, that sink fails once more.
 
-ghost use Rattle.std.specs.Prelude.{◌<◌};
-
 use crate::run::{Outcome, Plan, run};
-use process_packet::{Ip, Totals, Underlay};
+use process_packet::Totals;
 use router_config::read_config;
 use router_rules::Shared;
 use sample_packets::{
     ANSWER, CONFIGURATION, FIRST, IN_TIME, LATE, MAC_AT, OTHER_MAC, PAYLOAD_AT, with_bytes,
+};
+use sample_stages::{
+    CLOSED, FULL_PROCESSOR, NEAR, NO_BUFFER, NOTHING, SEND_FAILED, TWO_BANDS, datagram, firsts,
+    totals,
 };
 use stage_parts::{Next, Sent, Sink};
 use std::alloc::{AllocError, Global};
 use std::process::Abort;
 use std::sync::Wait;
 use std::test::*;
-
-const NEAR: Underlay = Underlay {
-    ip: Ip::V4([10, 1, 0, 2]),
-    port: 40000,
-};
-
-const NOTHING: Totals = Totals {
-    received: 0,
-    sent: 0,
-    answered: 0,
-    dropped: [0; 18],
-};
-
-const FULL_PROCESSOR: usize = 11;
-
-const CLOSED: usize = 15;
-
-const SEND_FAILED: usize = 16;
-
-const NO_BUFFER: usize = 17;
 
 // Link 2's forwarder, four buffers beside the receiver's, four entries in each pipe, and a sink that never fails.
 fn plan(turns: &'static str) -> Plan {
@@ -45,24 +27,6 @@ fn plan(turns: &'static str) -> Plan {
         fails: &[],
         turns,
     }
-}
-
-fn datagram(alloc: Global, bytes: &[u8], now: u64) -> Result<Next, AllocError> {
-    let bytes = Vec::from_slice(alloc, bytes)?;
-    Ok(Next::Datagram {
-        bytes,
-        from: NEAR,
-        now,
-    })
-}
-
-// The first datagram, so often.
-fn firsts(alloc: Global, count: usize) -> Result<Vec<Next>, AllocError> {
-    let mut answers = Vec::new(alloc);
-    for _ in 0..count {
-        answers.push(datagram(alloc, &FIRST, IN_TIME)?)?;
-    }
-    Ok(answers)
 }
 
 // What came of a run of the router that a text configures.
@@ -105,16 +69,6 @@ fn is(outcome: &Outcome, numbers: &[u64], wanted: &Totals) -> bool {
     outcome.as_told && went
 }
 
-fn totals(received: u128, sent: u128, cause: usize, count: u128) -> Totals
-    requires { cause < 18 }
-{
-    let mut totals = NOTHING;
-    totals.received = received;
-    totals.sent = sent;
-    totals.dropped[cause] = count;
-    totals
-}
-
 #[test]
 fn a_full_processor_pipe_refuses(rt: HostRuntime) {
     let mut plan = plan("RRPRFPF");
@@ -148,7 +102,7 @@ fn after_a_closing_mark_a_packet_is_swept(rt: HostRuntime) {
 fn with_a_failure(alloc: Global) -> Result<Vec<Next>, AllocError> {
     let mut answers = firsts(alloc, 1)?;
     answers.push(Next::Failed)?;
-    answers.push(datagram(alloc, &FIRST, IN_TIME)?)?;
+    answers.push(datagram(alloc, &FIRST, NEAR, IN_TIME)?)?;
     Ok(answers)
 }
 
@@ -210,26 +164,17 @@ fn only(alloc: Global, next: Result<Next, AllocError>) -> Result<Vec<Next>, Allo
 #[test]
 fn an_expired_packet_is_answered(rt: HostRuntime) {
     let other = with_bytes(FIRST, MAC_AT, &OTHER_MAC);
-    let answers = only(rt.alloc(), datagram(rt.alloc(), &other, LATE));
+    let answers = only(rt.alloc(), datagram(rt.alloc(), &other, NEAR, LATE));
     let mut plan = plan("RPSFf");
     plan.link = 1;
     let outcome = ran(rt, CONFIGURATION, answers, plan);
     assert!(rt; is_answered(&outcome, &other));
 }
 
-/// The same router, whose link 2 has two bands.
-const TWO_BANDS: &str =
-    "version = 2\nisd_as = \"1-ff00:0:110\"\nkey = \"2b7e151628aed2a6abf7158809cf4f3c\"\n\
-    internal = \"10.0.0.1:30000\"\ninternal_bands = 1\nhost_port = 30041\nprocessors = 1\ncapacity = 4\nseed = 0\nlink = [\n\
-    {id=1, kind=\"parent\", local=\"10.1.0.1:40000\", remote=\"10.1.0.2:40000\", bands=1},\n\
-    {id=2, kind=\"child\", local=\"10.2.0.1:40000\", remote=\"10.2.0.2:40000\", bands=2},\n\
-    {id=3, kind=\"core\", local=\"10.3.0.1:40000\", remote=\"10.3.0.2:40000\", bands=1}]\n\
-    sibling = []\nservice = []\n";
-
 fn with_an_urgent_one(alloc: Global) -> Result<Vec<Next>, AllocError> {
     let urgent = with_bytes(FIRST, 0, b"\x0b\x80\x00\x01");
     let mut answers = firsts(alloc, 1)?;
-    answers.push(datagram(alloc, &urgent, IN_TIME)?)?;
+    answers.push(datagram(alloc, &urgent, NEAR, IN_TIME)?)?;
     Ok(answers)
 }
 

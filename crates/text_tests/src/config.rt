@@ -1,26 +1,10 @@
 //! Configurations and addresses, and the faults of those that are none.
+use crate::links::{link, underlay};
 use process_packet::{Bands, Config, Ip, Link, Service, Sibling, Underlay};
 use router_config::{ConfigFault, push_underlay, read_config, read_underlay};
 use sample_packets::CONFIGURATION as TEXT;
 use segment_switch::LinkKind;
 use std::process::Abort;
-
-fn underlay(ip: [u8; 4], port: u16) -> Underlay {
-    Underlay {
-        ip: Ip::V4(ip),
-        port,
-    }
-}
-
-fn link(id: u16, kind: LinkKind, network: u8, bands: Bands) -> Link {
-    Link {
-        id,
-        kind,
-        local: underlay([10, network, 0, 1], 40000),
-        remote: underlay([10, network, 0, 2], 40000),
-        bands,
-    }
-}
 
 /// The tag of an empty message under the rows' key, from RFC 4493.
 const EMPTY_TAG: [u8; 16] = [

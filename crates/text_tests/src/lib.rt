@@ -4,7 +4,10 @@
 
 #[cfg(test)]
 mod config;
+mod links;
 #[cfg(test)]
 mod words;
 #[cfg(test)]
 mod words_of_faults;
+
+pub use links::{link, underlay};

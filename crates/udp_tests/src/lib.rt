@@ -3,3 +3,6 @@
 
 #[cfg(test)]
 mod loopback;
+mod minute;
+
+pub use minute::minute_of;

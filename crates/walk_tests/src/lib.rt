@@ -8,3 +8,6 @@ mod made;
 mod nets;
 #[cfg(test)]
 mod walks;
+mod wires;
+
+pub use wires::{end, wire};

@@ -1,5 +1,6 @@
 //! Nets that agree, and nets that don't for one clause alone.
 
+use crate::wires::{end, wire};
 use process_packet::{End, Net, Wire, agrees};
 use router_config::read_config;
 use std::process::Abort;
@@ -181,14 +182,6 @@ const CASES: [(&str, [Change; 2]); 14] = [
         ],
     ),
 ];
-
-fn end(router: usize, link: u16) -> End {
-    End { router, link }
-}
-
-fn wire(one: End, other: End) -> Wire {
-    Wire { one, other }
-}
 
 /// The line as it stands, or as one of the changes tells it.
 fn line(router: usize, number: usize, told: &'static str, changes: [Change; 2]) -> &'static str {

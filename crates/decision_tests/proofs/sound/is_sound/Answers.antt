@@ -2,7 +2,7 @@ use Rattle.std.proofs.Common.{ap, sym, ◌∙◌}
 use Rattle.scion_packet.specs.Path.{path_fault}
 use Rattle.scion_packet.proofs.PacketLaws.{pass_both}
 use Rattle.scion_packet.proofs.Parts.{path_between}
-use Rattle.decision_tests.proofs.answers.is_sound.Goals as goal
+use Rattle.decision_tests.proofs.sound.is_sound.Goals as goal
 
 pub returns-in-Ok-check_path : goal.returns-in-Ok-check_path
 returns-in-Ok-check_path c =

@@ -1,0 +1,16 @@
+//! What a run reports, beside what is wanted.
+
+ghost use Rattle.std.specs.Prelude.{◌≡◌, length, true};
+
+use router_run::Report;
+
+/// Whether these are the counts of what each link's sink took, and each link has its devices back.
+pub fn sent_by<S, K>(report: &Report<S, K>, counts: &[u128]) -> bool
+    ensures sent { result ≡ true → report.now.sent.items ≡ counts.now }
+    ensures sources { result ≡ true → length report.now.sources.items ≡ length counts.now }
+    ensures sinks { result ≡ true → length report.now.sinks.items ≡ length counts.now }
+{
+    report.sent.as_slice() == counts
+        && report.sources.len() == counts.len()
+        && report.sinks.len() == counts.len()
+}
