@@ -13,8 +13,9 @@ use Rattle.router_stages.specs.Working.{Working}
 use Rattle.router_ends.specs.Rows.{Row}
 use Rattle.router_ends.specs.Shutting.{Shutting}
 use Rattle.run_laws.specs.Crew.{AreForwarding, AreWorking, Crew, IsCrew, IsForwardingAt, IsReceivingAt, IsTakerOf, IsWorkingAt, Piping}
-use Rattle.router_run.specs.Kits.{Entry, Exit, IsEnteringAt, IsLeavingAt, IsWorkingThere, forwardings, receivings}
-use Rattle.router_run.specs.Run.{AreMakings, Run, crew_of}
+use Rattle.run_parts.specs.Kits.{Entry, Exit, IsEnteringAt, IsLeavingAt, IsWorkingThere, forwardings, receivings}
+use Rattle.run_parts.specs.Makings.{AreMakings}
+use Rattle.router_run.specs.Run.{Run, crew_of}
 use Rattle.router_run.specs.Starting.{Begins}
 use Rattle.pipe_order.specs.Item.{Arrival}
 

@@ -25,7 +25,7 @@ use Rattle.router_ends.specs.Settled.{AreSettled, HaveEnded, IsDone, IsEnded}
 use Rattle.run_laws.specs.Came.{CrewsReturn, HasKept, HasSettled, back_of, forwarder_back, processor_back, receiver_back}
 use Rattle.run_laws.specs.Crew.{Crew, IsCrew, Piping}
 use Rattle.run_laws.specs.Ended.{IsBack, PipesEnd, inner_rows, inner_takers, middle_takers, outer_rows, takers_of}
-use Rattle.router_run.specs.Room.{Berths, HaveBerths, HaveSpace, Space}
+use Rattle.run_parts.specs.Room.{Berths, HaveBerths, HaveSpace, Space}
 use Rattle.router_run.specs.Run.{HasRun, IsParted, IsSized, Run, shares_in}
 use Rattle.router_run.proofs.Parted.{rows_long}
 

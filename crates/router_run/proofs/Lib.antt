@@ -1,11 +1,6 @@
 pub mod Begin
 pub mod Finish
-pub mod FreeLemmas
-pub mod Fresh
-pub mod Making
 pub mod PartLemmas
 pub mod Parted
-pub mod RestLemmas
 pub mod Sized
 pub mod ClosingLemmas
-pub mod WakingLemmas

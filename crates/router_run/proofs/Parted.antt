@@ -23,10 +23,10 @@ use Rattle.router_ends.specs.Shutting.{AreMarking, PushMarks, shutter_ends}
 use Rattle.run_laws.specs.Came.{HasKept}
 use Rattle.run_laws.specs.Crew.{Crew}
 use Rattle.run_laws.specs.Ended.{HasMarked, outer_rows, takers_of}
-use Rattle.router_run.specs.Room.{HaveSpace, IsRoomy, Space}
+use Rattle.run_parts.specs.Room.{HaveSpace, IsRoomy, Space}
 use Rattle.router_run.specs.Run.{IsParted, IsSized, shares_in}
 use Rattle.router_run.proofs.PartLemmas.{one_behind}
-use Rattle.router_run.proofs.RestLemmas.{each_first}
+use Rattle.run_parts.proofs.RestLemmas.{each_first}
 
 -- ---- numbers
 

@@ -19,7 +19,7 @@ use Rattle.run_laws.specs.Crew.{AreAnswering, AreForwarding, AreWorking, Crew, I
 use Rattle.run_laws.specs.Ended.{IsBack}
 use Rattle.run_laws.proofs.Ends.{ends_long, same_ends}
 use Rattle.run_laws.proofs.Rows.{back_long, working_long}
-use Rattle.router_run.specs.Room.{Berths, HaveBerths}
+use Rattle.run_parts.specs.Room.{Berths, HaveBerths}
 use Rattle.router_run.specs.Run.{IsSized}
 
 long_of : {T : Type 0} (xs : List (Offering T)) → length (senders xs) ≡ length xs

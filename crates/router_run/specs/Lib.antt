@@ -1,7 +1,3 @@
-pub mod Rest
-pub mod Dealing
-pub mod Kits
-pub mod Room
 pub mod Run
 pub mod Starting
 pub mod Closing

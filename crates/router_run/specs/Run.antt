@@ -17,13 +17,10 @@ use Rattle.router_stages.specs.Forwarding.{Forwarding}
 use Rattle.router_stages.specs.Receiving.{Receiving}
 use Rattle.router_stages.specs.Working.{Working}
 use Rattle.stage_parts.specs.Told.{Told, told_of}
-use Rattle.router_ends.specs.Rows.{HaveLeft, Row, rows_of}
-use Rattle.router_ends.specs.Shutting.{AreOpen, AreShutters, Shutting, closed_at}
-use Rattle.router_rules.specs.Links.{link_count}
-use Rattle.run_laws.specs.Crew.{Crew, IsAnsweringAt, IsCrew, IsPiping, Piping, are_used}
+use Rattle.router_ends.specs.Rows.{Row, rows_of}
+use Rattle.router_ends.specs.Shutting.{Shutting, closed_at}
+use Rattle.run_laws.specs.Crew.{Crew, Piping}
 use Rattle.run_laws.specs.Ended.{IsBack}
-use Rattle.router_run.specs.Kits.{Entry, Exit, IsEnteringAt, IsLeavingAt, IsWorkingThere}
-use Rattle.router_run.specs.Rest.{IsRest}
 use Rattle.run_laws.specs.Came.{HasSettled, back_of}
 use Rattle.run_laws.specs.Ended.{inner_rows, inner_takers, middle_row, outer_rows, takers_of}
 
@@ -50,18 +47,6 @@ crew_of receivers processors slow forwarders shutters = record { receivers = rec
 -- the shares in the order in which the book closes them
 abbrev pub shares_in : {S G K : Type 0} → Crew S G K → List Held
 shares_in w = map (λ (r : Receiving _). r.side.share) w.receivers ++ (map (λ (p : Working _). p.side.share) w.processors ++ (map (λ (a : Answering). a.side.share) w.slow ++ map (λ (f : Forwarding _). f.side.share) w.forwarders))
-
--- What stands ready before the devices are taken: the pipes, with room for their ends, and what the workers are made of.
-pub record AreMakings {G : Type 0} (c : Config) (p : Piping) (inner_rooms : List (Row (Arrival kinds))) (outer_rooms : List (Row (Outgoing kinds))) (receivers : List Entry) (processors : List (Working G)) (slow : Answering) (forwarders : List Exit) (shutters : List (Shutting (Outgoing kinds))) : Type 0 where
-  pub pipes_are : IsPiping c p
-  pub inner_room : HaveLeft (link_count c) 0 p.inner inner_rooms
-  pub outer_room : HaveLeft (c.processors + 2) 0 p.outer outer_rooms
-  pub entering : IsRest (IsEnteringAt c p.inner) 0 (link_count c) receivers
-  pub working : IsRest (IsWorkingThere c p) 0 c.processors processors
-  pub answering : IsAnsweringAt c p slow
-  pub leaving : IsRest (IsLeavingAt c p.outer) 0 (link_count c) forwarders
-  pub shutting : AreShutters (are_used c) 0 (c.processors + 1) p.outer shutters
-  pub unmarked : AreOpen shutters
 
 -- a run: its configuration, its pipes, and its workers and the controller's ends as they began
 pub record Run (S G K : Type 0) : Type 0 where

@@ -9,15 +9,11 @@ ghost use Rattle.router_rules.specs.Links.{link_count};
 ghost use Rattle.run_laws.specs.Crew.{IsCrew};
 ghost use Rattle.run_laws.specs.Came.{HasKept, HasSettled};
 ghost use Rattle.run_laws.specs.Ended.{HasMarked, IsBack, PipesEnd};
-ghost use Rattle.router_run.specs.Dealing.{piping};
-ghost use Rattle.router_run.specs.Room.{HaveBerths, HaveSpace};
+ghost use Rattle.run_parts.specs.Dealing.{piping};
+ghost use Rattle.run_parts.specs.Room.{HaveBerths, HaveSpace};
 ghost use Rattle.router_run.specs.Run.{HasRun, IsParted, IsSized, crew_of, shares_in};
 
-use crate::line::Line;
 use crate::parting::{part_forwarders, part_processors, part_receivers, part_slow};
-use crate::pipes::Pipes;
-use crate::reserve::{Berths, Space};
-use crate::waking::notify_all;
 use packet_ledger::Share;
 use process_packet::Totals;
 use router_ends::{Ends, Shutter, bare_shutters, gather_all, gather_one, mark_all};
@@ -25,6 +21,7 @@ use router_rules::{Shared, causes_are_apart, link_count, links_stand_in_order, r
 use router_stages::{Forwarder, Processor, Receiver, SlowPath};
 use ruled_pipe::Consumer;
 use run_laws::{crews_end, crews_return};
+use run_parts::{Berths, Line, Pipes, Space, notify_all};
 use stage_parts::{Event, Gate, Packet, Parcel, Question, Router, Sink, Source};
 use std::marker::Model;
 use std::rt::Clock;

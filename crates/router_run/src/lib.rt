@@ -3,18 +3,10 @@
 #![tactic(auto)]
 
 mod closing;
-mod entering;
 mod fault;
 mod finishing;
-mod leaving;
-mod line;
-mod middle;
 mod parting;
-mod pipes;
-mod preparing;
-mod reserve;
 mod running;
-mod waking;
 
 pub use fault::{CloseFault, StartFault};
 pub use finishing::Report;

@@ -10,13 +10,13 @@ ghost use Rattle.stage_parts.specs.Told.{told_of};
 ghost use Rattle.router_ends.specs.Handing.{AreMarked, NeverClosed};
 ghost use Rattle.router_ends.specs.Rows.{rows_of};
 ghost use Rattle.run_laws.specs.Ended.{takers_of};
-ghost use Rattle.router_run.specs.Room.{IsRoomy};
+ghost use Rattle.run_parts.specs.Room.{IsRoomy};
 
-use crate::line::Line;
 use packet_ledger::Share;
 use router_ends::{Ends, bare};
 use router_stages::{Forwarder, Processor, Receiver, SlowPath};
 use ruled_pipe::Consumer;
+use run_parts::Line;
 use stage_parts::{Gate, Packet, Parcel, Question, Router, Sink, Source};
 use std::sync::Wait;
 

@@ -6,24 +6,22 @@ ghost use Rattle.pipe_order.specs.Deeds.{Each};
 ghost use Rattle.router_laws.specs.Heard.{ToldNothing};
 ghost use Rattle.router_rules.specs.Links.{link_count};
 ghost use Rattle.router_run.specs.Closing.{Closing, IsSameRun};
-ghost use Rattle.router_run.specs.Dealing.{piping};
-ghost use Rattle.router_run.specs.Room.{HaveBerths, HaveSpace};
-ghost use Rattle.router_run.specs.Run.{AreMakings, HasRun};
+ghost use Rattle.run_parts.specs.Dealing.{piping};
+ghost use Rattle.run_parts.specs.Makings.{AreMakings};
+ghost use Rattle.run_parts.specs.Room.{HaveBerths, HaveSpace};
+ghost use Rattle.router_run.specs.Run.{HasRun};
 ghost use Rattle.router_run.specs.Starting.{Begins, GivesBack};
 
 use crate::closing::close_both;
-use crate::entering::receivers_of;
 use crate::fault::{CloseFault, StartFault};
 use crate::finishing::{Report, Threaded, finish_all};
-use crate::leaving::forwarders_of;
-use crate::pipes::Pipes;
-use crate::preparing::{Makings, Prepared, prepare};
-use crate::reserve::{Berths, Space};
-use crate::waking::notify_one;
 use packet_ledger::Blank;
 use process_packet::Config;
 use router_ends::Shutter;
 use router_rules::{Shared, link_count};
+use run_parts::{
+    Berths, Makings, Pipes, Prepared, Space, forwarders_of, notify_one, prepare, receivers_of,
+};
 use stage_parts::{Event, Gate, Parcel, Router, Sink, Source};
 use std::alloc::Global;
 use std::marker::Model;
@@ -66,8 +64,8 @@ where
     ghost use Rattle.router_ends.specs.Rows.{HaveLeft};
     ghost use Rattle.router_rules.specs.Links.{link_count};
     ghost use Rattle.run_laws.specs.Crew.{IsCrew};
-    ghost use Rattle.router_run.specs.Dealing.{piping};
-    ghost use Rattle.router_run.specs.Room.{HaveBerths, HaveSpace};
+    ghost use Rattle.run_parts.specs.Dealing.{piping};
+    ghost use Rattle.run_parts.specs.Room.{HaveBerths, HaveSpace};
     ghost use Rattle.router_run.specs.Run.{Run, crew_of};
 
     ghost Value = { Run S G K };

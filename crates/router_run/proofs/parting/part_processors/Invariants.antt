@@ -5,7 +5,7 @@ use Rattle.stage_parts.specs.Outlet.{IsMarked}
 use Rattle.stage_parts.specs.Outlets.{senders}
 use Rattle.router_ends.specs.Handing.{AreMarked, NeverClosed}
 use Rattle.router_ends.specs.Rows.{rows_of}
-use Rattle.router_run.specs.Room.{IsRoomy}
+use Rattle.run_parts.specs.Room.{IsRoomy}
 use Rattle.router_run.proofs.parting.part_processors.Given as goal
 
 abbrev pub invariant-loop-k : goal.invariant-loop-k

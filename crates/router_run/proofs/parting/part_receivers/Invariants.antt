@@ -4,7 +4,7 @@ use Rattle.router_laws.specs.Keeping.{IsReceiving}
 use Rattle.stage_parts.specs.Outlets.{senders}
 use Rattle.router_ends.specs.Handing.{AreMarked, NeverClosed}
 use Rattle.router_ends.specs.Rows.{rows_of}
-use Rattle.router_run.specs.Room.{IsRoomy}
+use Rattle.run_parts.specs.Room.{IsRoomy}
 use Rattle.router_run.proofs.parting.part_receivers.Given as goal
 
 abbrev pub invariant-loop-k : goal.invariant-loop-k

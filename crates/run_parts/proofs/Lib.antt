@@ -1,0 +1,5 @@
+pub mod FreeLemmas
+pub mod Fresh
+pub mod Making
+pub mod RestLemmas
+pub mod WakingLemmas

@@ -1,0 +1,5 @@
+pub mod Rest
+pub mod Dealing
+pub mod Kits
+pub mod Room
+pub mod Makings

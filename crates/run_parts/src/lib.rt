@@ -1,0 +1,20 @@
+//! What a running router is made of, before its first thread: the pipes with all their ends dealt, the
+//! workers as far as they stand without a device, and room for all that comes back.
+#![tactic(auto)]
+
+mod entering;
+mod leaving;
+mod line;
+mod middle;
+mod pipes;
+mod preparing;
+mod reserve;
+mod waking;
+
+pub use entering::receivers_of;
+pub use leaving::forwarders_of;
+pub use line::Line;
+pub use pipes::Pipes;
+pub use preparing::{Makings, Prepared, prepare};
+pub use reserve::{Berths, Space};
+pub use waking::{notify_all, notify_one};

@@ -1,0 +1,174 @@
+//! The processors and the slow path.
+
+ghost use Rattle.std.specs.Prelude.{◌≡◌, ◌+◌, ◌*◌, ◌≤◌, ◌<◌, ◌∷◌, ℕ, List, IfOk, [], Some, length};
+ghost use Rattle.std.specs.Arc.{arc_value};
+ghost use Rattle.packet_ledger.specs.Share.{new_share};
+ghost use Rattle.router_rules.specs.Links.{link_count};
+ghost use Rattle.ruled_pipe.specs.Pipe.{Shape};
+ghost use Rattle.stage_parts.specs.Outlets.{AreFresh, senders};
+ghost use Rattle.router_ends.specs.Rows.{AreEndsOf, AreFor, IsBundle, fresh_ends, new_takers};
+ghost use Rattle.run_parts.specs.Dealing.{IsBundleOf, IsLong, IsNewEnd, piping};
+ghost use Rattle.run_parts.specs.Kits.{IsWorkingThere};
+ghost use Rattle.run_parts.specs.Rest.{AreNewShares, HaveGone, IsRest};
+
+use crate::line::Line;
+use crate::waking::{Events, wake};
+use packet_ledger::Share;
+use router_ends::{Ends, outlets};
+use router_rules::{Shared, link_count};
+use router_stages::{Processor, SlowPath};
+use ruled_pipe::{Consumer, Pipe, Producer};
+use stage_parts::{Buffer, Gate, Inlet, Outlet, Packet, Parcel, Question, Router};
+use std::alloc::{AllocError, Global};
+use std::marker::Model;
+use std::sync::{Arc, Wait};
+
+/// A worker's ends of the links' pipes and of those of free buffers, and its share.
+#[derive(Drop)]
+pub struct Ways<N: Router> {
+    links: Vec<Outlet<Parcel<N>>>,
+    free: Vec<Producer<Buffer>>,
+    share: Share<N>,
+}
+
+impl<N: Router> Model for Ways<N> {
+    ghost use Rattle.std.specs.Prelude.{◌≡◌};
+    ghost use Rattle.packet_ledger.specs.Share.{new_share};
+    ghost use Rattle.stage_parts.specs.Outlets.{AreFresh};
+    ghost use Rattle.run_parts.specs.Kits.{Way};
+
+    ghost Value = { Way };
+
+    ghost view = { λ w. record { links = w.links.items; free = w.free.items } };
+
+    ghost invariant = { λ w. AreFresh w.links.items × (w.share ≡ new_share) };
+}
+
+/// What the next worker has.
+pub fn next_ways<N: Router>(
+    alloc: Global,
+    bundle: Ends<Parcel<N>>,
+    free: Ends<Buffer>,
+    share: Share<N>,
+    events: &Events,
+) -> Result<Ways<N>, AllocError>
+    requires bundle { IsBundle bundle.ends }
+    requires share { share ≡ new_share }
+    ensures links { IfOk result (λ w. (p : ℕ) (shapes : List Shape) → bundle.ends ≡ fresh_ends p shapes → AreEndsOf p shapes (senders w.links)) }
+    ensures count { IfOk result (λ w. length w.links ≡ length bundle.ends) }
+    ensures free { IfOk result (λ w. w.free ≡ free.ends) }
+{
+    let links = wake(outlets(alloc, bundle)?, events.forwarders.as_slice(), 2)?;
+    Ok(Ways {
+        links,
+        free: free.into_items(),
+        share,
+    })
+}
+
+fn processor_at<N: Router, G: Gate + Drop, R: Wait + Copy>(
+    rt: R,
+    shared: &Arc<Shared, Global>,
+    gate: &Arc<G, Global>,
+    index: u8,
+    producers: usize,
+    taker: Consumer<Packet<N>>,
+    asking: Producer<Question<N>>,
+    ways: Ways<N>,
+    events: &Events,
+) -> Result<Processor<N, R, G>, AllocError>
+    requires config { N.config ≡ Some (arc_value shared.now).config }
+    requires taker { (taker.taken ≡ []) × (taker.producers ≡ producers) }
+    requires asking { (asking.offers ≡ []) × (asking.refusals ≡ []) }
+    requires ways { (length ways.links ≡ 2 * link_count (arc_value shared.now).config) × (length ways.free ≡ link_count (arc_value shared.now).config) }
+    ensures config { IfOk result (λ w. w.side.config ≡ (arc_value shared.now).config) }
+    ensures ends { IfOk result (λ w. (w.taker ≡ taker) × (w.slow.sender ≡ asking) × (w.side.links ≡ ways.links)) }
+    ensures fresh { IfOk result (λ w. AreFresh w.side.links) }
+{
+    let shared = Arc::try_clone(shared)?;
+    let gate = Arc::try_clone(gate)?;
+    let Ways { links, free, share } = ways;
+    let from = Inlet::of(taker, producers);
+    let mut slow = Outlet::of(asking);
+    slow.set_event(events.slow.another()?);
+    Ok(Processor::new(rt, shared, index, gate, from, links, slow, free, share))
+}
+
+/// The processors, each with its consumer, its end of the slow path's pipe and its ways.
+pub fn processors_of<N: Router, G: Gate + Drop, R: Wait + Copy>(
+    rt: R,
+    alloc: Global,
+    shared: &Arc<Shared, Global>,
+    gate: &Arc<G, Global>,
+    inner: &Vec<Pipe<Packet<N>>>,
+    middle: &Pipe<Question<N>>,
+    outer: &Vec<Pipe<Parcel<N>>>,
+    takers: Vec<Consumer<Packet<N>>>,
+    asking: Vec<Producer<Question<N>>>,
+    links: &mut Line<Ends<Parcel<N>>>,
+    free: &mut Line<Ends<Buffer>>,
+    shares: &mut Line<Share<N>>,
+    events: &Events,
+) -> Result<Vec<Processor<N, R, G>>, AllocError>
+    requires config { N.config ≡ Some (arc_value shared.now).config }
+    requires pipes { (length inner.now.items ≡ (arc_value shared.now).config.processors) × AreFor (link_count (arc_value shared.now).config) inner.now.items × (length outer.now.items ≡ 2 * link_count (arc_value shared.now).config) }
+    requires takers { takers.items ≡ new_takers inner.now.items }
+    requires asking { IsRest (IsNewEnd middle.now) 0 (arc_value shared.now).config.processors asking.items }
+    requires links { IsRest (IsBundleOf outer.now.items) 0 ((arc_value shared.now).config.processors + 2) links.old }
+    requires free { IsRest (IsLong (link_count (arc_value shared.now).config)) 0 ((arc_value shared.now).config.processors + 1 + link_count (arc_value shared.now).config) free.old }
+    requires shares { AreNewShares (arc_value shared.now).config.processors shares.old }
+    ensures links { IfOk result (λ _. IsRest (IsBundleOf outer.now.items) (arc_value shared.now).config.processors ((arc_value shared.now).config.processors + 2) links.new) }
+    ensures free { IfOk result (λ _. IsRest (IsLong (link_count (arc_value shared.now).config)) (arc_value shared.now).config.processors ((arc_value shared.now).config.processors + 1 + link_count (arc_value shared.now).config) free.new) }
+    ensures shares { IfOk result (λ _. HaveGone (arc_value shared.now).config.processors shares.old shares.new) }
+    ensures made { IfOk result (λ v. IsRest (IsWorkingThere (arc_value shared.now).config (piping inner.now.items middle.now outer.now.items)) 0 (arc_value shared.now).config.processors v.items) }
+{
+    let producers = link_count(&shared.config);
+    let count = usize::from(shared.config.processors);
+    let mut made = Vec::with_capacity(alloc, count)?;
+    let mut takers = Line::of(takers);
+    let mut asking = Line::of(asking);
+    for index in 0..count {
+        let taker = takers.next();
+        let slow = asking.next();
+        let bundle = links.next();
+        let back = free.next();
+        let share = shares.next();
+        let ways = next_ways(alloc, bundle, back, share, events)?;
+        made.push_reserved(processor_at(
+            rt,
+            shared,
+            gate,
+            index as u8,
+            producers,
+            taker,
+            slow,
+            ways,
+            events,
+        )?);
+    }
+    let _ = inner;
+    let _ = middle;
+    let _ = outer;
+    Ok(made)
+}
+
+/// The slow path, with its consumer and its ways.
+pub fn slow_path_of<N: Router, R: Wait + Copy>(
+    rt: R,
+    shared: &Arc<Shared, Global>,
+    taker: Consumer<Question<N>>,
+    ways: Ways<N>,
+) -> Result<SlowPath<N, R>, AllocError>
+    requires config { N.config ≡ Some (arc_value shared.now).config }
+    requires taker { (taker.taken ≡ []) × (taker.producers ≡ (arc_value shared.now).config.processors) }
+    requires ways { (length ways.links ≡ 2 * link_count (arc_value shared.now).config) × (length ways.free ≡ link_count (arc_value shared.now).config) }
+    ensures config { IfOk result (λ a. a.side.config ≡ (arc_value shared.now).config) }
+    ensures ends { IfOk result (λ a. (a.taker ≡ taker) × (a.side.links ≡ ways.links)) }
+    ensures fresh { IfOk result (λ a. AreFresh a.side.links) }
+{
+    let processors = usize::from(shared.config.processors);
+    let shared = Arc::try_clone(shared)?;
+    let from = Inlet::of(taker, processors);
+    let Ways { links, free, share } = ways;
+    Ok(SlowPath::new(rt, shared, from, links, free, share))
+}

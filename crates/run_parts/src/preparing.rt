@@ -1,0 +1,253 @@
+//! All that a run takes memory for, before its first thread.
+
+ghost use Rattle.std.specs.Prelude.{◌≡◌, ◌+◌, ◌*◌, ◌≤◌, IfOk, Some, [], length, vec_capacity};
+ghost use Rattle.std.specs.Arc.{arc_value};
+ghost use Rattle.router_rules.specs.Links.{link_count};
+ghost use Rattle.run_parts.specs.Dealing.{piping};
+ghost use Rattle.run_parts.specs.Rest.{AreNewShares};
+ghost use Rattle.run_parts.specs.Room.{HaveBerths, HaveSpace};
+ghost use Rattle.run_parts.specs.Makings.{AreMakings};
+
+use crate::entering::{Entering, all_entering};
+use crate::leaving::{Leaving, all_leaving};
+use crate::line::Line;
+use crate::middle::{next_ways, processors_of, slow_path_of};
+use crate::pipes::{Free, Pipes, free_pipes, inner_pipes, middle_pipe, outer_pipes};
+use crate::reserve::{Berths, Space, berths_for, space_for};
+use crate::waking::{Events, events_for};
+use packet_ledger::{Blank, Book, Share};
+use process_packet::Config;
+use router_ends::{Dealt, Shutter, shutters};
+use router_rules::{Shared, link_count};
+use router_stages::{Forwarder, Processor, Receiver, SlowPath};
+use stage_parts::{Event, Gate, Parcel, Router, Sink, Source};
+use std::alloc::{AllocError, Global};
+use std::sync::atomic::AtomicU64;
+use std::sync::{Arc, Wait};
+use worker_threads::{HOLD, Handle, Orders, Work};
+
+/// The pipes, and what the workers are made of, before any device is taken.
+#[derive(Drop)]
+pub struct Makings<N: Router, G: Gate + Drop, R: Wait + Copy> {
+    pub receivers: Vec<Entering<N>>,
+    pub processors: Vec<Processor<N, R, G>>,
+    pub slow: SlowPath<N, R>,
+    pub forwarders: Vec<Leaving<N>>,
+    pub shutters: Vec<Shutter<Parcel<N>>>,
+    pub pipes: Pipes<N>,
+}
+
+fn make_all<N: Router, G: Gate + Drop, R: Wait + Copy>(
+    rt: R,
+    alloc: Global,
+    shared: &Arc<Shared, Global>,
+    stop: &Arc<AtomicU64, Global>,
+    gate: G,
+    shares: Vec<Share<N>>,
+    events: &Events,
+) -> Result<Makings<N, G, R>, AllocError>
+    requires config { N.config ≡ Some (arc_value shared.now).config }
+    requires shares { AreNewShares (2 * link_count (arc_value shared.now).config + (arc_value shared.now).config.processors + 1) shares.items }
+    ensures { IfOk result (λ m. AreMakings (arc_value shared.now).config (piping m.pipes.inner.items m.pipes.middle m.pipes.outer.items) m.pipes.inner_rooms.items m.pipes.outer_rooms.items m.receivers.items m.processors.items m.slow m.forwarders.items m.shutters.items) }
+{
+    // At most 33, which bounds the controller's ends.
+    let _ = link_count(&shared.config);
+    let gate = Arc::new(alloc, gate)?;
+    let Dealt {
+        pipes: inner,
+        rooms: inner_rooms,
+        takers: from_receivers,
+        bundles: to_processors,
+    } = inner_pipes(alloc, shared)?;
+    let (middle, asking, asked) = middle_pipe(alloc, shared)?;
+    let Dealt {
+        pipes: outer,
+        rooms: outer_rooms,
+        takers: from_all,
+        bundles: to_links,
+    } = outer_pipes(alloc, shared)?;
+    let Free {
+        takers: free,
+        bundles: back,
+    } = free_pipes(&rt, alloc, shared)?;
+    let mut shares = Line::of(shares);
+    let mut links = Line::of(to_links);
+    let mut back = Line::of(back);
+    let receivers = all_entering(
+        alloc,
+        shared,
+        stop,
+        &inner,
+        to_processors,
+        free,
+        &mut shares,
+        events,
+    )?;
+    let processors = processors_of(
+        rt,
+        alloc,
+        shared,
+        &gate,
+        &inner,
+        &middle,
+        &outer,
+        from_receivers,
+        asking,
+        &mut links,
+        &mut back,
+        &mut shares,
+        events,
+    )?;
+    let slow_bundle = links.next();
+    let slow_back = back.next();
+    let slow_share = shares.next();
+    let ways = next_ways(alloc, slow_bundle, slow_back, slow_share, events)?;
+    let slow = slow_path_of(rt, shared, asked, ways)?;
+    let shutters = shutters(alloc, shared, links.next())?;
+    let forwarders = all_leaving(alloc, shared, &outer, from_all, &mut back, &mut shares)?;
+    let pipes = Pipes {
+        inner,
+        inner_rooms,
+        middle,
+        outer,
+        outer_rooms,
+    };
+    Ok(Makings {
+        receivers,
+        processors,
+        slow,
+        forwarders,
+        shutters,
+        pipes,
+    })
+}
+
+/// Orders for the threads of workers of one kind, each with its worker's event if it has one, room for the workers and for the threads' handles.
+#[derive(Drop)]
+pub struct Desk<N: Router, W: Work<N>> {
+    pub workers: Vec<W>,
+    pub orders: Vec<Orders<N>>,
+    pub room: Vec<Handle<N, W>>,
+}
+
+fn desk_for<N: Router, W: Work<N> + Drop>(
+    alloc: Global,
+    orders: &Orders<N>,
+    events: &[Event],
+    count: usize,
+) -> Result<Desk<N, W>, AllocError>
+    ensures workers { IfOk result (λ d. (d.workers.items ≡ []) × (vec_capacity d.workers ≡ count)) }
+    ensures room { IfOk result (λ d. (d.room.items ≡ []) × (vec_capacity d.room ≡ count)) }
+{
+    let workers = Vec::<W>::with_capacity(alloc, count)?;
+    let mut each = Vec::new(alloc);
+    for k in 0..count {
+        each.push(match events.get(k) {
+            Some(event) => orders.another_with(event)?,
+            None => orders.another()?,
+        })?;
+    }
+    let room = Vec::<Handle<N, W>>::with_capacity(alloc, count)?;
+    Ok(Desk {
+        workers,
+        orders: each,
+        room,
+    })
+}
+
+/// All that stands ready.
+#[derive(Drop)]
+pub struct Prepared<N, S, K, G, R>
+where
+    N: Router,
+    S: Source + Drop,
+    K: Sink + Drop,
+    G: Gate + Drop,
+    R: Wait + Copy,
+{
+    pub shared: Arc<Shared, Global>,
+    pub orders: Orders<N>,
+    pub forwarder_events: Vec<Event>,
+    pub makings: Makings<N, G, R>,
+    pub receivers: Desk<N, Receiver<N, R, S>>,
+    pub processors: Desk<N, Processor<N, R, G>>,
+    pub slow: Desk<N, SlowPath<N, R>>,
+    pub forwarders: Desk<N, Forwarder<N, R, K>>,
+    pub berths: Berths<N, S, K, G, R>,
+    pub space: Space<N, S, K>,
+}
+
+fn book_for<N: Router>(
+    alloc: Global,
+    blank: Blank,
+    links: usize,
+    processors: usize,
+) -> Result<(Book<N>, Vec<Share<N>>), AllocError>
+    requires name { blank.table ≡ N.table }
+    requires few { (links ≤ 33) × (processors ≤ 16) }
+    requires workers { N.workers ≡ 2 * links + processors + 1 }
+    ensures { IfOk result (λ r. AreNewShares (2 * links + processors + 1) r.1.items) }
+{
+    let made = Book::new(alloc, blank, 2 * links + processors + 1)?;
+    Ok(made)
+}
+
+/// It is given no device, so that each stays with the caller where memory runs out.
+pub fn prepare<N, S, K, G, R>(
+    rt: R,
+    alloc: Global,
+    blank: Blank,
+    config: Config,
+    gate: G,
+) -> Result<Prepared<N, S, K, G, R>, AllocError>
+where
+    N: Router,
+    S: Source + Drop,
+    K: Sink + Drop,
+    G: Gate + Drop,
+    R: Wait + Copy,
+    requires name { blank.table ≡ N.table }
+    requires config { N.config ≡ Some config }
+    requires workers { N.workers ≡ 2 * link_count config + config.processors + 1 }
+    ensures shared { IfOk result (λ p. (arc_value p.shared).config ≡ config) }
+    ensures makings { IfOk result (λ p. AreMakings config (piping p.makings.pipes.inner.items p.makings.pipes.middle p.makings.pipes.outer.items) p.makings.pipes.inner_rooms.items p.makings.pipes.outer_rooms.items p.makings.receivers.items p.makings.processors.items p.makings.slow p.makings.forwarders.items p.makings.shutters.items) }
+    ensures receivers { IfOk result (λ p. (p.receivers.workers.items ≡ []) × (vec_capacity p.receivers.workers ≡ link_count config) × (p.receivers.room.items ≡ []) × (vec_capacity p.receivers.room ≡ link_count config)) }
+    ensures processors { IfOk result (λ p. (p.processors.room.items ≡ []) × (vec_capacity p.processors.room ≡ config.processors)) }
+    ensures slow { IfOk result (λ p. (p.slow.workers.items ≡ []) × (vec_capacity p.slow.workers ≡ 1) × (p.slow.room.items ≡ []) × (vec_capacity p.slow.room ≡ 1)) }
+    ensures forwarders { IfOk result (λ p. (p.forwarders.workers.items ≡ []) × (vec_capacity p.forwarders.workers ≡ link_count config) × (p.forwarders.room.items ≡ []) × (vec_capacity p.forwarders.room ≡ link_count config)) }
+    ensures berths { IfOk result (λ p. HaveBerths (link_count config) config.processors p.berths) }
+    ensures space { IfOk result (λ p. HaveSpace (link_count config) config.processors p.space) }
+{
+    let links = link_count(&config);
+    let processors = usize::from(config.processors);
+    let shared = Arc::new(alloc, Shared::new(config))?;
+    let word = Arc::new(alloc, AtomicU64::new(HOLD))?;
+    let (book, shares) = book_for(alloc, blank, links, processors)?;
+    let book = Arc::new(alloc, book)?;
+    let events = events_for(alloc, links, processors)?;
+    let makings = make_all(rt, alloc, &shared, &word, gate, shares, &events)?;
+    let orders = Orders::new(word, book);
+    let Events {
+        processors: each,
+        slow,
+        forwarders,
+    } = events;
+    let receiving = desk_for(alloc, &orders, &[], links)?;
+    let working = desk_for(alloc, &orders, each.as_slice(), processors)?;
+    let answering = desk_for(alloc, &orders, &[slow], 1)?;
+    let forwarding = desk_for(alloc, &orders, forwarders.as_slice(), links)?;
+    let berths = berths_for(alloc, links, processors)?;
+    let space = space_for(alloc, links, processors)?;
+    Ok(Prepared {
+        shared,
+        orders,
+        forwarder_events: forwarders,
+        makings,
+        receivers: receiving,
+        processors: working,
+        slow: answering,
+        forwarders: forwarding,
+        berths,
+        space,
+    })
+}

@@ -1,0 +1,147 @@
+//! Room for all that comes back, taken before the first thread is made.
+
+ghost use Rattle.std.specs.Prelude.{◌≡◌, ◌≤◌, ◌+◌, ◌*◌, IfOk, length};
+ghost use Rattle.pipe_order.specs.Deeds.{Each};
+ghost use Rattle.run_parts.specs.Room.{HaveBerths, HaveSpace, IsRoomy};
+
+use packet_ledger::Share;
+use router_ends::Ends;
+use router_stages::{Forwarder, Processor, Receiver, SlowPath};
+use ruled_pipe::Consumer;
+use stage_parts::{Gate, Packet, Parcel, Question, Router, Sink, Source};
+use std::alloc::{AllocError, Global};
+use std::marker::Model;
+use std::sync::Wait;
+
+/// Room for the workers.
+#[derive(Drop)]
+pub struct Berths<N, S, K, G, R>
+where
+    N: Router,
+    S: Source + Drop,
+    K: Sink + Drop,
+    G: Gate + Drop,
+    R: Wait + Copy,
+{
+    pub receivers: Vec<Receiver<N, R, S>>,
+    pub processors: Vec<Processor<N, R, G>>,
+    pub slow: Vec<SlowPath<N, R>>,
+    pub forwarders: Vec<Forwarder<N, R, K>>,
+}
+
+impl<N, S, K, G, R> Model for Berths<N, S, K, G, R>
+where
+    N: Router,
+    S: Source + Drop,
+    K: Sink + Drop,
+    G: Gate + Drop,
+    R: Wait + Copy,
+{
+    ghost use Rattle.std.specs.Prelude.{◌≡◌, [], vec_capacity};
+    ghost use Rattle.run_parts.specs.Room.{Berths as Seen};
+
+    ghost Value = { Seen };
+
+    ghost view = { λ r. record { receivers = vec_capacity r.receivers; processors = vec_capacity r.processors; slow = vec_capacity r.slow; forwarders = vec_capacity r.forwarders } };
+
+    ghost invariant = { λ r. (r.receivers.items ≡ []) × (r.processors.items ≡ []) × (r.slow.items ≡ []) × (r.forwarders.items ≡ []) };
+}
+
+/// Room for the workers' ends and shares, and for what is reported.
+#[derive(Drop)]
+pub struct Space<N: Router, S, K> {
+    pub inner_rows: Vec<Ends<Packet<N>>>,
+    pub inner_bundles: Vec<Ends<Packet<N>>>,
+    pub inner_takers: Vec<Consumer<Packet<N>>>,
+    pub middle_row: Ends<Question<N>>,
+    pub outer_rows: Vec<Ends<Parcel<N>>>,
+    pub outer_bundles: Vec<Ends<Parcel<N>>>,
+    pub outer_takers: Vec<Consumer<Parcel<N>>>,
+    pub shares: Vec<Share<N>>,
+    pub sent: Vec<u128>,
+    pub sources: Vec<S>,
+    pub sinks: Vec<K>,
+}
+
+impl<N: Router, S, K> Model for Space<N, S, K> {
+    ghost use Rattle.std.specs.Prelude.{◌≡◌, [], vec_capacity};
+    ghost use Rattle.run_parts.specs.Room.{Space as Seen};
+
+    ghost Value = { Seen };
+
+    ghost view = { λ r. record { inner_rows = r.inner_rows.items; inner_bundles = vec_capacity r.inner_bundles; inner_takers = vec_capacity r.inner_takers; middle_row = r.middle_row; outer_rows = r.outer_rows.items; outer_bundles = vec_capacity r.outer_bundles; outer_takers = vec_capacity r.outer_takers; shares = vec_capacity r.shares; sent = vec_capacity r.sent; sources = vec_capacity r.sources; sinks = vec_capacity r.sinks } };
+
+    ghost invariant = { λ r. (r.inner_bundles.items ≡ []) × (r.inner_takers.items ≡ []) × (r.outer_bundles.items ≡ []) × (r.outer_takers.items ≡ []) × (r.shares.items ≡ []) × (r.sent.items ≡ []) × (r.sources.items ≡ []) × (r.sinks.items ≡ []) };
+}
+
+// So many empty rows for the ends of so many pipes.
+fn rows_of<T: Drop>(alloc: Global, workers: usize, pipes: usize) -> Result<Vec<Ends<T>>, AllocError>
+    ensures { IfOk result (λ v. Each (IsRoomy pipes) v.items × (length v.items ≡ workers)) }
+{
+    let mut rows = Vec::with_capacity(alloc, workers)?;
+    for k in 0..workers {
+        rows.push_reserved(Ends::with_room(alloc, pipes)?);
+    }
+    Ok(rows)
+}
+
+/// Room for the workers of a router with so many links and processors.
+pub fn berths_for<N, S, K, G, R>(
+    alloc: Global,
+    links: usize,
+    processors: usize,
+) -> Result<Berths<N, S, K, G, R>, AllocError>
+where
+    N: Router,
+    S: Source + Drop,
+    K: Sink + Drop,
+    G: Gate + Drop,
+    R: Wait + Copy,
+    ensures { IfOk result (λ r. HaveBerths links processors r) }
+{
+    let receivers = Vec::<Receiver<N, R, S>>::with_capacity(alloc, links)?;
+    let workers = Vec::<Processor<N, R, G>>::with_capacity(alloc, processors)?;
+    let slow = Vec::<SlowPath<N, R>>::with_capacity(alloc, 1)?;
+    let forwarders = Vec::<Forwarder<N, R, K>>::with_capacity(alloc, links)?;
+    Ok(Berths {
+        receivers,
+        processors: workers,
+        slow,
+        forwarders,
+    })
+}
+
+/// Room for all else of such a router.
+pub fn space_for<N: Router, S: Drop, K: Drop>(
+    alloc: Global,
+    links: usize,
+    processors: usize,
+) -> Result<Space<N, S, K>, AllocError>
+    requires few { (links ≤ 33) × (processors ≤ 16) }
+    ensures { IfOk result (λ r. HaveSpace links processors r) }
+{
+    let inner_rows = rows_of(alloc, links, processors)?;
+    let inner_bundles = Vec::<Ends<Packet<N>>>::with_capacity(alloc, links)?;
+    let inner_takers = Vec::<Consumer<Packet<N>>>::with_capacity(alloc, processors)?;
+    let middle_row = Ends::with_room(alloc, processors)?;
+    let outer_rows = rows_of(alloc, processors + 2, 2 * links)?;
+    let outer_bundles = Vec::<Ends<Parcel<N>>>::with_capacity(alloc, processors + 2)?;
+    let outer_takers = Vec::<Consumer<Parcel<N>>>::with_capacity(alloc, 2 * links)?;
+    let shares = Vec::<Share<N>>::with_capacity(alloc, 2 * links + processors + 1)?;
+    let sent = Vec::<u128>::with_capacity(alloc, links)?;
+    let sources = Vec::<S>::with_capacity(alloc, links)?;
+    let sinks = Vec::<K>::with_capacity(alloc, links)?;
+    Ok(Space {
+        inner_rows,
+        inner_bundles,
+        inner_takers,
+        middle_row,
+        outer_rows,
+        outer_bundles,
+        outer_takers,
+        shares,
+        sent,
+        sources,
+        sinks,
+    })
+}
