@@ -89,6 +89,12 @@ faults: bin/router
 	tests/faults/run.sh
 	tests/faults/input.sh
 
+.PHONY: docs-check
+
+# Runs the commands that the documents show, and compares their output; it needs python3 too.
+docs-check: bin/router
+	tests/docs/check.py
+
 MINUTES ?= 1
 .PHONY: soak
 
