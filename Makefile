@@ -101,3 +101,11 @@ MINUTES ?= 1
 # Floods the router over loopback for some minutes, and looks whether it accounts for all that it read; it needs cc too.
 soak: bin/router
 	MINUTES=$(MINUTES) tests/soak/run.sh
+
+.PHONY: pictures
+
+# Draws the pictures of docs/ from their sources and from crates.txt; it needs python3 and Graphviz's dot too.
+pictures:
+	docs/pictures/crates.py > docs/pictures/crates.dot
+	dot -Tsvg docs/pictures/crates.dot -o docs/pictures/crates.svg
+	dot -Tsvg docs/pictures/pipeline.dot -o docs/pictures/pipeline.svg

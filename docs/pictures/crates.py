@@ -1,0 +1,80 @@
+#!/usr/bin/env python3
+"""Draws the layers of crates: reads crates.txt (or the file that is named), writes the picture's source for `dot`.
+
+Crates of tests, samples and benches are left out, and so is an edge to a crate that is reached by other edges too. A crate that
+is in no layer below stops the script, so that a new one finds its place.
+"""
+
+import os
+import sys
+
+TOP = os.path.dirname(os.path.dirname(os.path.dirname(os.path.abspath(__file__))))
+
+# Each layer's title, colour and crates, lowest first.
+LAYERS = [
+    ("packets", "#dbe9f6", "field_rows scion_packet"),
+    ("formats", "#dbe9f6", "scion_header path_fields"),
+    ("ciphers", "#dbe9f6", "aes128_core cmac_core"),
+    ("rules of a hop, a pair, a flow", "#dbe9f6", "hop_check segment_switch flow_key"),
+    ("decision and answers", "#d5ecd4", "process_packet walk_laws scmp_answer"),
+    ("model of the pipeline", "#fdeec9", "pipe_order router_rules pipe_parts pipe_model"),
+    ("between threads", "#f8dcd3", "ruled_pipe packet_ledger"),
+    ("laws of workers", "#fdeec9", "stage_laws router_laws"),
+    ("workers", "#f8dcd3", "stage_parts router_stages"),
+    ("threads, and the run", "#f8dcd3", "worker_threads router_ends run_laws run_parts router_run"),
+    ("sockets", "#f8dcd3", "udp_devices"),
+    ("text and commands", "#e6def0", "text_values router_config router_lines router_engine run_engine udp_router command_words router_faults router_program"),
+]
+LEFT_OUT = {"cipher_vectors", "path_probe"}
+
+
+def is_left_out(name):
+    return name in LEFT_OUT or name.endswith(("_tests", "_bench")) or name.startswith("sample_")
+
+
+def read_crates(path):
+    """Each crate with the crates of this repository that it uses."""
+    uses = {}
+    with open(path, encoding="utf-8") as file:
+        for line in file:
+            line = line.split("#")[0].strip()
+            if line:
+                head, _, rest = line.partition(":")
+                uses[head.split()[0]] = rest.split()
+    kept = [name for name in uses if not is_left_out(name)]
+    return {name: [used for used in uses[name] if used in kept] for name in kept}
+
+
+def reached(uses, name):
+    found = set()
+    for used in uses[name]:
+        found |= {used} | reached(uses, used)
+    return found
+
+
+def main():
+    uses = read_crates(os.path.join(TOP, "crates.txt") if len(sys.argv) < 2 else sys.argv[1])
+    drawn = [name for _, _, names in LAYERS for name in names.split()]
+    missing = set(uses) - set(drawn)
+    if missing:
+        sys.exit(f"these crates have no layer: {' '.join(sorted(missing))}")
+    print("// Made by docs/pictures/crates.py from crates.txt: `make pictures`.")
+    print("digraph crates {")
+    print('  rankdir = BT; nodesep = 0.18; ranksep = 0.35; newrank = true; fontname = "Helvetica"; fontsize = 13;')
+    print('  node [shape = box, style = "rounded,filled", fillcolor = white, fontname = "Helvetica", fontsize = 13, height = 0.3, margin = "0.1,0.04"];')
+    print('  edge [color = "#666666", arrowsize = 0.6, dir = back];')
+    for number, (title, colour, names) in enumerate(LAYERS):
+        present = [name for name in names.split() if name in uses]
+        print(f"  subgraph cluster_{number} {{")
+        print(f'    label = "{title}"; style = "rounded,filled"; color = "{colour}"; labeljust = r; labelloc = b; margin = 10;')
+        for name in present:
+            print(f"    {name};")
+        print("  }")
+    for name in uses:
+        for used in uses[name]:
+            if not any(used in reached(uses, other) for other in uses[name] if other != used):
+                print(f"  {used} -> {name};")
+    print("}")
+
+
+main()
