@@ -10,12 +10,10 @@ use Rattle.ruled_pipe.specs.Consumer.{Taker}
 use Rattle.ruled_pipe.specs.Pipe.{Shape, IsEndOf}
 use Rattle.router_laws.specs.Returned.{AllAt}
 use Rattle.router_rules.specs.Rules.{kinds}
-use Rattle.router_stages.specs.Answering.{Answering}
 use Rattle.router_stages.specs.Working.{Working}
 use Rattle.stage_parts.specs.Outlet.{Offering}
 use Rattle.stage_parts.specs.Outlets.{AreFresh, senders}
 use Rattle.router_ends.specs.Rows.{AreEndsOf, AreFor, Row, fresh_ends}
-use Rattle.run_laws.specs.Crew.{IsAnsweringAt, IsTakerOf}
 use Rattle.run_parts.specs.Dealing.{IsLong, IsNewEnd, IsTakerThere, piping}
 use Rattle.run_parts.specs.Kits.{IsWorkingThere}
 use Rattle.run_parts.specs.Rest.{AreNewShares, HaveGone, IsRest}
@@ -60,15 +58,6 @@ module _ {G : Type 0} where
           fresh = fresh;
         };
       }
-
-pub answering_at : (c : Config) (inner outer : List Shape) (middle : Shape) (t : Taker (Question kinds)) (links : List (Offering (Outgoing kinds))) (a : Answering)
-    → IsTakerOf middle t → AreEndsOf c.processors outer (senders links) → a.side.config ≡ c → (a.taker ≡ t) × (a.side.links ≡ links) → AreFresh a.side.links → IsAnsweringAt c (piping inner middle outer) a
-answering_at c inner outer middle t links a from are config same fresh = record {
-  config = config;
-  taker = subst (λ (x : Taker (Question kinds)). IsTakerOf middle x) (sym same.0) from;
-  links = subst (λ (xs : List (Offering (Outgoing kinds))). AreEndsOf c.processors outer (senders xs)) (sym same.1) are;
-  fresh = fresh;
-}
 
 module _ {X : Type 0} where
   pub all_none : (P : ℕ → X → Type 0) (n : ℕ) (xs : List X) → xs ≡ [] → AllAt P n xs

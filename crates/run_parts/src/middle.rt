@@ -5,6 +5,7 @@ ghost use Rattle.std.specs.Arc.{arc_value};
 ghost use Rattle.packet_ledger.specs.Share.{new_share};
 ghost use Rattle.router_rules.specs.Links.{link_count};
 ghost use Rattle.ruled_pipe.specs.Pipe.{Shape};
+ghost use Rattle.run_laws.specs.Crew.{IsAnsweringAt, IsTakerOf};
 ghost use Rattle.stage_parts.specs.Outlets.{AreFresh, senders};
 ghost use Rattle.router_ends.specs.Rows.{AreEndsOf, AreFor, IsBundle, fresh_ends, new_takers};
 ghost use Rattle.run_parts.specs.Dealing.{IsBundleOf, IsLong, IsNewEnd, piping};
@@ -12,6 +13,7 @@ ghost use Rattle.run_parts.specs.Kits.{IsWorkingThere};
 ghost use Rattle.run_parts.specs.Rest.{AreNewShares, HaveGone, IsRest};
 
 use crate::line::Line;
+use crate::pipes::Pipes;
 use crate::waking::{Events, wake};
 use packet_ledger::Share;
 use router_ends::{Ends, outlets};
@@ -44,8 +46,8 @@ impl<N: Router> Model for Ways<N> {
     ghost invariant = { λ w. AreFresh w.links.items × (w.share ≡ new_share) };
 }
 
-/// What the next worker has.
-pub fn next_ways<N: Router>(
+// What the next worker has.
+fn next_ways<N: Router>(
     alloc: Global,
     bundle: Ends<Parcel<N>>,
     free: Ends<Buffer>,
@@ -94,8 +96,8 @@ fn processor_at<N: Router, G: Gate + Drop, R: Wait + Copy>(
     Ok(Processor::new(rt, shared, index, gate, from, links, slow, free, share))
 }
 
-/// The processors, each with its consumer, its end of the slow path's pipe and its ways.
-pub fn processors_of<N: Router, G: Gate + Drop, R: Wait + Copy>(
+// The processors, each with its consumer, its end of the slow path's pipe and its ways.
+fn processors_of<N: Router, G: Gate + Drop, R: Wait + Copy>(
     rt: R,
     alloc: Global,
     shared: &Arc<Shared, Global>,
@@ -152,8 +154,8 @@ pub fn processors_of<N: Router, G: Gate + Drop, R: Wait + Copy>(
     Ok(made)
 }
 
-/// The slow path, with its consumer and its ways.
-pub fn slow_path_of<N: Router, R: Wait + Copy>(
+// The slow path, with its consumer and its ways.
+fn slow_path_of<N: Router, R: Wait + Copy>(
     rt: R,
     shared: &Arc<Shared, Global>,
     taker: Consumer<Question<N>>,
@@ -171,4 +173,91 @@ pub fn slow_path_of<N: Router, R: Wait + Copy>(
     let from = Inlet::of(taker, processors);
     let Ways { links, free, share } = ways;
     Ok(SlowPath::new(rt, shared, from, links, free, share))
+}
+
+// The slow path, which feeds the links' pipes by a new bundle.
+fn slow_path_with<N: Router, R: Wait + Copy>(
+    rt: R,
+    alloc: Global,
+    shared: &Arc<Shared, Global>,
+    taker: Consumer<Question<N>>,
+    bundle: Ends<Parcel<N>>,
+    free: Ends<Buffer>,
+    share: Share<N>,
+    events: &Events,
+) -> Result<SlowPath<N, R>, AllocError>
+    requires config { N.config ≡ Some (arc_value shared.now).config }
+    requires taker { (taker.taken ≡ []) × (taker.producers ≡ (arc_value shared.now).config.processors) }
+    requires bundle { IsBundle bundle.ends }
+    requires links { length bundle.ends ≡ 2 * link_count (arc_value shared.now).config }
+    requires free { length free.ends ≡ link_count (arc_value shared.now).config }
+    requires share { share ≡ new_share }
+    ensures config { IfOk result (λ a. a.side.config ≡ (arc_value shared.now).config) }
+    ensures taker { IfOk result (λ a. a.taker ≡ taker) }
+    ensures links { IfOk result (λ a. (p : ℕ) (shapes : List Shape) → bundle.ends ≡ fresh_ends p shapes → AreEndsOf p shapes (senders a.side.links)) }
+    ensures fresh { IfOk result (λ a. AreFresh a.side.links) }
+{
+    let ways = next_ways(alloc, bundle, free, share, events)?;
+    let slow = slow_path_of(rt, shared, taker, ways)?;
+    Ok(slow)
+}
+
+/// The processors and the slow path.
+#[derive(Drop)]
+pub struct Deciding<N: Router, G: Gate + Drop, R: Wait + Copy> {
+    pub processors: Vec<Processor<N, R, G>>,
+    pub slow: SlowPath<N, R>,
+}
+
+/// All that decide and answer, with the next ends, buffers and shares of each.
+pub fn deciding_of<N: Router, G: Gate + Drop, R: Wait + Copy>(
+    rt: R,
+    alloc: Global,
+    shared: &Arc<Shared, Global>,
+    gate: G,
+    pipes: &Pipes<N>,
+    packets: Vec<Consumer<Packet<N>>>,
+    asking: Vec<Producer<Question<N>>>,
+    asked: Consumer<Question<N>>,
+    links: &mut Line<Ends<Parcel<N>>>,
+    free: &mut Line<Ends<Buffer>>,
+    shares: &mut Line<Share<N>>,
+    events: &Events,
+) -> Result<Deciding<N, G, R>, AllocError>
+    requires config { N.config ≡ Some (arc_value shared.now).config }
+    requires pipes { (length pipes.now.inner.items ≡ (arc_value shared.now).config.processors) × AreFor (link_count (arc_value shared.now).config) pipes.now.inner.items × (length pipes.now.outer.items ≡ 2 * link_count (arc_value shared.now).config) }
+    requires packets { packets.items ≡ new_takers pipes.now.inner.items }
+    requires middle { pipes.now.middle.producers ≡ (arc_value shared.now).config.processors }
+    requires asking { IsRest (IsNewEnd pipes.now.middle) 0 (arc_value shared.now).config.processors asking.items }
+    requires asked { IsTakerOf pipes.now.middle asked × (asked.taken ≡ []) }
+    requires links { IsRest (IsBundleOf pipes.now.outer.items) 0 ((arc_value shared.now).config.processors + 2) links.old }
+    requires free { IsRest (IsLong (link_count (arc_value shared.now).config)) 0 ((arc_value shared.now).config.processors + 1 + link_count (arc_value shared.now).config) free.old }
+    requires shares { AreNewShares ((arc_value shared.now).config.processors + 1) shares.old }
+    ensures links { IfOk result (λ _. IsRest (IsBundleOf pipes.now.outer.items) ((arc_value shared.now).config.processors + 1) ((arc_value shared.now).config.processors + 2) links.new) }
+    ensures free { IfOk result (λ _. IsRest (IsLong (link_count (arc_value shared.now).config)) ((arc_value shared.now).config.processors + 1) ((arc_value shared.now).config.processors + 1 + link_count (arc_value shared.now).config) free.new) }
+    ensures shares { IfOk result (λ _. HaveGone ((arc_value shared.now).config.processors + 1) shares.old shares.new) }
+    ensures working { IfOk result (λ d. IsRest (IsWorkingThere (arc_value shared.now).config (piping pipes.now.inner.items pipes.now.middle pipes.now.outer.items)) 0 (arc_value shared.now).config.processors d.processors.items) }
+    ensures answering { IfOk result (λ d. IsAnsweringAt (arc_value shared.now).config (piping pipes.now.inner.items pipes.now.middle pipes.now.outer.items) d.slow) }
+{
+    let gate = Arc::new(alloc, gate)?;
+    let processors = processors_of(
+        rt,
+        alloc,
+        shared,
+        &gate,
+        &pipes.inner,
+        &pipes.middle,
+        &pipes.outer,
+        packets,
+        asking,
+        links,
+        free,
+        shares,
+        events,
+    )?;
+    let bundle = links.next();
+    let back = free.next();
+    let share = shares.next();
+    let slow = slow_path_with(rt, alloc, shared, asked, bundle, back, share, events)?;
+    Ok(Deciding { processors, slow })
 }

@@ -14,10 +14,7 @@ use std::alloc::{AllocError, Global};
 use std::sync::Wait;
 
 /// The processors' pipes, with the receivers as their producers.
-pub fn inner_pipes<N: Router>(
-    alloc: Global,
-    shared: &Shared,
-) -> Result<Dealt<Packet<N>>, AllocError>
+fn inner_pipes<N: Router>(alloc: Global, shared: &Shared) -> Result<Dealt<Packet<N>>, AllocError>
     ensures { IfOk result (λ d. IsDealing (link_count shared.now.config) shared.now.config.processors d.pipes.items d.rooms.items d.takers.items d.bundles.items) }
 {
     let links = link_count(&shared.config);
@@ -54,10 +51,7 @@ fn open_outer<N: Router>(alloc: Global, shared: &Shared) -> Result<Opened<Parcel
 
 /// The links' pipes, two of each, with processors, slow path and controller as their producers. The high
 /// band's of a link with one band isn't used.
-pub fn outer_pipes<N: Router>(
-    alloc: Global,
-    shared: &Shared,
-) -> Result<Dealt<Parcel<N>>, AllocError>
+fn outer_pipes<N: Router>(alloc: Global, shared: &Shared) -> Result<Dealt<Parcel<N>>, AllocError>
     ensures { IfOk result (λ d. IsDealing (shared.now.config.processors + 2) (2 * link_count shared.now.config) d.pipes.items d.rooms.items d.takers.items d.bundles.items) }
 {
     let opened = open_outer(alloc, shared)?;
@@ -73,7 +67,7 @@ pub struct Free {
 }
 
 /// The pipes of free buffers, filled.
-pub fn free_pipes<R: Wait>(rt: &R, alloc: Global, shared: &Shared) -> Result<Free, AllocError>
+fn free_pipes<R: Wait>(rt: &R, alloc: Global, shared: &Shared) -> Result<Free, AllocError>
     ensures { IfOk result (λ f. AreFree shared.now.config f.takers.items f.bundles.items) }
 {
     let links = link_count(&shared.config);
@@ -129,7 +123,7 @@ pub struct Pipes<N: Router> {
 }
 
 /// The slow path's pipe, with the processors as its producers.
-pub fn middle_pipe<N: Router>(
+fn middle_pipe<N: Router>(
     alloc: Global,
     shared: &Shared,
 ) -> Result<
@@ -148,4 +142,58 @@ pub fn middle_pipe<N: Router>(
     let capacity = shared.config.capacity as usize;
     let made = Pipe::new(alloc, capacity, processors)?;
     Ok(made)
+}
+
+/// The pipes, with all their ends before any worker has them.
+#[derive(Drop)]
+pub struct AllPipes<N: Router> {
+    pub pipes: Pipes<N>,
+    /// The receivers' ends.
+    pub to_processors: Vec<Ends<Packet<N>>>,
+    /// The processors' consumers.
+    pub packets: Vec<Consumer<Packet<N>>>,
+    /// The processors' ends of the slow path's pipe.
+    pub asking: Vec<Producer<Question<N>>>,
+    /// The slow path's consumer.
+    pub asked: Consumer<Question<N>>,
+    /// The processors', the slow path's and the controller's ends of the links' pipes.
+    pub to_links: Vec<Ends<Parcel<N>>>,
+    /// The forwarders' consumers.
+    pub parcels: Vec<Consumer<Parcel<N>>>,
+    pub free: Free,
+}
+
+/// Opens them all.
+pub fn all_pipes<N: Router, R: Wait>(
+    rt: &R,
+    alloc: Global,
+    shared: &Shared,
+) -> Result<AllPipes<N>, AllocError>
+    ensures inner { IfOk result (λ a. IsDealing (link_count shared.now.config) shared.now.config.processors a.pipes.inner.items a.pipes.inner_rooms.items a.packets.items a.to_processors.items) }
+    ensures middle { IfOk result (λ a. a.pipes.middle.producers ≡ shared.now.config.processors) }
+    ensures asking { IfOk result (λ a. IsRest (IsNewEnd a.pipes.middle) 0 shared.now.config.processors a.asking.items) }
+    ensures asked { IfOk result (λ a. IsTakerOf a.pipes.middle a.asked × (a.asked.taken ≡ [])) }
+    ensures outer { IfOk result (λ a. IsDealing (shared.now.config.processors + 2) (2 * link_count shared.now.config) a.pipes.outer.items a.pipes.outer_rooms.items a.parcels.items a.to_links.items) }
+    ensures free { IfOk result (λ a. AreFree shared.now.config a.free.takers.items a.free.bundles.items) }
+{
+    let inner = inner_pipes(alloc, shared)?;
+    let (middle, asking, asked) = middle_pipe(alloc, shared)?;
+    let outer = outer_pipes(alloc, shared)?;
+    let free = free_pipes(rt, alloc, shared)?;
+    Ok(AllPipes {
+        pipes: Pipes {
+            inner: inner.pipes,
+            inner_rooms: inner.rooms,
+            middle,
+            outer: outer.pipes,
+            outer_rooms: outer.rooms,
+        },
+        to_processors: inner.bundles,
+        packets: inner.takers,
+        asking,
+        asked,
+        to_links: outer.bundles,
+        parcels: outer.takers,
+        free,
+    })
 }

@@ -11,13 +11,13 @@ ghost use Rattle.run_parts.specs.Makings.{AreMakings};
 use crate::entering::{Entering, all_entering};
 use crate::leaving::{Leaving, all_leaving};
 use crate::line::Line;
-use crate::middle::{next_ways, processors_of, slow_path_of};
-use crate::pipes::{Free, Pipes, free_pipes, inner_pipes, middle_pipe, outer_pipes};
+use crate::middle::{Deciding, deciding_of};
+use crate::pipes::{AllPipes, Pipes, all_pipes};
 use crate::reserve::{Berths, Space, berths_for, space_for};
 use crate::waking::{Events, events_for};
 use packet_ledger::{Blank, Book, Share};
 use process_packet::Config;
-use router_ends::{Dealt, Shutter, shutters};
+use router_ends::{Shutter, shutters};
 use router_rules::{Shared, link_count};
 use router_stages::{Forwarder, Processor, Receiver, SlowPath};
 use stage_parts::{Event, Gate, Parcel, Router, Sink, Source};
@@ -52,66 +52,45 @@ fn make_all<N: Router, G: Gate + Drop, R: Wait + Copy>(
 {
     // At most 33, which bounds the controller's ends.
     let _ = link_count(&shared.config);
-    let gate = Arc::new(alloc, gate)?;
-    let Dealt {
-        pipes: inner,
-        rooms: inner_rooms,
-        takers: from_receivers,
-        bundles: to_processors,
-    } = inner_pipes(alloc, shared)?;
-    let (middle, asking, asked) = middle_pipe(alloc, shared)?;
-    let Dealt {
-        pipes: outer,
-        rooms: outer_rooms,
-        takers: from_all,
-        bundles: to_links,
-    } = outer_pipes(alloc, shared)?;
-    let Free {
-        takers: free,
-        bundles: back,
-    } = free_pipes(&rt, alloc, shared)?;
+    let AllPipes {
+        pipes,
+        to_processors,
+        packets,
+        asking,
+        asked,
+        to_links,
+        parcels,
+        free,
+    } = all_pipes(&rt, alloc, shared)?;
     let mut shares = Line::of(shares);
     let mut links = Line::of(to_links);
-    let mut back = Line::of(back);
+    let mut back = Line::of(free.bundles);
     let receivers = all_entering(
         alloc,
         shared,
         stop,
-        &inner,
+        &pipes.inner,
         to_processors,
-        free,
+        free.takers,
         &mut shares,
         events,
     )?;
-    let processors = processors_of(
+    let Deciding { processors, slow } = deciding_of(
         rt,
         alloc,
         shared,
-        &gate,
-        &inner,
-        &middle,
-        &outer,
-        from_receivers,
+        gate,
+        &pipes,
+        packets,
         asking,
+        asked,
         &mut links,
         &mut back,
         &mut shares,
         events,
     )?;
-    let slow_bundle = links.next();
-    let slow_back = back.next();
-    let slow_share = shares.next();
-    let ways = next_ways(alloc, slow_bundle, slow_back, slow_share, events)?;
-    let slow = slow_path_of(rt, shared, asked, ways)?;
     let shutters = shutters(alloc, shared, links.next())?;
-    let forwarders = all_leaving(alloc, shared, &outer, from_all, &mut back, &mut shares)?;
-    let pipes = Pipes {
-        inner,
-        inner_rooms,
-        middle,
-        outer,
-        outer_rooms,
-    };
+    let forwarders = all_leaving(alloc, shared, &pipes.outer, parcels, &mut back, &mut shares)?;
     Ok(Makings {
         receivers,
         processors,
@@ -152,6 +131,98 @@ fn desk_for<N: Router, W: Work<N> + Drop>(
         workers,
         orders: each,
         room,
+    })
+}
+
+/// The desks of all workers, and the forwarders' events.
+#[derive(Drop)]
+struct Desks<N, S, K, G, R>
+where
+    N: Router,
+    S: Source + Drop,
+    K: Sink + Drop,
+    G: Gate + Drop,
+    R: Wait + Copy,
+{
+    receivers: Desk<N, Receiver<N, R, S>>,
+    processors: Desk<N, Processor<N, R, G>>,
+    slow: Desk<N, SlowPath<N, R>>,
+    forwarders: Desk<N, Forwarder<N, R, K>>,
+    forwarder_events: Vec<Event>,
+}
+
+fn desks_for<N, S, K, G, R>(
+    alloc: Global,
+    orders: &Orders<N>,
+    events: Events,
+    links: usize,
+    processors: usize,
+) -> Result<Desks<N, S, K, G, R>, AllocError>
+where
+    N: Router,
+    S: Source + Drop,
+    K: Sink + Drop,
+    G: Gate + Drop,
+    R: Wait + Copy,
+    ensures receivers { IfOk result (λ d. (d.receivers.workers.items ≡ []) × (vec_capacity d.receivers.workers ≡ links) × (d.receivers.room.items ≡ []) × (vec_capacity d.receivers.room ≡ links)) }
+    ensures processors { IfOk result (λ d. (d.processors.room.items ≡ []) × (vec_capacity d.processors.room ≡ processors)) }
+    ensures slow { IfOk result (λ d. (d.slow.workers.items ≡ []) × (vec_capacity d.slow.workers ≡ 1) × (d.slow.room.items ≡ []) × (vec_capacity d.slow.room ≡ 1)) }
+    ensures forwarders { IfOk result (λ d. (d.forwarders.workers.items ≡ []) × (vec_capacity d.forwarders.workers ≡ links) × (d.forwarders.room.items ≡ []) × (vec_capacity d.forwarders.room ≡ links)) }
+{
+    let Events {
+        processors: each,
+        slow,
+        forwarders: ends,
+    } = events;
+    let receivers = desk_for(alloc, orders, &[], links)?;
+    let working = desk_for(alloc, orders, each.as_slice(), processors)?;
+    let answering = desk_for(alloc, orders, &[slow], 1)?;
+    let forwarders = desk_for(alloc, orders, ends.as_slice(), links)?;
+    Ok(Desks {
+        receivers,
+        processors: working,
+        slow: answering,
+        forwarders,
+        forwarder_events: ends,
+    })
+}
+
+/// What the workers share: the configuration, the word that stops them, the book with its shares, and the
+/// events.
+#[derive(Drop)]
+struct Common<N: Router> {
+    shared: Arc<Shared, Global>,
+    word: Arc<AtomicU64, Global>,
+    book: Arc<Book<N>, Global>,
+    shares: Vec<Share<N>>,
+    events: Events,
+}
+
+fn common_for<N: Router>(
+    alloc: Global,
+    blank: Blank,
+    config: Config,
+    links: usize,
+) -> Result<Common<N>, AllocError>
+    requires name { blank.table ≡ N.table }
+    requires links { links ≡ link_count config }
+    requires few { links ≤ 33 }
+    requires workers { N.workers ≡ 2 * link_count config + config.processors + 1 }
+    ensures shared { IfOk result (λ c. (arc_value c.shared).config ≡ config) }
+    ensures shares { IfOk result (λ c. AreNewShares (2 * link_count config + config.processors + 1) c.shares.items) }
+{
+    let processors = usize::from(config.processors);
+    let events = events_for(alloc, links, processors)?;
+    let word = Arc::new(alloc, AtomicU64::new(HOLD))?;
+    let (book, shares) = book_for(alloc, blank, links, processors)?;
+    let book = Arc::new(alloc, book)?;
+    let shared = Arc::new(alloc, Shared::new(config))?;
+    Ok(Common {
+        shared,
+        word,
+        book,
+        shares,
+        events,
     })
 }
 
@@ -220,33 +291,33 @@ where
 {
     let links = link_count(&config);
     let processors = usize::from(config.processors);
-    let shared = Arc::new(alloc, Shared::new(config))?;
-    let word = Arc::new(alloc, AtomicU64::new(HOLD))?;
-    let (book, shares) = book_for(alloc, blank, links, processors)?;
-    let book = Arc::new(alloc, book)?;
-    let events = events_for(alloc, links, processors)?;
-    let makings = make_all(rt, alloc, &shared, &word, gate, shares, &events)?;
-    let orders = Orders::new(word, book);
-    let Events {
-        processors: each,
-        slow,
-        forwarders,
-    } = events;
-    let receiving = desk_for(alloc, &orders, &[], links)?;
-    let working = desk_for(alloc, &orders, each.as_slice(), processors)?;
-    let answering = desk_for(alloc, &orders, &[slow], 1)?;
-    let forwarding = desk_for(alloc, &orders, forwarders.as_slice(), links)?;
     let berths = berths_for(alloc, links, processors)?;
     let space = space_for(alloc, links, processors)?;
+    let Common {
+        shared,
+        word,
+        book,
+        shares,
+        events,
+    } = common_for(alloc, blank, config, links)?;
+    let makings = make_all(rt, alloc, &shared, &word, gate, shares, &events)?;
+    let orders = Orders::new(word, book);
+    let Desks {
+        receivers,
+        processors,
+        slow,
+        forwarders,
+        forwarder_events,
+    } = desks_for(alloc, &orders, events, links, processors)?;
     Ok(Prepared {
         shared,
         orders,
-        forwarder_events: forwarders,
+        forwarder_events,
         makings,
-        receivers: receiving,
-        processors: working,
-        slow: answering,
-        forwarders: forwarding,
+        receivers,
+        processors,
+        slow,
+        forwarders,
         berths,
         space,
     })

@@ -1,4 +1,4 @@
-use Rattle.std.proofs.Common.{◌≡◌, ◌∙◌, slice_set, sym, ap}
+use Rattle.std.proofs.Common.{◌∙◌, slice_set, ap}
 use Rattle.stage_parts.specs.Outlet.{Offering}
 use Rattle.run_parts.proofs.WakingLemmas.{set_same}
 use Rattle.run_parts.proofs.waking.wake.Goals as goal
