@@ -88,6 +88,17 @@ fn socket_at<R: Net>(rt: &R, host: ([u8; 4], u16)) -> io::Result<UdpSocket> {
     Ok(socket)
 }
 
+/// The sockets of two hosts.
+fn sockets_at<R: Net>(
+    rt: &R,
+    near: ([u8; 4], u16),
+    far: ([u8; 4], u16),
+) -> io::Result<(UdpSocket, UdpSocket)> {
+    let near = socket_at(rt, near)?;
+    let far = socket_at(rt, far)?;
+    Ok((near, far))
+}
+
 /// The two hosts with their sockets, the way into the network, and the segments between them.
 #[derive(Drop)]
 struct Probe {
@@ -126,12 +137,54 @@ fn entry_of(router: &Router) -> io::Result<SocketAddr> {
 /// The present minute.
 fn minute<R: Clock>(rt: &R) -> io::Result<u32> {
     let Ok(since) = SystemTime::now(rt)?.duration_since(UNIX_EPOCH) else {
-        return Err(refused("the clock stands before 1970"));
+        return Err(refused("the clock is before 1970"));
     };
     match u32::try_from(since.as_secs() / 60 * 60) {
         Ok(minute) => Ok(minute),
-        Err(_) => Err(refused("the clock stands behind 2106")),
+        Err(_) => Err(refused("the clock is after 2106")),
     }
+}
+
+/// The routers of the path, in its order.
+#[derive(Drop)]
+struct Routers {
+    first: Router,
+    entering: Router,
+    leaving: Router,
+    last: Router,
+}
+
+/// The routers of four configurations.
+fn routers_at<R: Files + AllocGlobal>(
+    rt: &R,
+    first: &str,
+    entering: &str,
+    leaving: &str,
+    last: &str,
+) -> io::Result<Routers> {
+    let first = router_at(rt, first)?;
+    let entering = router_at(rt, entering)?;
+    let leaving = router_at(rt, leaving)?;
+    let last = router_at(rt, last)?;
+    Ok(Routers {
+        first,
+        entering,
+        leaving,
+        last,
+    })
+}
+
+/// The places of the two hosts, and the way into the network.
+fn places_of(
+    routers: &Routers,
+    from: [u8; 4],
+    to: [u8; 4],
+) -> io::Result<(Place, Place, SocketAddr)> {
+    Ok((
+        place_of(&routers.first, from)?,
+        place_of(&routers.last, to)?,
+        entry_of(&routers.first)?,
+    ))
 }
 
 /// The probe that the words ask for.
@@ -139,20 +192,25 @@ fn probe_of<R: Files + Net + Clock + AllocGlobal>(rt: &R, words: &[String]) -> i
     let [from, to, first, entering, leaving, last] = words else {
         return Err(refused("FROM TO FIRST CORE CORE LAST"));
     };
-    let (from, to) = (host_at(from.as_str())?, host_at(to.as_str())?);
-    let first = router_at(rt, first.as_str())?;
-    let entering = router_at(rt, entering.as_str())?;
-    let leaving = router_at(rt, leaving.as_str())?;
-    let last = router_at(rt, last.as_str())?;
+    let (near, far) = (host_at(from.as_str())?, host_at(to.as_str())?);
     let now = minute(rt)?;
+    let routers = routers_at(
+        rt,
+        first.as_str(),
+        entering.as_str(),
+        leaving.as_str(),
+        last.as_str(),
+    )?;
+    let (from, to, entry) = places_of(&routers, near.0, far.0)?;
+    let (near, far) = sockets_at(rt, near, far)?;
     Ok(Probe {
-        from: place_of(&first, from.0)?,
-        to: place_of(&last, to.0)?,
-        entry: entry_of(&first)?,
-        near: socket_at(rt, from)?,
-        far: socket_at(rt, to)?,
-        up: segment_over(entering.end, first.end, 0x1234, now),
-        down: segment_over(leaving.end, last.end, 0x5678, now),
+        from,
+        to,
+        entry,
+        near,
+        far,
+        up: segment_over(routers.entering.end, routers.first.end, 0x1234, now),
+        down: segment_over(routers.leaving.end, routers.last.end, 0x5678, now),
     })
 }
 
@@ -210,6 +268,24 @@ impl Probe {
             "{sequence} {isd}-{high:x}:{middle:x}:{low:x} interface {interface}, after {micros} us"
         )
     }
+
+    /// Sends one packet, and then asks the router at each interface of the path.
+    fn try_all<R: Clock + Print + AllocGlobal>(&self, rt: &R) -> io::Result<()> {
+        self.ping(rt)?;
+        self.trace(rt, 1, Asked::Leaving)?;
+        self.trace(rt, 2, Asked::EnteringCore)?;
+        self.trace(rt, 3, Asked::LeavingCore)?;
+        self.trace(rt, 4, Asked::Entering)
+    }
+}
+
+/// The words after the program's name.
+fn words_of<R: Env + AllocGlobal>(rt: &R) -> io::Result<Vec<String>> {
+    let mut words = Vec::new(rt.alloc());
+    for word in env::args(rt)?.skip(1) {
+        words.push(word)?;
+    }
+    Ok(words)
 }
 
 /// Tries the path that the words ask for.
@@ -217,21 +293,14 @@ fn try_path<R>(rt: &R) -> io::Result<()>
 where
     R: Env + Files + Net + Clock + Print + AllocGlobal,
 {
-    let mut words = Vec::new(rt.alloc());
-    for word in env::args(rt)?.skip(1) {
-        words.push(word)?;
-    }
+    let words = words_of(rt)?;
     if words.len() == 1 && words[0].as_str() == "--help" {
         return println!(rt;
             "path_probe FROM TO FIRST CORE CORE LAST: tries the path between two hosts"
         );
     }
     let probe = probe_of(rt, words.as_slice())?;
-    probe.ping(rt)?;
-    probe.trace(rt, 1, Asked::Leaving)?;
-    probe.trace(rt, 2, Asked::EnteringCore)?;
-    probe.trace(rt, 3, Asked::LeavingCore)?;
-    probe.trace(rt, 4, Asked::Entering)
+    probe.try_all(rt)
 }
 
 fn main(rt: HostRuntime) -> ExitCode {
