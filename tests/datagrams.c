@@ -41,7 +41,9 @@ static void encrypt(uint8_t state[16]) {
     }
 }
 
-void set_key(const uint8_t key[16]) {
+void set_key(void) {
+    static const uint8_t key[16] = {0x2b, 0x7e, 0x15, 0x16, 0x28, 0xae, 0xd2, 0xa6,
+                                    0xab, 0xf7, 0x15, 0x88, 0x09, 0xcf, 0x4f, 0x3c};
     fill_box();
     uint8_t constant = 1;
     memcpy(round_keys[0], key, 16);

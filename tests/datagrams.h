@@ -30,8 +30,8 @@ struct datagram {
     uint8_t expiry;
 };
 
-/* The key of the hop's MAC; it is needed before any datagram is made. */
-void set_key(const uint8_t key[16]);
+/* Expands the key of the trials' configurations; it is needed before any datagram is made. */
+void set_key(void);
 
 /* Writes the datagram as it arrives, with so many bytes of payload, and answers its length. */
 size_t arriving(const struct datagram *of, const uint8_t *payload, size_t length, uint8_t *bytes);

@@ -4,18 +4,15 @@
    seconds. */
 #define _GNU_SOURCE
 #include "../datagrams.h"
-#include "page.h"
+#include "../harness.h"
 
-#include <arpa/inet.h>
 #include <errno.h>
 #include <fcntl.h>
-#include <netinet/in.h>
 #include <poll.h>
 #include <signal.h>
 #include <stdio.h>
 #include <stdlib.h>
 #include <string.h>
-#include <sys/mman.h>
 #include <sys/socket.h>
 #include <sys/wait.h>
 #include <time.h>
@@ -24,22 +21,10 @@
 enum { MOST = 1 << 16, PATIENCE = 10000, ROUTER = 43000, NEIGHBOUR = 43010, SENT = 4 };
 
 static const char *router, *library;
-static char page_name[] = "/tmp/faults-page-XXXXXX";
 static struct page *page;
 static int neighbours[2];
 static pid_t child;
-static int closed = -1; /* the standard stream that the program begins without */
-
-static void stop(const char *why) {
-    perror(why);
-    exit(2);
-}
-
-static long now(void) {
-    struct timespec at;
-    clock_gettime(CLOCK_MONOTONIC, &at);
-    return at.tv_sec * 1000 + at.tv_nsec / 1000000;
-}
+static int closed_stream = -1; /* which the program begins without */
 
 /* A command, what it reads, and what it writes where nothing fails. */
 struct command {
@@ -61,11 +46,6 @@ struct ending {
 };
 
 /* ---- the running router's neighbours ---- */
-
-static struct sockaddr_in loopback(int port) {
-    return (struct sockaddr_in){
-        .sin_family = AF_INET, .sin_port = htons((uint16_t)port), .sin_addr.s_addr = htonl(INADDR_LOOPBACK)};
-}
 
 static void open_neighbours(void) {
     for (int k = 0; k < 2; k++) {
@@ -148,16 +128,8 @@ static void begin(const struct command *command, int *in, int *out, int *err) {
     if (command->runs ? pipe2(input, O_CLOEXEC) : (input[0] = open(command->input, O_RDONLY | O_CLOEXEC)) < 0)
         stop("the input");
     if (pipe2(output, O_CLOEXEC) || pipe2(errors, O_CLOEXEC)) stop("pipe");
-    child = fork();
-    if (child < 0) stop("fork");
-    if (!child) {
-        dup2(input[0], 0), dup2(output[1], 1), dup2(errors[1], 2);
-        if (closed >= 0) close(closed);
-        setenv("LD_PRELOAD", library, 1);
-        setenv(PAGE_VARIABLE, page_name, 1);
-        execv(router, (char *const *)command->words);
-        _exit(127);
-    }
+    child = start_router(router, (char *const *)command->words, library,
+                         (const int[]){input[0], output[1], errors[1]}, closed_stream);
     close(input[0]), close(output[1]), close(errors[1]);
     *in = input[1], *out = output[0], *err = errors[0];
 }
@@ -415,13 +387,13 @@ static void learn(struct command *command) {
 static void close_streams(const struct command *command, unsigned long *tried, unsigned long *bad) {
     static struct ending ending;
     unsigned long before = *bad;
-    for (closed = 0; closed < 3; closed++) {
+    for (closed_stream = 0; closed_stream < 3; closed_stream++) {
         set_page(NONE, 0, false, 0, 0);
         run(command, &ending);
         *tried += 1;
         *bad += ending.hangs || ending.status < 0 || ending.status > 1 || atomic_load(&page->standard);
     }
-    closed = -1;
+    closed_stream = -1;
     printf("%-8s %-30s %6d %6lu\n", command->name, "standard streams, closed", 3, *bad - before);
 }
 
@@ -431,17 +403,7 @@ static bool is_among(const char *name, char **words) {
     return false;
 }
 
-static void open_page(void) {
-    int file = mkstemp(page_name);
-    if (file < 0 || ftruncate(file, sizeof *page)) stop("the page");
-    page = mmap(NULL, sizeof *page, PROT_READ | PROT_WRITE, MAP_SHARED, file, 0);
-    if (page == MAP_FAILED) stop("the page");
-    close(file);
-}
-
 int main(int count, char **words) {
-    static const uint8_t key[16] = {0x2b, 0x7e, 0x15, 0x16, 0x28, 0xae, 0xd2, 0xa6,
-                                    0xab, 0xf7, 0x15, 0x88, 0x09, 0xcf, 0x4f, 0x3c};
     if (count < 7) {
         fprintf(stderr, "usage: faults ROUTER LIBRARY CONFIG DATAGRAMS REPLAY RUN-CONFIG [COMMAND]..\n");
         return 2;
@@ -464,8 +426,8 @@ int main(int count, char **words) {
         (const char *[]){"router", "route", "--config", words[3], "--link", "65536", "--now", "1", NULL};
     all[5].input = "/dev/null";
     signal(SIGPIPE, SIG_IGN);
-    set_key(key);
-    open_page();
+    set_key();
+    page = make_page();
     open_neighbours();
     unsigned long tried = 0, bad = 0;
     printf("%-39s %6s %6s\n", "", "tried", "failed");
@@ -476,7 +438,6 @@ int main(int count, char **words) {
             refuse(&all[k], &refusals[j], &tried, &bad);
         if (all[k].runs) close_streams(&all[k], &tried, &bad);
     }
-    unlink(page_name);
     printf("tried %lu, failed %lu\n", tried, bad);
     return bad > 0;
 }

@@ -8,7 +8,7 @@ cd "$(dirname "$0")/../.."
 CC=${CC:-cc}
 router=${ROUTER:-bin/router}
 mkdir -p bin
-"$CC" -O2 -Wall -Wextra -o bin/faults-send tests/faults/send.c tests/datagrams.c || exit 2
+"$CC" -O2 -Wall -Wextra -o bin/faults-send tests/faults/send.c tests/datagrams.c tests/harness.c || exit 2
 
 room=$(mktemp -d)
 trap 'exec 3>&-; rm -rf "$room"' EXIT

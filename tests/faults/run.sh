@@ -9,7 +9,7 @@ CC=${CC:-cc}
 router=${ROUTER:-bin/router}
 mkdir -p bin
 "$CC" -O2 -Wall -Wextra -fPIC -shared -o bin/faults-preload.so tests/faults/preload.c -ldl
-"$CC" -O2 -Wall -Wextra -o bin/faults tests/faults/faults.c tests/datagrams.c
+"$CC" -O2 -Wall -Wextra -o bin/faults tests/faults/faults.c tests/datagrams.c tests/harness.c
 
 room=$(mktemp -d)
 trap 'rm -rf "$room"' EXIT

@@ -8,5 +8,5 @@ router=${ROUTER:-bin/router}
 seconds=${SOAK_SECONDS:-$((${MINUTES:-1} * 60))}
 mkdir -p bin
 "$CC" -O2 -Wall -Wextra -fPIC -shared -o bin/faults-preload.so tests/faults/preload.c -ldl
-"$CC" -O2 -Wall -Wextra -o bin/soak tests/soak/soak.c tests/datagrams.c -lpthread
+"$CC" -O2 -Wall -Wextra -o bin/soak tests/soak/soak.c tests/datagrams.c tests/harness.c -lpthread
 bin/soak "$router" "$PWD/bin/faults-preload.so" tests/soak/router.toml "$seconds"

@@ -4,12 +4,10 @@
    to account for every datagram that the system gave it. */
 #define _GNU_SOURCE
 #include "../datagrams.h"
-#include "../faults/page.h"
+#include "../harness.h"
 
-#include <arpa/inet.h>
 #include <errno.h>
 #include <fcntl.h>
-#include <netinet/in.h>
 #include <poll.h>
 #include <pthread.h>
 #include <signal.h>
@@ -17,7 +15,6 @@
 #include <stdio.h>
 #include <stdlib.h>
 #include <string.h>
-#include <sys/mman.h>
 #include <sys/socket.h>
 #include <sys/wait.h>
 #include <time.h>
@@ -30,14 +27,8 @@ enum { ROUTER = 43100, LINKS = 7, SENDERS = 3, FLOWS = 256, GENTLE = 4000, WINDO
 static const int ports[NEIGHBOURS] = {43141, 43111, 43112, 43113, 43114, 43115, 43116, 43120, 43130};
 static int sockets[NEIGHBOURS];
 static atomic_bool dead, paused, over;
-static char page_name[] = "/tmp/soak-page-XXXXXX";
 static struct page *page;
 static atomic_int failures;
-
-static void stop(const char *why) {
-    perror(why);
-    exit(2);
-}
 
 static void fail(const char *format, ...) {
     va_list rest;
@@ -47,17 +38,6 @@ static void fail(const char *format, ...) {
     vprintf(format, rest);
     putchar('\n');
     va_end(rest);
-}
-
-static long now(void) {
-    struct timespec at;
-    clock_gettime(CLOCK_MONOTONIC, &at);
-    return at.tv_sec * 1000 + at.tv_nsec / 1000000;
-}
-
-static struct sockaddr_in loopback(int port) {
-    return (struct sockaddr_in){
-        .sin_family = AF_INET, .sin_port = htons((uint16_t)port), .sin_addr.s_addr = htonl(INADDR_LOOPBACK)};
 }
 
 static void open_sockets(void) {
@@ -329,15 +309,8 @@ static size_t held;
 static void start(char **words) {
     int input[2], output[2];
     if (pipe2(input, O_CLOEXEC) || pipe2(output, O_CLOEXEC)) stop("pipe");
-    child = fork();
-    if (child < 0) stop("fork");
-    if (!child) {
-        dup2(input[0], 0), dup2(output[1], 1), dup2(output[1], 2);
-        setenv("LD_PRELOAD", words[2], 1);
-        setenv(PAGE_VARIABLE, page_name, 1);
-        execl(words[1], "router", "run", "--config", words[3], (char *)NULL);
-        _exit(127);
-    }
+    child = start_router(words[1], (char *[]){"router", "run", "--config", words[3], NULL}, words[2],
+                         (const int[]){input[0], output[1], output[1]}, -1);
     close(input[0]), close(output[1]);
     in = input[1], out = output[0];
 }
@@ -496,16 +469,6 @@ static void judge(const struct report *report) {
     if (atomic_load(&answers) > report->answered) fail("more answers arrived than were sent");
 }
 
-static void open_page(void) {
-    int file = mkstemp(page_name);
-    if (file < 0 || ftruncate(file, sizeof *page)) stop("the page");
-    page = mmap(NULL, sizeof *page, PROT_READ | PROT_WRITE, MAP_SHARED, file, 0);
-    if (page == MAP_FAILED) stop("the page");
-    close(file);
-    page->at = 1;
-    page->lasts = 1;
-}
-
 /* Ends the router while it is flooded, and a moment later the flood. */
 static void end(struct report *report) {
     int status = 0;
@@ -525,8 +488,6 @@ static void end(struct report *report) {
 }
 
 int main(int count, char **words) {
-    static const uint8_t key[16] = {0x2b, 0x7e, 0x15, 0x16, 0x28, 0xae, 0xd2, 0xa6,
-                                    0xab, 0xf7, 0x15, 0x88, 0x09, 0xcf, 0x4f, 0x3c};
     if (count != 5) {
         fprintf(stderr, "usage: soak ROUTER LIBRARY CONFIG SECONDS\n");
         return 2;
@@ -535,10 +496,12 @@ int main(int count, char **words) {
     struct report report = {0};
     signal(SIGPIPE, SIG_IGN);
     setvbuf(stdout, NULL, _IOLBF, 0);
-    set_key(key);
+    set_key();
     began = (uint32_t)time(NULL) - 60;
     make_heads();
-    open_page();
+    page = make_page();
+    page->at = 1;
+    page->lasts = 1;
     open_sockets();
     start(words);
     expect("ready");
@@ -562,7 +525,6 @@ int main(int count, char **words) {
            atomic_load(&page->failed[RECEIVE]), atomic_load(&page->failed[POLL]));
     printf("the flood made %lu growths, all for commands; resident before it %ld KiB, and %ld at its end\n",
            growths, before, after);
-    unlink(page_name);
     printf("failed %d\n", atomic_load(&failures));
     return atomic_load(&failures) > 0;
 }
