@@ -367,8 +367,19 @@ static void refuse(const struct command *command, const struct refusal *refusal,
     free(ending);
 }
 
+/* Whether the library counts the program's calls. Where it couldn't be loaded, or stands before other
+   functions than those that are called, nothing would ever be refused, and each run would be good. */
+static bool is_watched(const struct command *command) {
+    static const enum kind of_router[] = {GROWTH, SOCKET, BIND, THREAD, RECEIVE, SEND, POLL, CLOCK};
+    bool watched = atomic_load(&page->counts[WRITE]) > 0;
+    for (size_t k = 0; command->runs && k < sizeof of_router / sizeof *of_router; k++)
+        watched = watched && atomic_load(&page->counts[of_router[k]]) > 0;
+    return watched;
+}
+
 static void learn(struct command *command) {
-    struct ending *ending = calloc(1, sizeof *ending);
+    static struct ending learnt;
+    struct ending *ending = &learnt;
     set_page(NONE, 0, false, 0, 0);
     run(command, ending);
     if (ending->hangs || ending->status != command->status ||
@@ -377,9 +388,12 @@ static void learn(struct command *command) {
                ending->arrived, ending->output, ending->errors);
         exit(1);
     }
+    if (!is_watched(command)) {
+        printf("%s isn't watched by %s\n%s", command->name, library, ending->errors);
+        exit(2);
+    }
     strcpy(command->right, ending->output);
     strcpy(command->errors, ending->errors);
-    free(ending);
 }
 
 /* Where a standard stream is closed from the beginning no socket may come into its place: datagrams would be
