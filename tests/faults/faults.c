@@ -439,13 +439,22 @@ int main(int count, char **words) {
     all[5].words =
         (const char *[]){"router", "route", "--config", words[3], "--link", "65536", "--now", "1", NULL};
     all[5].input = "/dev/null";
+    enum { COMMANDS = sizeof all / sizeof *all };
+    for (int k = 7; k < count; k++) {
+        int at = 0;
+        while (at < COMMANDS && strcmp(all[at].name, words[k])) at++;
+        if (at == COMMANDS) {
+            fprintf(stderr, "faults: no command is named %s\n", words[k]);
+            return 2;
+        }
+    }
     signal(SIGPIPE, SIG_IGN);
     set_key();
     page = make_page();
     open_neighbours();
     unsigned long tried = 0, bad = 0;
     printf("%-39s %6s %6s\n", "", "tried", "failed");
-    for (size_t k = 0; k < sizeof all / sizeof *all; k++) {
+    for (int k = 0; k < COMMANDS; k++) {
         if (count > 7 && !is_among(all[k].name, words + 7)) continue;
         learn(&all[k]);
         for (size_t j = 0; j < sizeof refusals / sizeof *refusals; j++)
