@@ -69,24 +69,23 @@ static bool comes(int to) {
     return false;
 }
 
-/* Sends a datagram by a neighbour, and waits for what comes to one. */
-static bool crosses(int from, const uint8_t *sent, size_t length, int to, const uint8_t *wanted,
-                    size_t wanted_length) {
+/* Sends a datagram from one neighbour, and answers the length of what comes to another one; 0 for nothing. */
+static size_t cross(int from, const uint8_t *sent, size_t length, int to, uint8_t came[2000]) {
     struct sockaddr_in at = loopback(ROUTER + 1 + from);
-    uint8_t came[2000];
     if (sendto(neighbours[from], sent, length, 0, (struct sockaddr *)&at, sizeof at) < 0) stop("sendto");
-    if (!comes(neighbours[to])) return false;
-    ssize_t count = recv(neighbours[to], came, sizeof came, 0);
-    return count >= (ssize_t)wanted_length && !memcmp(came, wanted, wanted_length);
+    if (!comes(neighbours[to])) return 0;
+    ssize_t count = recv(neighbours[to], came, 2000, 0);
+    return count > 0 ? (size_t)count : 0;
 }
 
 /* A packet each way, a traceroute and a datagram that is too short: what the running router is tried with.
    Each is through before the next one is sent, so that the report is the same each time. */
 static unsigned exchange(void) {
-    uint8_t drain[2000], sent[2000], wanted[2000], request[REQUEST];
-    const uint8_t reply[1] = {0};
+    /* A traceroute reply: type, code, and after the checksum what the request had. */
+    static const uint8_t type[2] = {131, 0}, identity[4] = {0, 7, 0, 8};
+    uint8_t came[2000], sent[2000], wanted[2000], request[REQUEST];
     for (int k = 0; k < 2; k++)
-        while (recv(neighbours[k], drain, sizeof drain, 0) >= 0) {
+        while (recv(neighbours[k], came, sizeof came, 0) >= 0) {
         }
     struct datagram of = {.destination = LAST_AS,
                           .source = FIRST_AS,
@@ -107,13 +106,14 @@ static unsigned exchange(void) {
         size_t length = arriving(&of, (const uint8_t *)"a packet", 8, sent);
         memcpy(wanted, sent, length);
         leaving(&of, wanted);
-        arrived += crosses(against, sent, length, !against, wanted, length);
+        arrived += cross(against, sent, length, !against, came) == length && !memcmp(came, wanted, length);
     }
     of.along = true;
     of.alerts = 2;
     of.next_header = SCMP;
     size_t length = arriving(&of, request, trace_request(7, 8, request), sent);
-    arrived += crosses(0, sent, length, 0, reply, sizeof reply);
+    arrived += cross(0, sent, length, 0, came) >= HEADER + 8 && came[4] == SCMP &&
+               !memcmp(came + HEADER, type, 2) && !memcmp(came + HEADER + 4, identity, 4);
     struct sockaddr_in at = loopback(ROUTER + 2);
     if (sendto(neighbours[1], sent, 11, 0, (struct sockaddr *)&at, sizeof at) < 0) stop("sendto");
     return arrived;
