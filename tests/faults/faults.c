@@ -396,19 +396,34 @@ static void learn(struct command *command) {
     strcpy(command->errors, ending->errors);
 }
 
+/* Without an input the router ends as by `end`, without an output it can't say that it is ready, and without
+   standard error all is as always. */
+static bool bears_closing(const struct command *command, const struct ending *ending) {
+    static const char report[] = "ready\nlink 0 sent ";
+    switch (closed_stream) {
+    case STDIN_FILENO:
+        return !ending->status && !*ending->errors && !strncmp(ending->output, report, sizeof report - 1);
+    case STDOUT_FILENO: return tells_one(command, ending, "output");
+    default: return is_right(command, ending);
+    }
+}
+
 /* Where a standard stream is closed from the beginning no socket may come into its place: datagrams would be
    read as commands. */
 static void close_streams(const struct command *command, unsigned long *tried, unsigned long *bad) {
     static struct ending ending;
+    static const struct refusal none = {"standard streams, closed", NONE, 0, false, 0};
     unsigned long before = *bad;
     for (closed_stream = 0; closed_stream < 3; closed_stream++) {
-        set_page(NONE, 0, false, 0, 0);
+        set_page(none.kind, 0, none.lasts, none.error, none.chop);
         run(command, &ending);
+        bool good = !ending.hangs && bears_closing(command, &ending) && !atomic_load(&page->standard);
         *tried += 1;
-        *bad += ending.hangs || ending.status < 0 || ending.status > 1 || atomic_load(&page->standard);
+        *bad += !good;
+        if (!good) show(command, &none, (unsigned long)closed_stream, &ending);
     }
     closed_stream = -1;
-    printf("%-8s %-30s %6d %6lu\n", command->name, "standard streams, closed", 3, *bad - before);
+    printf("%-8s %-30s %6d %6lu\n", command->name, none.name, 3, *bad - before);
 }
 
 static bool is_among(const char *name, char **words) {
