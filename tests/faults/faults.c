@@ -219,9 +219,10 @@ static bool tells_one(const struct command *command, const struct ending *ending
     return tells(command, ending, (const char *const[]){fault, NULL});
 }
 
-/* Of a running router: nothing was refused to the one who leads it, and the report accounts for all that
-   arrived. So many packets and answers couldn't be sent. */
-static bool adds_up(const struct command *command, const struct ending *ending, unsigned long unsent) {
+/* Of a running router: nothing was refused to the one who gives it commands, and the report accounts for each
+   datagram but those lost before the router had them. */
+static bool adds_up(const struct command *command, const struct ending *ending, unsigned long lost,
+                    unsigned long unsent) {
     const char *at = strstr(command->right, "link 0");
     if (!command->runs || ending->status || *ending->errors || !at) return false;
     size_t before = (size_t)(at - command->right);
@@ -240,8 +241,8 @@ static bool adds_up(const struct command *command, const struct ending *ending, 
                  1)
             return false;
     }
-    return received <= SENT && received == sent + answered + dropped && links == sent + answered &&
-           failed == unsent;
+    return received <= SENT && received + lost >= SENT && received == sent + answered + dropped &&
+           links == sent + answered && failed == unsent;
 }
 
 static bool names_a_socket(const struct command *command, const struct ending *ending) {
@@ -277,10 +278,10 @@ static bool is_good(const struct command *command, const struct ending *ending) 
     case SEND:
         /* Where there is no room a send is tried twice. */
         if (page->error == EAGAIN)
-            return page->lasts ? adds_up(command, ending, failed / 2) : is_right(command, ending);
-        return adds_up(command, ending, failed);
-    case RECEIVE:
-    case CLOCK: return is_right(command, ending) || (command->runs && adds_up(command, ending, 0));
+            return page->lasts ? adds_up(command, ending, 0, failed / 2) : is_right(command, ending);
+        return adds_up(command, ending, 0, failed);
+    case RECEIVE: /* one that is refused after `end` ends its link */
+    case CLOCK: return is_right(command, ending) || adds_up(command, ending, failed, 0);
     default: return is_right(command, ending);
     }
 }
