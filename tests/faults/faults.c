@@ -245,9 +245,11 @@ static bool adds_up(const struct command *command, const struct ending *ending, 
            links == sent + answered && failed == unsent;
 }
 
-static bool names_a_socket(const struct command *command, const struct ending *ending) {
-    return command->runs &&
-           tells(command, ending, (const char *const[]){"socket 0", "socket 1", "socket 2", NULL});
+/* The fault of a link's socket: each link has one, and they are made and bound in order. */
+static bool names_its_socket(const struct command *command, const struct ending *ending) {
+    static const char *const faults[] = {"socket 0", "socket 1", "socket 2", NULL};
+    if (!command->runs || page->kind == CONTROL) return command->runs && tells(command, ending, faults);
+    return page->at <= 3 && tells_one(command, ending, faults[page->at - 1]);
 }
 
 /* What want of memory is told as; a router alone is started, and a thread that can't be had for it is told as
@@ -273,7 +275,7 @@ static bool is_good(const struct command *command, const struct ending *ending) 
         return page->lasts ? silent : tells_one(command, ending, "output");
     case SOCKET:
     case BIND:
-    case CONTROL: return names_a_socket(command, ending);
+    case CONTROL: return names_its_socket(command, ending);
     case THREAD: return command->runs && tells_one(command, ending, "start 3");
     case SEND:
         /* Where there is no room a send is tried twice. */
