@@ -1,5 +1,5 @@
-/* What the driver tells the library that stands before the C library, and what it is told by it: a page of
-   memory that both share. */
+/* A page of memory that a trial shares with the library before the router's C library: what is to be refused,
+   and what was counted. */
 #ifndef PAGE_H
 #define PAGE_H
 
@@ -29,10 +29,12 @@ enum kind {
 enum { NOTHING_WRITTEN = -1 };
 
 struct page {
-    enum kind kind;     /* which calls fail */
+    /* The soak changes these two while the router runs. */
+    _Atomic(enum kind) kind; /* which calls fail */
+    atomic_int error;        /* their errno */
+
     unsigned long at;   /* the first that fails, counted from 1 */
     int lasts;          /* whether those after it fail too */
-    int error;          /* their errno */
     unsigned long chop; /* how many bytes a read or a write takes at most; 0 for no limit */
     atomic_ulong counts[KINDS];
     atomic_ulong failed[KINDS];
