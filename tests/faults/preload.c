@@ -79,17 +79,19 @@ __attribute__((constructor)) static void begin(void) {
 }
 
 int open(const char *path, int flags, ...) {
+    mode_t mode = 0;
     va_list rest;
     va_start(rest, flags);
-    mode_t mode = va_arg(rest, mode_t);
+    if (__OPEN_NEEDS_MODE(flags)) mode = va_arg(rest, mode_t);
     va_end(rest);
     return fails(OPEN, -1) ? -1 : REAL(open)(path, flags, mode);
 }
 
 int openat(int folder, const char *path, int flags, ...) {
+    mode_t mode = 0;
     va_list rest;
     va_start(rest, flags);
-    mode_t mode = va_arg(rest, mode_t);
+    if (__OPEN_NEEDS_MODE(flags)) mode = va_arg(rest, mode_t);
     va_end(rest);
     return fails(OPEN, -1) ? -1 : REAL(openat)(folder, path, flags, mode);
 }
