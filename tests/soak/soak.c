@@ -394,6 +394,15 @@ static unsigned long behind_closing(int link) {
     return count;
 }
 
+/* Closes the neighbour's port. Another socket comes into its place at once, so that a thread which still uses
+   the descriptor meets no other file. */
+static void leave(void) {
+    int other = socket(AF_INET, SOCK_DGRAM | SOCK_CLOEXEC | SOCK_NONBLOCK, 0);
+    atomic_store(&dead, true);
+    if (other < 0 || dup3(other, sockets[DYING], O_CLOEXEC) < 0) stop("a socket");
+    close(other);
+}
+
 /* Floods the router for so many milliseconds. */
 static void flood_for(long millis) {
     unsigned long behind[2] = {0, 0};
@@ -402,9 +411,7 @@ static void flood_for(long millis) {
     int done = 0;
     for (int turn = 0; (at = now() - start) < millis || done < 3; turn++) {
         if (done == 0 && at > millis / 4) {
-            atomic_store(&dead, true);
-            usleep(100000);
-            close(sockets[DYING]);
+            leave();
             done++;
         }
         for (int k = 0; k < 2; k++) {
