@@ -103,7 +103,7 @@ static struct datagram on(const struct way *way) {
 static void make_heads(void) {
     for (int k = 0; k < WAYS; k++) {
         struct datagram of = on(&ways[k]);
-        arriving(&of, NULL, 0, heads[k][0]);
+        arriving(&of, (const uint8_t *)"", 0, heads[k][0]);
         memcpy(heads[k][1], heads[k][0], HEADER);
         if (!ways[k].unchanged) leaving(&of, heads[k][1]);
     }
@@ -237,6 +237,7 @@ static void *flood(void *word) {
     uint32_t sender = (uint32_t)(uintptr_t)word;
     uint64_t state = 88172645463325252u + sender, number = 0;
     uint8_t *bytes = calloc(1, 1 << 16);
+    if (!bytes) stop("a sender's buffer");
     while (!atomic_load(&over)) {
         if (atomic_load(&paused) || draw(&state) % 2000 == 0) usleep(1000);
         if (atomic_load(&paused)) continue;
@@ -494,6 +495,11 @@ static void end(struct report *report) {
     if (!WIFEXITED(status) || WEXITSTATUS(status)) fail("the router ends with status %d", status);
 }
 
+static void start_thread(pthread_t *thread, void *(*run)(void *), void *word) {
+    errno = pthread_create(thread, NULL, run, word);
+    if (errno) stop("a thread");
+}
+
 int main(int count, char **words) {
     if (count != 5) {
         fprintf(stderr, "usage: soak ROUTER LIBRARY CONFIG SECONDS\n");
@@ -512,11 +518,11 @@ int main(int count, char **words) {
     open_sockets();
     start(words);
     expect("ready");
-    pthread_create(&threads[SENDERS], NULL, read_all, NULL);
+    start_thread(&threads[SENDERS], read_all, NULL);
     begin_gently();
     unsigned long growths = atomic_load(&page->counts[GROWTH]);
     long before = resident();
-    for (uintptr_t k = 0; k < SENDERS; k++) pthread_create(&threads[k], NULL, flood, (void *)k);
+    for (uintptr_t k = 0; k < SENDERS; k++) start_thread(&threads[k], flood, (void *)k);
     flood_for(atol(words[4]) * 1000);
     long after = resident();
     growths = atomic_load(&page->counts[GROWTH]) - growths;
