@@ -97,7 +97,7 @@ static struct datagram on(const struct way *way) {
                              .egress = way->egress,
                              .identifier = 0x1234,
                              .timestamp = began,
-                             .expiry = 63};
+                             .expiry = 255}; /* a day, so that a long soak has good packets to its end */
 }
 
 static void make_heads(void) {
@@ -211,8 +211,11 @@ static size_t spoil(uint64_t *state, const struct way *way, uint8_t *bytes, size
     case 0: return lengths[draw(state) % 4];
     case 1: return draw(state) % length;
     case 2: bytes[HEADER - 1 - 12 * (2 - way->hop)] ^= 1; return length; /* the MAC's last byte */
-    case 3: bytes[44] ^= 0x10; return length;                            /* the segment's timestamp */
-    case 4: bytes[7] ^= 1; return length;                                /* the payload's length */
+    case 3:
+        /* expired, by a good MAC */
+        of.timestamp -= 3 * 86400;
+        return arriving(&of, (const uint8_t *)"expired", 7, bytes);
+    case 4: bytes[7] ^= 1; return length; /* the payload's length */
     case 5: *from = STRANGER; return length;
     case 6:
         for (size_t k = 0; k < length; k++) bytes[k] = (uint8_t)draw(state);
