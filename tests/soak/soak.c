@@ -464,6 +464,12 @@ static void read_report(struct report *report) {
     }
 }
 
+/* The host, the sibling and the stranger are all behind the internal network's link. */
+static unsigned long arrived_by(int link) {
+    unsigned long count = atomic_load(&arrived[link]);
+    return link == HOST ? count + atomic_load(&arrived[SIBLING]) + atomic_load(&arrived[STRANGER]) : count;
+}
+
 static void judge(const struct report *report) {
     unsigned long received = atomic_load(&page->received), sent = atomic_load(&page->sent);
     if (report->received != report->sent + report->answered + report->lost)
@@ -477,6 +483,8 @@ static void judge(const struct report *report) {
     if (report->dropped[17] < 1) fail("no send failed, so this wasn't tried");
     if (report->dropped[16] < 1) fail("nothing came to a closed link, so this wasn't tried");
     if (atomic_load(&answers) > report->answered) fail("more answers arrived than were sent");
+    for (int link = 0; link < LINKS; link++)
+        if (arrived_by(link) > report->link[link]) fail("more arrived from link %d than it sent", link);
 }
 
 /* Ends the router while it is flooded, and a moment later the flood. */
@@ -529,6 +537,7 @@ int main(int count, char **words) {
     long after = resident();
     growths = atomic_load(&page->counts[GROWTH]) - growths;
     end(&report);
+    settled(&packets);
     atomic_store(&over, true);
     for (int k = 0; k <= SENDERS; k++) pthread_join(threads[k], NULL);
     judge(&report);
