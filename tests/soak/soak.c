@@ -347,7 +347,10 @@ static void expect(const char *wanted) {
     if (strcmp(got, wanted)) fail("the router says '%s' in place of '%s'", got, wanted);
 }
 
+static unsigned long commands;
+
 static void command(const char *words) {
+    commands++;
     if (dprintf(in, "%s\n", words) < 0) stop("a command");
 }
 
@@ -470,6 +473,14 @@ static unsigned long arrived_by(int link) {
     return link == HOST ? count + atomic_load(&arrived[SIBLING]) + atomic_load(&arrived[STRANGER]) : count;
 }
 
+/* Each part of the flood was tried: packets crossed, and calls of each kind were refused. */
+static void judge_flood(unsigned long crossed, unsigned long growths, unsigned long given) {
+    if (!crossed) fail("no packet of the flood arrived, so this wasn't tried");
+    if (!atomic_load(&page->failed[RECEIVE])) fail("no receive was refused, so this wasn't tried");
+    if (!atomic_load(&page->failed[POLL])) fail("no poll was refused, so this wasn't tried");
+    if (growths > given) fail("%lu growths for %lu commands", growths, given);
+}
+
 static void judge(const struct report *report) {
     unsigned long received = atomic_load(&page->received), sent = atomic_load(&page->sent);
     if (report->received != report->sent + report->answered + report->lost)
@@ -530,25 +541,28 @@ int main(int count, char **words) {
     expect("ready");
     start_thread(&threads[SENDERS], read_all, NULL);
     begin_gently();
-    unsigned long growths = atomic_load(&page->counts[GROWTH]);
+    unsigned long growths = atomic_load(&page->counts[GROWTH]), gentle = atomic_load(&packets);
+    unsigned long given = commands;
     long before = resident();
     for (uintptr_t k = 0; k < SENDERS; k++) start_thread(&threads[k], flood, (void *)k);
     flood_for(atol(words[4]) * 1000);
     long after = resident();
     growths = atomic_load(&page->counts[GROWTH]) - growths;
+    given = commands - given;
     end(&report);
     settled(&packets);
     atomic_store(&over, true);
     for (int k = 0; k <= SENDERS; k++) pthread_join(threads[k], NULL);
     judge(&report);
+    judge_flood(atomic_load(&packets) - gentle, growths, given);
     printf("sent to it %lu, of which the system gave it %lu\n", atomic_load(&offered),
            atomic_load(&page->received));
     printf("arrived: %lu packets, each as it should and in order, and %lu answers\n", atomic_load(&packets),
            atomic_load(&answers));
     printf("the system refused %lu sends, %lu receives, %lu polls\n", atomic_load(&page->failed[SEND]),
            atomic_load(&page->failed[RECEIVE]), atomic_load(&page->failed[POLL]));
-    printf("the flood made %lu growths, all for commands; resident before it %ld KiB, and %ld at its end\n",
-           growths, before, after);
+    printf("the flood made %lu growths for %lu commands; resident before it %ld KiB, and %ld at its end\n",
+           growths, given, before, after);
     printf("failed %d\n", atomic_load(&failures));
     return atomic_load(&failures) > 0;
 }
