@@ -10,4 +10,6 @@ $rustc -o bin/bench-router-plain bench/router/plain.rs
 ${CC:-cc} -O3 -o bin/bench-router-forward bench/router/forward.c
 room=$(mktemp -d)
 trap 'rm -rf "$room"' EXIT
+trap 'exit 130' INT
+trap 'exit 143' TERM
 bin/bench-router bin/router bin/bench-router-plain bin/bench-router-forward "$room"

@@ -11,6 +11,8 @@ routers="first core-1 core-2 last"
 
 # Whatever happens, no router is left behind: each ends where its commands end.
 trap 'exec 3>&- 4>&- 5>&- 6>&-; rm -rf "$room"' EXIT
+trap 'exit 130' INT
+trap 'exit 143' TERM
 
 for name in $routers; do
     mkfifo "$room/$name.commands"

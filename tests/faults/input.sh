@@ -4,14 +4,16 @@
 set -u
 # A router that is gone is told by how it ended, and not by the pipe to it.
 trap '' PIPE
-cd "$(dirname "$0")/../.."
+cd "$(dirname "$0")/../.." || exit 2
 CC=${CC:-cc}
 router=${ROUTER:-bin/router}
 mkdir -p bin
 "$CC" -O2 -Wall -Wextra -o bin/faults-send tests/faults/send.c tests/datagrams.c tests/harness.c || exit 2
 
-room=$(mktemp -d)
+room=$(mktemp -d) || exit 2
 trap 'exec 3>&-; rm -rf "$room"' EXIT
+trap 'exit 130' INT
+trap 'exit 143' TERM
 tried=0 failed=0
 config=tests/faults/router.toml
 mkfifo "$room/commands"

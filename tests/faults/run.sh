@@ -13,6 +13,8 @@ mkdir -p bin
 
 room=$(mktemp -d)
 trap 'rm -rf "$room"' EXIT
+trap 'exit 130' INT
+trap 'exit 143' TERM
 
 # A packet, one with a wrong MAC, one of no bytes, one that is cut, one whose hop leads nowhere, another packet.
 first=$(cat examples/first-datagram.hex)
