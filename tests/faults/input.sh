@@ -104,6 +104,15 @@ timeout 10 "$router" run --config "$config" < /dev/null >&- 2> "$room/err"
 status=$?
 ended 'an output that is closed' 1 '' 'fault: output'
 
+# The router itself has to bear it, so SIGPIPE is again as a shell leaves it. The reader is gone before it writes.
+status=$({ {
+    trap - PIPE
+    sleep 0.2
+    timeout 10 "$router" run --config "$config" < /dev/null 2> "$room/err"
+    echo $? >&3
+} | :; } 3>&1)
+ended 'an output whose reader is gone' 1 '' 'fault: output'
+
 with 's/capacity = 4/capacity = 0/; s/127.0.0.1:43000/192.0.2.1:43000/'
 run "$room/config" < /dev/null
 ended 'a configuration that is wrong, and an address of another machine' 1 '' 'fault: config 8'
