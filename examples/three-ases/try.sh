@@ -8,6 +8,7 @@ router=${ROUTER:-bin/router}
 probe=${PROBE:-bin/path_probe}
 room=$(mktemp -d)
 routers="first core-1 core-2 last"
+running=
 
 # Whatever happens, no router is left behind: each ends where its commands end.
 trap 'exec 3>&- 4>&- 5>&- 6>&-; rm -rf "$room"' EXIT
@@ -18,6 +19,7 @@ for name in $routers; do
     mkfifo "$room/$name.commands"
     "$router" run --config "$here/$name.toml" \
         < "$room/$name.commands" > "$room/$name.report" 2> "$room/$name.fault" 3>&- 4>&- 5>&- 6>&- &
+    running="$running $!"
     case $name in
         first) exec 3> "$room/$name.commands" ;;
         core-1) exec 4> "$room/$name.commands" ;;
@@ -42,11 +44,11 @@ status=0
 "$probe" 127.0.1.10:30041 127.0.3.10:30041 \
     "$here/first.toml" "$here/core-1.toml" "$here/core-2.toml" "$here/last.toml" || status=$?
 
-echo end >&3
-echo end >&4
-echo end >&5
-echo end >&6
-wait
+# The end of its commands ends a router; one that is gone or fails is seen by its status.
+exec 3>&- 4>&- 5>&- 6>&-
+for one in $running; do
+    wait "$one" || status=$?
+done
 
 for name in $routers; do
     echo "router $name:"
