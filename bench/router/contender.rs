@@ -97,15 +97,16 @@ impl Contender {
             .stdout(Stdio::piped())
             .spawn()
             .expect("a program that starts");
-        let mut output = BufReader::new(child.stdout.take().expect("an output"));
-        let mut line = String::new();
-        output.read_line(&mut line).expect("a line");
-        assert_eq!(line, "ready\n", "{kind}");
-        Contender {
+        let output = BufReader::new(child.stdout.take().expect("an output"));
+        let mut contender = Contender {
             kind,
             child,
             output,
-        }
+        };
+        let mut line = String::new();
+        contender.output.read_line(&mut line).expect("a line");
+        assert_eq!(line, "ready\n", "{kind}");
+        contender
     }
 
     /// The processor time of all its threads so far, in nanoseconds.
@@ -132,8 +133,6 @@ impl Contender {
     /// Ends it. The router's report has to account for each datagram that was read.
     pub fn end(mut self) {
         if !matches!(self.kind, Kind::Router { .. }) {
-            self.child.kill().expect("an end");
-            self.child.wait().expect("an end");
             return;
         }
         let mut commands = self.child.stdin.take().expect("an input");
@@ -153,5 +152,13 @@ impl Contender {
             }
         }
         assert_eq!(received, gone, "the report doesn't add up:\n{report}");
+    }
+}
+
+/// It is killed where it didn't end: no panic leaves a program behind, which would keep its ports.
+impl Drop for Contender {
+    fn drop(&mut self) {
+        let _ = self.child.kill();
+        let _ = self.child.wait();
     }
 }
