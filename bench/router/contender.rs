@@ -113,11 +113,9 @@ impl Contender {
     pub fn spent(&self) -> u64 {
         let tasks = fs::read_dir(format!("/proc/{}/task", self.child.id())).expect("tasks");
         let of_task = |path: &Path| {
-            let text = fs::read_to_string(path.join("schedstat")).unwrap_or_default();
-            text.split(' ')
-                .next()
-                .and_then(|word| word.parse::<u64>().ok())
-                .unwrap_or(0)
+            let text = fs::read_to_string(path.join("schedstat")).expect("a thread's times");
+            let spent = text.split(' ').next().map(str::parse::<u64>);
+            spent.expect("a time").expect("a number")
         };
         tasks.flatten().map(|task| of_task(&task.path())).sum()
     }
