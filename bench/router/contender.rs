@@ -16,8 +16,8 @@ pub struct Programs<'a> {
     pub room: &'a Path,
 }
 
-/// Its links are those to other ASes.
-#[derive(Clone, Copy)]
+/// A kind of program; links are those to other ASes.
+#[derive(Clone, Copy, PartialEq, Eq)]
 pub enum Kind {
     /// The router.
     Router { links: u16, processors: u16 },

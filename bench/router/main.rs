@@ -21,11 +21,18 @@ const PACE: u64 = 20_000;
 
 const SIZES: [usize; 2] = [200, 1400];
 
+/// The two that the ratios compare.
+const ROUTER: Kind = Kind::Router {
+    links: 2,
+    processors: 1,
+};
+const PLAIN: Kind = Kind::Plain {
+    links: 2,
+    processors: 1,
+};
+
 const CONTENDERS: [Kind; 8] = [
-    Kind::Router {
-        links: 2,
-        processors: 1,
-    },
+    ROUTER,
     Kind::Router {
         links: 2,
         processors: 2,
@@ -34,10 +41,7 @@ const CONTENDERS: [Kind; 8] = [
         links: 2,
         processors: 4,
     },
-    Kind::Plain {
-        links: 2,
-        processors: 1,
-    },
+    PLAIN,
     Kind::Plain {
         links: 2,
         processors: 2,
@@ -51,18 +55,12 @@ const CONTENDERS: [Kind; 8] = [
 ];
 
 const IDLE: [Kind; 4] = [
-    Kind::Router {
-        links: 2,
-        processors: 1,
-    },
+    ROUTER,
     Kind::Router {
         links: 32,
         processors: 16,
     },
-    Kind::Plain {
-        links: 2,
-        processors: 1,
-    },
+    PLAIN,
     Kind::Plain {
         links: 32,
         processors: 16,
@@ -178,8 +176,11 @@ fn main() {
     for (kind, shares) in IDLE.iter().zip(&idle).filter(|(kind, _)| is_timed(kind)) {
         println!("{:<28}{:>16.1}", kind.to_string(), median(shares));
     }
-    let flooded = |at: usize| median(&figures[at][0].flooded);
-    println!("run/rust {:.2}", flooded(0) / flooded(3));
-    println!("run/c {:.2}", flooded(0) / flooded(6));
+    let flooded = |kind: Kind| {
+        let at = CONTENDERS.iter().position(|own| *own == kind);
+        median(&figures[at.expect("a contender")][0].flooded)
+    };
+    println!("run/rust {:.2}", flooded(ROUTER) / flooded(PLAIN));
+    println!("run/c {:.2}", flooded(ROUTER) / flooded(Kind::One));
     println!("idle {:.1}", median(&idle[0]));
 }
