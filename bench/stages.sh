@@ -14,13 +14,15 @@ median() { sort -n | sed -n 5p; }
 ours= plains= sum=
 for _ in 1 2 3 4 5 6 7 8 9; do
   for kind in ours plain; do
+    # an assignment, since a failure within a here-string ends nothing
     if [ "$kind" = ours ]; then
-      read -r tenths left <<< "$("$STAGES" time)"
-      ours+="$tenths"$'\n'
+      line=$("$STAGES" time)
+      ours+="${line% *}"$'\n'
     else
-      read -r tenths left <<< "$(bin/bench-stages-plain)"
-      plains+="$tenths"$'\n'
+      line=$(bin/bench-stages-plain)
+      plains+="${line% *}"$'\n'
     fi
+    left=${line#* }
     if [ "${sum:=$left}" != "$left" ]; then
       echo "what left isn't the same: $sum, $left" >&2
       exit 1
