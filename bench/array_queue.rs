@@ -12,6 +12,8 @@ struct Apart<T>(T);
 /// it is.
 pub struct ArrayQueue<T> {
     slots: Box<[(AtomicUsize, UnsafeCell<MaybeUninit<T>>)]>,
+    /// Cuts a position to that of its slot without a division, which costs as much as the rest of a push.
+    mask: usize,
     head: Apart<AtomicUsize>,
     tail: Apart<AtomicUsize>,
 }
@@ -20,14 +22,15 @@ unsafe impl<T: Send> Sync for ArrayQueue<T> {}
 
 impl<T> ArrayQueue<T> {
     pub fn new(capacity: usize) -> Self {
+        assert!(capacity > 1 && capacity.is_power_of_two());
         let slots = (0..capacity).map(|i| (AtomicUsize::new(i), UnsafeCell::new(MaybeUninit::uninit())));
-        ArrayQueue { slots: slots.collect(), head: Apart(AtomicUsize::new(0)), tail: Apart(AtomicUsize::new(0)) }
+        ArrayQueue { slots: slots.collect(), mask: capacity - 1, head: Apart(AtomicUsize::new(0)), tail: Apart(AtomicUsize::new(0)) }
     }
 
     pub fn push(&self, item: T) -> Result<(), T> {
         let mut tail = self.tail.0.load(Ordering::Relaxed);
         loop {
-            let slot = &self.slots[tail % self.slots.len()];
+            let slot = &self.slots[tail & self.mask];
             let stamp = slot.0.load(Ordering::Acquire);
             if stamp == tail {
                 match self.tail.0.compare_exchange_weak(tail, tail + 1, Ordering::SeqCst, Ordering::Relaxed) {
@@ -54,7 +57,7 @@ impl<T> ArrayQueue<T> {
     pub fn pop(&self) -> Option<T> {
         let mut head = self.head.0.load(Ordering::Relaxed);
         loop {
-            let slot = &self.slots[head % self.slots.len()];
+            let slot = &self.slots[head & self.mask];
             let stamp = slot.0.load(Ordering::Acquire);
             if stamp == head + 1 {
                 match self.head.0.compare_exchange_weak(head, head + 1, Ordering::SeqCst, Ordering::Relaxed) {

@@ -174,7 +174,7 @@ fn main() {
     let outer = pipes::<Parcel>(links);
     let both: Vec<_> = outer
         .iter()
-        .flat_map(|(low, _)| [Arc::clone(low), Pipe::new(1, None)])
+        .flat_map(|(low, _)| [Arc::clone(low), Pipe::new(2, None)])
         .collect();
     let free: Vec<Arc<Pipe<Buffer>>> = (0..links).map(|_| Pipe::new(BUFFERS, None)).collect();
     for pipe in &free {
