@@ -5,7 +5,7 @@ set -eu
 cd "$(dirname "$0")/.."
 RUSTC=${RUSTC:-rustc}
 mkdir -p bin
-"$RUSTC" --edition 2024 -C opt-level=3 -C target-cpu=x86-64-v2 -o bin/bench-stages-plain bench/stages/main.rs
+"$RUSTC" --edition 2024 -C opt-level=3 -C codegen-units=1 -C target-cpu=x86-64-v2 -o bin/bench-stages-plain bench/stages/main.rs
 STAGES=crates/stages_bench/out/stages_bench
 
 one_tenth() { echo "$(($1 / 10)).$(($1 % 10))"; }
