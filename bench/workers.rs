@@ -1,5 +1,5 @@
-//! The router's workers as a Rust programmer would write them who proves nothing: receivers, processors and forwarders over
-//! bounded queues, each driven by `turn`. The timing programs put their own devices and threads around them.
+//! The router's workers as a Rust programmer who proves nothing would write them: receivers, processors and forwarders
+//! over bounded queues, each driven by `turn`. The benches put their own devices and threads around them.
 
 use crate::array_queue::ArrayQueue;
 use crate::cipher::BlockCmac;
@@ -128,7 +128,7 @@ impl Event {
     }
 }
 
-/// What stands in a pipe, with its producer's number.
+/// An item of a pipe, with its producer's number.
 struct Entry<T> {
     from: usize,
     load: Load<T>,
@@ -187,10 +187,10 @@ impl<T> Pipe<T> {
 #[derive(Default)]
 #[allow(dead_code)]
 struct Counts {
-    received: u128,
-    sent: u128,
-    answered: u128,
-    dropped: [u128; 18],
+    received: u64,
+    sent: u64,
+    answered: u64,
+    dropped: [u64; 18],
 }
 
 impl Counts {
