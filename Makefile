@@ -98,7 +98,7 @@ docs-check: bin/router
 MINUTES ?= 1
 .PHONY: soak
 
-# Floods the router over loopback for some minutes, and looks whether it accounts for all that it read; it needs cc too.
+# Floods the router over loopback for some minutes, and checks that it accounts for all that it read; it needs cc too.
 soak: bin/router
 	MINUTES=$(MINUTES) tests/soak/run.sh
 

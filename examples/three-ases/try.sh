@@ -10,7 +10,7 @@ room=$(mktemp -d)
 routers="first core-1 core-2 last"
 running=
 
-# Whatever happens, no router is left behind: each ends where its commands end.
+# Whatever happens, no router is left running: each ends where its commands end.
 trap 'exec 3>&- 4>&- 5>&- 6>&-; rm -rf "$room"' EXIT
 trap 'exit 130' INT
 trap 'exit 143' TERM
