@@ -5,7 +5,7 @@
 static uint8_t round_keys[11][16];
 static uint8_t box[256];
 
-/* Twice a byte, as a polynomial over two elements. */
+/* Twice a byte, in the field of AES. */
 static uint8_t twice(uint8_t byte) { return (uint8_t)(byte << 1) ^ (byte & 0x80 ? 0x1b : 0); }
 
 static void fill_box(void) {
@@ -93,7 +93,7 @@ static uint16_t chained(const struct datagram *of) {
 enum { META = 36, IDENTIFIER = 42, HOPS = 48 };
 
 static uint8_t *put_path(const struct datagram *of, uint8_t *at) {
-    /* Nobody who tests a packet here tests the other routers' hops. */
+    /* The router checks the MAC of its own hop alone. */
     static const uint8_t others[6] = {0xa0, 0xa1, 0xa2, 0xa3, 0xa4, 0xa5};
     at = put(at, (uint32_t)of->hop << 24 | 3 << 12, 4);
     at = put(at, of->along, 1);

@@ -33,7 +33,7 @@ struct datagram {
 /* Expands the key of the trials' configurations; it is needed before any datagram is made. */
 void set_key(void);
 
-/* Writes the datagram as it arrives, with so many bytes of payload, and answers its length. */
+/* Writes the datagram as it arrives, with a payload of `length` bytes, and answers its own length. */
 size_t arriving(const struct datagram *of, const uint8_t *payload, size_t length, uint8_t *bytes);
 
 /* Turns a datagram as it arrives by one link into what leaves by another one: the cursor is one hop further,

@@ -29,7 +29,7 @@ fn mac(timestamp: [u8; 4]) -> [u8; 6] {
     BlockCmac::new(&KEY).mac(&block)
 }
 
-/// Datagrams of so many bytes, one of each flow, which are good for hours from now on.
+/// Datagrams of a size, one of each flow, which are good for hours from now on.
 pub fn datagrams(size: usize) -> Vec<Vec<u8>> {
     let now = SystemTime::now()
         .duration_since(UNIX_EPOCH)

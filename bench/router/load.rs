@@ -138,7 +138,7 @@ impl Load {
         }
     }
 
-    /// Sends as fast as it can, and tells how many datagrams a second came through.
+    /// Sends as fast as it can, and answers how many datagrams a second came through.
     pub fn flood(&self, length: Duration) -> f64 {
         let (count, stop) = (AtomicU64::new(0), AtomicBool::new(false));
         let rate = thread::scope(|scope| {
@@ -162,7 +162,7 @@ impl Load {
         while self.receiver.recv(&mut room).is_ok() {}
     }
 
-    /// Sends so many a second. `spent` tells the processor time of who carries them.
+    /// Sends `pace` datagrams a second. `spent` is the processor time of the program that carries them.
     pub fn pace(&self, pace: u64, length: Duration, spent: impl Fn() -> u64) -> Paced {
         let warm = pace / 5;
         let total = warm + pace * length.as_secs();
@@ -186,7 +186,7 @@ impl Load {
         }
     }
 
-    /// Sends at the pace, and tells the time that was spent before those which count.
+    /// Sends at the pace, and answers the time that was spent before the datagrams that count.
     fn send_paced(
         &self,
         begin: Instant,

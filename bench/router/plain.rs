@@ -140,7 +140,7 @@ fn work(mut worker: impl Work, event: Arc<Event>) {
     }
 }
 
-/// The pipes of so many consumers, each with its event.
+/// The pipes of a number of consumers, each with its event.
 fn pipes<T>(count: usize) -> Vec<(Arc<Pipe<T>>, Arc<Event>)> {
     (0..count)
         .map(|_| {

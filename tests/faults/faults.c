@@ -1,6 +1,6 @@
 /* Runs each command of the router over and over. In each run one call that a system may refuse fails, or one
    and all of its kind after it; the next run refuses the next call, up to the last. Each run has to end as
-   docs/FORMATS.md tells, after a beginning of the text that the run without a fault writes, and within some
+   docs/FORMATS.md says, after a beginning of the text that the run without a fault writes, and within some
    seconds. */
 #define _GNU_SOURCE
 #include "../datagrams.h"
@@ -30,7 +30,7 @@ static int closed_stream = -1; /* which the program begins without */
 struct command {
     const char *name;
     const char *const *words;
-    const char *input; /* a file; none: the router runs over its sockets, and the driver leads it */
+    const char *input; /* a file; none: the router runs over its sockets, by the commands of this trial */
     bool runs;
     int status; /* what it ends with, and writes, where nothing fails */
     char right[MOST], errors[MOST];
@@ -56,8 +56,8 @@ static void open_neighbours(void) {
     }
 }
 
-/* Whether there is a datagram within some time, while the router runs. Only some refusals are let to lose
- * one. */
+/* Whether there is a datagram within some time, while the router runs. Only some refusals may lose
+   one. */
 static bool comes(int to) {
     bool loses = page->kind == SEND || page->kind == CLOCK || (page->kind == RECEIVE && page->lasts);
     struct pollfd asked = {.fd = to, .events = POLLIN};
@@ -139,7 +139,7 @@ static size_t collect(int from, char *to, size_t length) {
     return count > 0 ? (size_t)count : 0;
 }
 
-/* Reads what the program writes, and leads a router once it says that it is ready. */
+/* Reads what the program writes, and gives a router its datagrams and commands once it is ready. */
 static void follow(struct ending *ending, int in, int out, int err) {
     long until = now() + PATIENCE;
     size_t errors = 0;
@@ -201,7 +201,7 @@ static bool is_right(const struct command *command, const struct ending *ending)
            !strcmp(ending->output, command->right) && (!command->runs || ending->arrived == SENT - 1);
 }
 
-/* One line that tells one of these faults, after a beginning of the right text. */
+/* One line of one of these faults, after a beginning of the right text. */
 static bool tells(const struct command *command, const struct ending *ending, const char *const *faults) {
     if (ending->status != 1 || strncmp(ending->output, command->right, ending->length)) return false;
     for (; *faults; faults++) {
@@ -252,8 +252,7 @@ static bool names_its_socket(const struct command *command, const struct ending 
     return page->at <= 3 && tells_one(command, ending, faults[page->at - 1]);
 }
 
-/* What want of memory is told as; a router alone is started, and a thread that can't be had for it is told as
- * one. */
+/* The faults of want of memory. A router alone is started; where a thread has no memory, none can be had. */
 static const char *const lacks[] = {"start 1", "start 3", "memory", "config 9", NULL};
 
 static bool is_good(const struct command *command, const struct ending *ending) {
@@ -271,7 +270,7 @@ static bool is_good(const struct command *command, const struct ending *ending) 
         return tells_one(command, ending, descriptor ? "file" : "input");
     case WRITE:
         if (page->error == EINTR && is_right(command, ending)) return true;
-        /* Where no write succeeds the fault can't be told. */
+        /* Where no write succeeds the fault can't be printed. */
         return page->lasts ? silent : tells_one(command, ending, "output");
     case SOCKET:
     case BIND:

@@ -1,8 +1,8 @@
 #!/bin/sh
-# Runs the router over its sockets with input that is bad, each case as docs/FORMATS.md tells it, and compares what it
+# Runs the router over its sockets with input that is bad, each case of docs/FORMATS.md, and compares what it
 # writes and how it ends.
 set -u
-# A router that is gone is told by how it ended, and not by the pipe to it.
+# A router that is gone is seen by how it ended, and doesn't end this script by the pipe to it.
 trap '' PIPE
 cd "$(dirname "$0")/../.." || exit 2
 CC=${CC:-cc}
@@ -42,7 +42,7 @@ run() {
     status=$?
 }
 
-# Starts the router, to be led by descriptor 3.
+# Starts the router, which takes its commands from descriptor 3.
 start() {
     timeout 20 "$router" run --config "$config" < "$room/commands" > "$room/out" 2> "$room/err" &
     started=$!

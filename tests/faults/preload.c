@@ -1,5 +1,5 @@
-/* Stands before the C library, counts calls that a system may refuse, and refuses one of them, or one and all
-   of its kind after it, as the page tells. A growth is a call that asks for memory: the kit's programs ask
+/* Is loaded before the C library, counts calls that a system may refuse, and refuses one of them, or one and
+   all of its kind after it, as the page says. A growth is a call that asks for memory: the kit's programs ask
    `malloc` and `realloc`, and the C library itself `calloc` for a thread. What it maps without them, as the
    stack of a thread, isn't seen. */
 #define _GNU_SOURCE

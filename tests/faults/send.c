@@ -1,5 +1,5 @@
-/* Sends datagrams over loopback from one port to another one: of so many zero bytes, or `packet`, one that
-   comes from link 1 and leaves by link 2. */
+/* Sends datagrams over loopback from one port to another one: for each length one of zero bytes, and for
+   `packet` one that comes from link 1 and leaves by link 2. */
 #include "../datagrams.h"
 #include "../harness.h"
 

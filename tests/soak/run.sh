@@ -1,5 +1,5 @@
 #!/bin/sh
-# Floods the router over loopback for MINUTES (or SOAK_SECONDS), and looks whether its report accounts for every
+# Floods the router over loopback for MINUTES (or SOAK_SECONDS), and checks that its report accounts for every
 # datagram that it was given.
 set -eu
 cd "$(dirname "$0")/../.."
