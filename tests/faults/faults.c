@@ -176,6 +176,7 @@ static void run(const struct command *command, struct ending *ending) {
         if (now() > until) ending->hangs = true;
         usleep(200);
     }
+    if (ended < 0) stop("waitpid");
     if (!ended) {
         kill(child, SIGKILL);
         waitpid(child, &status, 0);
@@ -351,7 +352,8 @@ enum { ENOUGH_BY_THREADS = 40 };
 
 static void refuse(const struct command *command, const struct refusal *refusal, unsigned long *tried,
                    unsigned long *bad) {
-    struct ending *ending = malloc(sizeof *ending);
+    static struct ending refused;
+    struct ending *ending = &refused;
     unsigned long before = *tried, before_bad = *bad;
     for (unsigned long at = 1;; at++) {
         set_page(refusal->kind, at, refusal->lasts, refusal->error, refusal->chop);
@@ -366,7 +368,6 @@ static void refuse(const struct command *command, const struct refusal *refusal,
     if (*tried > before)
         printf("%-8s %-30s %6lu %6lu\n", command->name, refusal->name, *tried - before, *bad - before_bad);
     fflush(stdout);
-    free(ending);
 }
 
 /* Whether the library counts the program's calls. Where it couldn't be loaded, or stands before other
