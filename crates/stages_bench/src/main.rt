@@ -5,6 +5,7 @@
 
 mod devices;
 mod ends;
+mod results;
 mod stages;
 
 ghost use Rattle.std.specs.Prelude.{◌≡◌, Some, true};
@@ -31,23 +32,37 @@ const BATCHES: u32 = 400;
 /// How many times that is done.
 const TRIES: usize = 61;
 
+/// The tenths of a nanosecond of a packet.
+fn tenths_once<N: Router, R: Wait + Clock + Copy>(
+    rt: &R,
+    stages: &mut Stages<N, R>,
+) -> io::Result<u128> {
+    let start = Instant::now(rt)?;
+    for _ in 0..BATCHES {
+        stages.pass_batch();
+    }
+    let spent = start.elapsed(rt)?.as_nanos();
+    Ok(spent.saturating_mul(10) / (u128::from(BATCHES) * BATCH as u128))
+}
+
+/// The middle one.
+fn median(figures: Vec<u128>) -> Result<u128, AllocError> {
+    let mut figures = figures;
+    figures.sort()?;
+    Ok(figures.get(TRIES / 2).copied().unwrap_or(0))
+}
+
 /// The tenths of a nanosecond of a packet, in the middle one of the tries.
 fn tenths<N: Router, R: Wait + Clock + Copy>(
-    rt: R,
+    rt: &R,
     alloc: Global,
     stages: &mut Stages<N, R>,
 ) -> io::Result<u128> {
     let mut figures = Vec::with_capacity(alloc, TRIES)?;
     for _ in 0..TRIES {
-        let start = Instant::now(&rt)?;
-        for _ in 0..BATCHES {
-            stages.pass_batch();
-        }
-        let spent = start.elapsed(&rt)?.as_nanos();
-        figures.push(spent.saturating_mul(10) / (u128::from(BATCHES) * BATCH as u128))?;
+        figures.push(tenths_once(rt, stages)?)?;
     }
-    figures.sort()?;
-    Ok(figures.get(TRIES / 2).copied().unwrap_or(0))
+    Ok(median(figures)?)
 }
 
 /// The tenths, and the sum of what left.
@@ -63,8 +78,9 @@ fn time<N: Router, R: Wait + Clock + Copy>(
     requires small { (link_count (arc_value shared).config ≡ 4) × ((arc_value shared).config.processors ≡ 1) }
 {
     let mut stages = stages_of::<N, R>(rt, alloc, blank, &shared)?;
-    let spent = tenths(rt, alloc, &mut stages)?;
-    Ok((spent, stages.into_sum()))
+    let spent = tenths(&rt, alloc, &mut stages);
+    let sum = stages.into_sum();
+    Ok((spent?, sum))
 }
 
 /// The first datagram's router.

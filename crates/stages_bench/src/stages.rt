@@ -4,25 +4,23 @@ ghost use Rattle.std.specs.Prelude.{◌≡◌, ◌<◌, [], Some, All, false, le
 ghost use Rattle.std.specs.Arc.{arc_value};
 ghost use Rattle.packet_ledger.specs.Share.{new_share};
 ghost use Rattle.router_rules.specs.Links.{link_count};
-ghost use Rattle.sample_stages.specs.Ends.{IsFresh, IsNew, IsUntaken};
+ghost use Rattle.stage_parts.specs.Outlets.{AreFresh};
+ghost use Rattle.sample_stages.specs.Ends.{IsFresh, IsUntaken};
 
 use crate::devices::{Flows, Sums};
-use crate::ends::{fill, new_links, new_returns};
+use crate::ends::{ForwarderEnds, ProcessorEnds, ReceiverEnds, new_ends};
+use crate::results::both;
 use packet_ledger::{Blank, Book, Share};
 use router_rules::Shared;
 use router_stages::{Band, Forwarder, Processor, Receiver};
-use ruled_pipe::{Consumer, Producer};
-use sample_stages::{Open, ends_of, next_outlet, next_producer, next_share};
-use stage_parts::{Buffer, Inlet, Outlet, Packet, Parcel, Question, Router};
+use sample_stages::{Open, next_share};
+use stage_parts::{Inlet, Router};
 use std::alloc::{AllocError, Global};
 use std::sync::atomic::AtomicU64;
 use std::sync::{Arc, Wait};
 
 /// How many packets each worker passes on before the next one takes its turns.
 pub const BATCH: usize = 64;
-
-/// How many entries each pipe holds, and how many free buffers there are.
-const CAPACITY: usize = 256;
 
 /// The workers.
 #[derive(Drop)]
@@ -55,33 +53,47 @@ impl<N: Router, R: Wait + Copy> Stages<N, R> {
     /// The sum of what left.
     pub fn into_sum(self) -> u64 {
         let Stages {
-            receiver: _,
-            processor: _,
+            receiver,
+            processor,
             forwarder,
         } = self;
-        let (sink, _, _, _, _) = forwarder.into_parts();
-        sink.sum()
+        drop(receiver);
+        drop(processor);
+        sum_of(forwarder)
     }
+}
+
+/// The sum of what left by a forwarder.
+fn sum_of<N: Router, R: Wait + Copy>(forwarder: Forwarder<N, R, Sums>) -> u64 {
+    let (sink, _, _, _, _) = forwarder.into_parts();
+    sink.sum()
+}
+
+/// A value to share, or the plain error in place of one that gives the value back.
+fn new_arc<T: Drop>(alloc: Global, value: T) -> Result<Arc<T, Global>, AllocError> {
+    Ok(Arc::new(alloc, value)?)
 }
 
 fn receiver<N: Router, R: Wait + Copy>(
     rt: R,
     alloc: Global,
     shared: &Arc<Shared, Global>,
-    free: Consumer<Buffer>,
-    processor: Outlet<Packet<N>>,
+    ends: ReceiverEnds<N>,
     share: Share<N>,
 ) -> Result<Receiver<N, R, Flows>, AllocError>
     requires config { N.config ≡ Some (arc_value shared.now).config }
     requires small { (link_count (arc_value shared.now).config ≡ 4) × ((arc_value shared.now).config.processors ≡ 1) }
-    requires free { free.looks ≡ [] }
-    requires processor { IsFresh processor }
+    requires free { ends.free.looks ≡ [] }
+    requires processors { (length ends.processors.items ≡ 1) × AreFresh ends.processors.items }
     requires share { share ≡ new_share }
 {
-    let shared = Arc::try_clone(shared)?;
-    let stop = Arc::new(alloc, AtomicU64::new(0))?;
-    let first = Buffer::new(alloc)?;
-    let processors = Vec::from_array(alloc, [processor])?;
+    let stop = new_arc(alloc, AtomicU64::new(0));
+    let (shared, stop) = both(Arc::try_clone(shared), stop)?;
+    let ReceiverEnds {
+        first,
+        free,
+        processors,
+    } = ends;
     Ok(Receiver::new(
         rt,
         shared,
@@ -99,42 +111,42 @@ fn processor<N: Router, R: Wait + Copy>(
     rt: R,
     alloc: Global,
     shared: &Arc<Shared, Global>,
-    packets: Consumer<Packet<N>>,
-    two: Outlet<Parcel<N>>,
-    slow: Outlet<Question<N>>,
-    one: Producer<Buffer>,
+    ends: ProcessorEnds<N>,
     share: Share<N>,
 ) -> Result<Processor<N, R, Open>, AllocError>
     requires config { N.config ≡ Some (arc_value shared.now).config }
     requires small { link_count (arc_value shared.now).config ≡ 4 }
-    requires packets { IsUntaken 1 packets }
-    requires ends { IsFresh two × IsFresh slow }
+    requires packets { IsUntaken 1 ends.packets }
+    requires links { (length ends.links.items ≡ 8) × AreFresh ends.links.items }
+    requires slow { IsFresh ends.slow }
+    requires free { length ends.free.items ≡ 4 }
     requires share { share ≡ new_share }
 {
-    let shared = Arc::try_clone(shared)?;
-    let gate = Arc::new(alloc, Open)?;
+    let (shared, gate) = both(Arc::try_clone(shared), new_arc(alloc, Open))?;
+    let ProcessorEnds {
+        packets,
+        links,
+        slow,
+        free,
+    } = ends;
     let from = Inlet::of(packets, 1);
-    let links = new_links(alloc, two)?;
-    let free = new_returns(alloc, one)?;
     Ok(Processor::new(rt, shared, 0, gate, from, links, slow, free, share))
 }
 
 fn forwarder<N: Router, R: Wait + Copy>(
     rt: R,
-    alloc: Global,
     shared: &Arc<Shared, Global>,
-    low: Consumer<Parcel<N>>,
-    one: Producer<Buffer>,
+    ends: ForwarderEnds<N>,
     share: Share<N>,
 ) -> Result<Forwarder<N, R, Sums>, AllocError>
     requires config { N.config ≡ Some (arc_value shared.now).config }
     requires small { link_count (arc_value shared.now).config ≡ 4 }
-    requires low { IsUntaken 1 low }
+    requires bands { IsUntaken 1 ends.low × IsUntaken 1 ends.high }
+    requires free { length ends.free.items ≡ 4 }
     requires share { share ≡ new_share }
 {
     let shared = Arc::try_clone(shared)?;
-    let (_, high) = ends_of::<Parcel<N>>(alloc, 1, 1)?;
-    let free = new_returns(alloc, one)?;
+    let ForwarderEnds { low, high, free } = ends;
     let low = Band::of(low, 1);
     let high = Band::of(high, 1);
     Ok(Forwarder::new(rt, shared, 2, low, high, Sums::new(), free, share))
@@ -153,22 +165,11 @@ pub fn stages_of<N: Router, R: Wait + Copy>(
     requires small { (link_count (arc_value shared.now).config ≡ 4) × ((arc_value shared.now).config.processors ≡ 1) }
 {
     let (_, mut shares) = Book::<N>::new(alloc, blank, 3)?;
-    let (mut frees, free) = ends_of::<Buffer>(alloc, CAPACITY, 3)?;
-    fill(&rt, alloc, next_producer(&mut frees), CAPACITY)?;
-    let (mut inner, packets) = ends_of::<Packet<N>>(alloc, CAPACITY, 1)?;
-    let (mut slows, _) = ends_of::<Question<N>>(alloc, 1, 1)?;
-    let (mut outer, low) = ends_of::<Parcel<N>>(alloc, CAPACITY, 1)?;
-    let outlet = next_outlet(&mut inner);
-    let share = next_share(&mut shares);
-    let receiver = receiver(rt, alloc, shared, free, outlet, share)?;
-    let two = next_outlet(&mut outer);
-    let slow = next_outlet(&mut slows);
-    let one = next_producer(&mut frees);
-    let share = next_share(&mut shares);
-    let processor = processor(rt, alloc, shared, packets, two, slow, one, share)?;
-    let one = next_producer(&mut frees);
-    let share = next_share(&mut shares);
-    let forwarder = forwarder(rt, alloc, shared, low, one, share)?;
+    let ends = new_ends::<N, R>(&rt, alloc)?;
+    let receiver = receiver(rt, alloc, shared, ends.receiver, next_share(&mut shares));
+    let processor = processor(rt, alloc, shared, ends.processor, next_share(&mut shares));
+    let forwarder = forwarder(rt, shared, ends.forwarder, next_share(&mut shares));
+    let (receiver, (processor, forwarder)) = both(receiver, both(processor, forwarder))?;
     Ok(Stages {
         receiver,
         processor,
