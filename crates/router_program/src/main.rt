@@ -3,7 +3,7 @@
 //! steps of the pipeline, one a line; `router check --config FILE` tells whether a configuration is good.
 #![tactic(auto)]
 
-ghost use Rattle.std.specs.Prelude.{◌≡◌, IfErr};
+ghost use Rattle.std.specs.Prelude.{◌≡◌, IfErr, is_ok};
 
 use command_words::{Order, WordsFault, read_words};
 use process_packet::{Config, Underlay};
@@ -52,7 +52,8 @@ fn told(alloc: Global, fault: ConfigFault, text: &str) -> Fault {
 
 /// What it means that the standard output was written to, or couldn't be.
 fn written(done: io::Result<()>) -> Result<(), Fault>
-    ensures { IfErr result (λ fault. fault ≡ Fault.Lines LinesFault.Output) }
+    ensures done { is_ok result ≡ is_ok done }
+    ensures fault { IfErr result (λ fault. fault ≡ Fault.Lines LinesFault.Output) }
 {
     match done {
         Ok(()) => Ok(()),
