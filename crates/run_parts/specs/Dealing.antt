@@ -1,10 +1,9 @@
 -- The pipes of a router, dealt.
-use Rattle.std.specs.Prelude.{◌≡◌, ◌+◌, ◌*◌, ℕ, List, [], length, Some, slice_get}
+use Rattle.std.specs.Prelude.{◌≡◌, ◌+◌, ℕ, List, [], length, Some, slice_get}
 use Rattle.process_packet.specs.declared.config.Config.{Config}
 use Rattle.ruled_pipe.specs.Producer.{Sender}
 use Rattle.ruled_pipe.specs.Consumer.{Taker, new_taker}
 use Rattle.ruled_pipe.specs.Pipe.{Shape, IsEndOf}
-use Rattle.router_laws.specs.Returned.{AllAt}
 use Rattle.router_rules.specs.Links.{link_count}
 use Rattle.router_ends.specs.Rows.{AreDealt, AreFor, HaveLeft, Row, fresh_ends, new_takers}
 use Rattle.run_laws.specs.Crew.{Piping}

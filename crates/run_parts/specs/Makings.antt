@@ -1,5 +1,5 @@
 -- What stands ready before the devices are taken: the pipes, with room for their ends, and what the workers are made of.
-use Rattle.std.specs.Prelude.{◌≡◌, ◌+◌, List}
+use Rattle.std.specs.Prelude.{◌+◌, List}
 use Rattle.pipe_order.specs.Item.{Arrival, Outgoing}
 use Rattle.router_rules.specs.Rules.{kinds}
 use Rattle.process_packet.specs.declared.config.Config.{Config}

@@ -5,16 +5,19 @@
 mod entering;
 mod leaving;
 mod line;
+mod makings;
 mod middle;
 mod pipes;
 mod preparing;
 mod reserve;
+mod results;
 mod waking;
 
 pub use entering::receivers_of;
 pub use leaving::forwarders_of;
 pub use line::Line;
+pub use makings::Makings;
 pub use pipes::Pipes;
-pub use preparing::{Makings, Prepared, prepare};
+pub use preparing::{Prepared, prepare};
 pub use reserve::{Berths, Space};
 pub use waking::{notify_all, notify_one};

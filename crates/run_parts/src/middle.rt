@@ -89,10 +89,11 @@ fn processor_at<N: Router, G: Gate + Drop, R: Wait + Copy>(
 {
     let shared = Arc::try_clone(shared)?;
     let gate = Arc::try_clone(gate)?;
+    let event = events.slow.another()?;
     let Ways { links, free, share } = ways;
     let from = Inlet::of(taker, producers);
     let mut slow = Outlet::of(asking);
-    slow.set_event(events.slow.another()?);
+    slow.set_event(event);
     Ok(Processor::new(rt, shared, index, gate, from, links, slow, free, share))
 }
 

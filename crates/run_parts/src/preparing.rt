@@ -1,6 +1,6 @@
 //! All that a run takes memory for, before its first thread.
 
-ghost use Rattle.std.specs.Prelude.{◌≡◌, ◌+◌, ◌*◌, ◌≤◌, IfOk, Some, [], length, vec_capacity};
+ghost use Rattle.std.specs.Prelude.{◌≡◌, ◌+◌, ◌*◌, ◌≤◌, IfOk, Some, [], vec_capacity};
 ghost use Rattle.std.specs.Arc.{arc_value};
 ghost use Rattle.router_rules.specs.Links.{link_count};
 ghost use Rattle.run_parts.specs.Dealing.{piping};
@@ -8,98 +8,19 @@ ghost use Rattle.run_parts.specs.Rest.{AreNewShares};
 ghost use Rattle.run_parts.specs.Room.{HaveBerths, HaveSpace};
 ghost use Rattle.run_parts.specs.Makings.{AreMakings};
 
-use crate::entering::{Entering, all_entering};
-use crate::leaving::{Leaving, all_leaving};
-use crate::line::Line;
-use crate::middle::{Deciding, deciding_of};
-use crate::pipes::{AllPipes, Pipes, all_pipes};
+use crate::makings::{Makings, make_all};
 use crate::reserve::{Berths, Space, berths_for, space_for};
+use crate::results::both;
 use crate::waking::{Events, events_for};
 use packet_ledger::{Blank, Book, Share};
 use process_packet::Config;
-use router_ends::{Shutter, shutters};
 use router_rules::{Shared, link_count};
 use router_stages::{Forwarder, Processor, Receiver, SlowPath};
-use stage_parts::{Event, Gate, Parcel, Router, Sink, Source};
+use stage_parts::{Event, Gate, Router, Sink, Source};
 use std::alloc::{AllocError, Global};
 use std::sync::atomic::AtomicU64;
 use std::sync::{Arc, Wait};
 use worker_threads::{HOLD, Handle, Orders, Work};
-
-/// The pipes, and what the workers are made of, before any device is taken.
-#[derive(Drop)]
-pub struct Makings<N: Router, G: Gate + Drop, R: Wait + Copy> {
-    pub receivers: Vec<Entering<N>>,
-    pub processors: Vec<Processor<N, R, G>>,
-    pub slow: SlowPath<N, R>,
-    pub forwarders: Vec<Leaving<N>>,
-    pub shutters: Vec<Shutter<Parcel<N>>>,
-    pub pipes: Pipes<N>,
-}
-
-fn make_all<N: Router, G: Gate + Drop, R: Wait + Copy>(
-    rt: R,
-    alloc: Global,
-    shared: &Arc<Shared, Global>,
-    stop: &Arc<AtomicU64, Global>,
-    gate: G,
-    shares: Vec<Share<N>>,
-    events: &Events,
-) -> Result<Makings<N, G, R>, AllocError>
-    requires config { N.config ≡ Some (arc_value shared.now).config }
-    requires shares { AreNewShares (2 * link_count (arc_value shared.now).config + (arc_value shared.now).config.processors + 1) shares.items }
-    ensures { IfOk result (λ m. AreMakings (arc_value shared.now).config (piping m.pipes.inner.items m.pipes.middle m.pipes.outer.items) m.pipes.inner_rooms.items m.pipes.outer_rooms.items m.receivers.items m.processors.items m.slow m.forwarders.items m.shutters.items) }
-{
-    // At most 33, which bounds the controller's ends.
-    let _ = link_count(&shared.config);
-    let AllPipes {
-        pipes,
-        to_processors,
-        packets,
-        asking,
-        asked,
-        to_links,
-        parcels,
-        free,
-    } = all_pipes(&rt, alloc, shared)?;
-    let mut shares = Line::of(shares);
-    let mut links = Line::of(to_links);
-    let mut back = Line::of(free.bundles);
-    let receivers = all_entering(
-        alloc,
-        shared,
-        stop,
-        &pipes.inner,
-        to_processors,
-        free.takers,
-        &mut shares,
-        events,
-    )?;
-    let Deciding { processors, slow } = deciding_of(
-        rt,
-        alloc,
-        shared,
-        gate,
-        &pipes,
-        packets,
-        asking,
-        asked,
-        &mut links,
-        &mut back,
-        &mut shares,
-        events,
-    )?;
-    let shutters = shutters(alloc, shared, links.next())?;
-    let forwarders = all_leaving(alloc, shared, &pipes.outer, parcels, &mut back, &mut shares)?;
-    Ok(Makings {
-        receivers,
-        processors,
-        slow,
-        forwarders,
-        shutters,
-        pipes,
-    })
-}
 
 /// Orders for the threads of workers of one kind, each with its worker's event if it has one, room for the workers and for the threads' handles.
 #[derive(Drop)]
@@ -263,6 +184,68 @@ fn book_for<N: Router>(
     Ok(made)
 }
 
+/// The workers without their devices, what they share, and their desks.
+#[derive(Drop)]
+struct Staff<N, S, K, G, R>
+where
+    N: Router,
+    S: Source + Drop,
+    K: Sink + Drop,
+    G: Gate + Drop,
+    R: Wait + Copy,
+{
+    shared: Arc<Shared, Global>,
+    orders: Orders<N>,
+    makings: Makings<N, G, R>,
+    desks: Desks<N, S, K, G, R>,
+}
+
+fn staff_for<N, S, K, G, R>(
+    rt: R,
+    alloc: Global,
+    blank: Blank,
+    config: Config,
+    gate: G,
+    links: usize,
+    processors: usize,
+) -> Result<Staff<N, S, K, G, R>, AllocError>
+where
+    N: Router,
+    S: Source + Drop,
+    K: Sink + Drop,
+    G: Gate + Drop,
+    R: Wait + Copy,
+    requires name { blank.table ≡ N.table }
+    requires config { N.config ≡ Some config }
+    requires links { links ≡ link_count config }
+    requires few { links ≤ 33 }
+    requires workers { N.workers ≡ 2 * link_count config + config.processors + 1 }
+    ensures shared { IfOk result (λ s. (arc_value s.shared).config ≡ config) }
+    ensures makings { IfOk result (λ s. AreMakings config (piping s.makings.pipes.inner.items s.makings.pipes.middle s.makings.pipes.outer.items) s.makings.pipes.inner_rooms.items s.makings.pipes.outer_rooms.items s.makings.receivers.items s.makings.processors.items s.makings.slow s.makings.forwarders.items s.makings.shutters.items) }
+    ensures receivers { IfOk result (λ s. (s.desks.receivers.workers.items ≡ []) × (vec_capacity s.desks.receivers.workers ≡ links) × (s.desks.receivers.room.items ≡ []) × (vec_capacity s.desks.receivers.room ≡ links)) }
+    ensures processors { IfOk result (λ s. (s.desks.processors.room.items ≡ []) × (vec_capacity s.desks.processors.room ≡ processors)) }
+    ensures slow { IfOk result (λ s. (s.desks.slow.workers.items ≡ []) × (vec_capacity s.desks.slow.workers ≡ 1) × (s.desks.slow.room.items ≡ []) × (vec_capacity s.desks.slow.room ≡ 1)) }
+    ensures forwarders { IfOk result (λ s. (s.desks.forwarders.workers.items ≡ []) × (vec_capacity s.desks.forwarders.workers ≡ links) × (s.desks.forwarders.room.items ≡ []) × (vec_capacity s.desks.forwarders.room ≡ links)) }
+{
+    let Common {
+        shared,
+        word,
+        book,
+        shares,
+        events,
+    } = common_for(alloc, blank, config, links)?;
+    let makings = make_all(rt, alloc, &shared, &word, gate, shares, &events);
+    let orders = Orders::new(word, book);
+    let desks = desks_for(alloc, &orders, events, links, processors);
+    let (makings, desks) = both(makings, desks)?;
+    Ok(Staff {
+        shared,
+        orders,
+        makings,
+        desks,
+    })
+}
+
 /// It is given no device, so that each stays with the caller where memory runs out.
 pub fn prepare<N, S, K, G, R>(
     rt: R,
@@ -291,24 +274,25 @@ where
 {
     let links = link_count(&config);
     let processors = usize::from(config.processors);
-    let berths = berths_for(alloc, links, processors)?;
-    let space = space_for(alloc, links, processors)?;
-    let Common {
+    let room = both(
+        berths_for(alloc, links, processors),
+        space_for(alloc, links, processors),
+    );
+    let staff = staff_for(rt, alloc, blank, config, gate, links, processors);
+    let (staff, (berths, space)) = both(staff, room)?;
+    let Staff {
         shared,
-        word,
-        book,
-        shares,
-        events,
-    } = common_for(alloc, blank, config, links)?;
-    let makings = make_all(rt, alloc, &shared, &word, gate, shares, &events)?;
-    let orders = Orders::new(word, book);
+        orders,
+        makings,
+        desks,
+    } = staff;
     let Desks {
         receivers,
         processors,
         slow,
         forwarders,
         forwarder_events,
-    } = desks_for(alloc, &orders, events, links, processors)?;
+    } = desks;
     Ok(Prepared {
         shared,
         orders,

@@ -1,0 +1,8 @@
+-- What a result that is there says.
+use Rattle.std.proofs.Common.{◌≡◌, subst}
+use Rattle.std.specs.Prelude.{Result, Ok, IfOk}
+
+module _ {A E : Type 0} where
+  -- of the value what is known of the result
+  pub of_ok : (P : A → Type 0) (r : Result A E) (x : A) → r ≡ Ok x → IfOk r P → P x
+  of_ok P r x is all = subst (λ (s : Result A E). IfOk s P) is all
