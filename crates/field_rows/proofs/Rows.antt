@@ -87,9 +87,9 @@ Puts-stands old new at text puts =
     let dropped : drop at new ≡ text ++ drop (at + length text) old = rw puts.parts (drop_at (take at old) (text ++ drop (at + length text) old) at front-len) in
     record { read = rw dropped (take_at text (drop (at + length text) old) (length text) refl) }
 
--- what stands behind the text that was written is as before
-pub Puts-behind : (old new : List ℕ) (at : ℕ) (text : List ℕ) → Puts old new at text → drop (at + length text) new ≡ drop (at + length text) old
-Puts-behind old new at text puts =
+-- what stands after the text that was written is as before
+pub Puts-after : (old new : List ℕ) (at : ℕ) (text : List ℕ) → Puts old new at text → drop (at + length text) new ≡ drop (at + length text) old
+Puts-after old new at text puts =
     let p = take at old ++ text in
     let q = drop (at + length text) old in
     let front-len : length (take at old) ≡ at = length-take-le at old (omega (arith, puts.room)) in

@@ -28,5 +28,5 @@ pub record NumbersReadBack : Type 0 where
 pub record WrittenStands : Type 0 where
   pub there : (old new : List ℕ) (at : ℕ) (text : List ℕ) → Puts old new at text → StandsAt new at text
   pub before : (old new : List ℕ) (at : ℕ) (text : List ℕ) → Puts old new at text → take at new ≡ take at old
-  pub behind : (old new : List ℕ) (at : ℕ) (text : List ℕ) → Puts old new at text → drop (at + length text) new ≡ drop (at + length text) old
+  pub after : (old new : List ℕ) (at : ℕ) (text : List ℕ) → Puts old new at text → drop (at + length text) new ≡ drop (at + length text) old
   pub len : (old new : List ℕ) (at : ℕ) (text : List ℕ) → Puts old new at text → length new ≡ length old

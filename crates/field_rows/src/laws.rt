@@ -14,7 +14,7 @@ pub fn numbers_read_back()
     ensures { NumbersReadBack }
 {}
 
-/// What was written stands where it was written, and what lies before and behind is as it was.
+/// What was written stands where it was written, and what lies before and after is as it was.
 pub fn written_stands()
     ensures { WrittenStands }
 {}

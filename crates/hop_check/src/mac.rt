@@ -32,7 +32,7 @@ pub fn verify(cmac: &Cmac, info: &Info, hop: &Hop) -> bool
     hop.mac == cmac.tag6_block(&mac_input(info, hop))
 }
 
-/// The segment identifier behind a hop with this MAC, in the direction of construction; from that one,
+/// The segment identifier after a hop with this MAC, in the direction of construction; from that one,
 /// the one before it. It is the identifier with the MAC's first two bytes xored in.
 pub fn chain(seg_id: u16, mac: &[u8; 6]) -> u16
     ensures { result ≡ chain seg_id mac.now }

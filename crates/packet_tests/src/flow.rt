@@ -20,7 +20,7 @@ fn tells_the_flow(rt: HostRuntime) {
     assert_eq!(rt; flow_of(&HEADER, false), Some(first_flow(false)));
     assert_eq!(rt; flow_of(&HEADER, true), Some(first_flow(false)));
     assert_eq!(rt; flow_of(&HEADER[..35], false), None);
-    // the traffic class of expedited forwarding, with any of the two bits behind it, and its neighbours
+    // the traffic class of expedited forwarding, with any of the two bits after it, and its neighbours
     let classes = [(0x80, true), (0xb0, true), (0x70, false), (0xc0, false)];
     for (second, high) in classes {
         let mut bytes = HEADER;

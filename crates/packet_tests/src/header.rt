@@ -1,9 +1,9 @@
 use sample_packets::{FIRST, with_bytes};
 use scion_header::{
     Address, Domain, Header, HeaderEnds, HeaderFault, Host, NoRoom, Upper, UpperPlace,
-    check_header, destination_address, destination_domain, flow_id, front_end, lawful, next_header,
-    payload_length, read_header, source_domain, traffic_class, upper_layer, upper_place,
-    write_header,
+    check_header, destination_address, destination_domain, flow_id, front_end, header_is_lawful,
+    next_header, payload_length, read_header, source_domain, traffic_class, upper_layer,
+    upper_place, write_header,
 };
 
 /// The IPv4 host of 1-ff00:0:`number`.
@@ -16,7 +16,7 @@ fn address(number: u16, host: [u8; 4]) -> Address {
     }
 }
 
-/// The header of the datagram, with another protocol behind it.
+/// The header of the datagram, with another protocol after it.
 fn header(next_header: u8) -> Header {
     Header {
         traffic_class: 0,
@@ -48,7 +48,7 @@ fn reads_and_writes_a_datagram(rt: HostRuntime) {
     let mut written = [0x55; 40];
     written[..36].copy_from_slice(&FIRST[..36]);
     assert_eq!(rt; room, written);
-    lawful();
+    header_is_lawful();
 }
 
 #[test]
@@ -96,13 +96,13 @@ fn refuses_what_is_no_header(rt: HostRuntime) {
 
 #[test]
 fn finds_the_upper_layer(rt: HostRuntime) {
-    // the protocol behind the header, what stands there, the upper layer's protocol and place if there
+    // the protocol after the header, what stands there, the upper layer's protocol and place if there
     // is one, and what it is
     let layers = [
         (17, b"".as_slice(), Some((17, 0)), Upper::Other),
         (202, b"".as_slice(), Some((202, 0)), Upper::Cut),
         (202, b"\x82".as_slice(), Some((202, 0)), Upper::Scmp(130)),
-        // behind one extension
+        // after one extension
         (
             200,
             b"\xca\x00\x00\x00\x04\x33\x00\x00".as_slice(),
@@ -127,7 +127,7 @@ fn finds_the_upper_layer(rt: HostRuntime) {
             Some((202, 4)),
             Upper::Cut,
         ),
-        // behind both
+        // after both
         (
             200,
             b"\xc9\x00\x00\x00\xca\x01\x00\x00\x00\x00\x00\x00\x82".as_slice(),

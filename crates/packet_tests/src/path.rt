@@ -1,8 +1,8 @@
 use crate::hops::hop_between;
 use field_rows::array_at;
 use path_fields::{
-    Hop, Info, Meta, NoRoom, PathEnd, PathFault, advance, check_path, lawful, read_hop, read_info,
-    read_meta, read_path, reversed, set_cursor, set_seg_id, write_path,
+    Hop, Info, Meta, NoRoom, PathEnd, PathFault, advance, check_path, path_is_lawful, read_hop,
+    read_info, read_meta, read_path, reversed, set_cursor, set_seg_id, write_path,
 };
 use sample_packets::{FIRST, PATH_AT};
 use std::test::Fail;
@@ -48,7 +48,7 @@ fn reads_and_writes_a_path(rt: HostRuntime) -> Result<(), Fail> {
     let mut written = [0x55; 50];
     written[..48].copy_from_slice(&bytes);
     assert_eq!(rt; room, written);
-    lawful();
+    path_is_lawful();
     Ok(())
 }
 

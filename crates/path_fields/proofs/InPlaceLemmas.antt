@@ -12,8 +12,8 @@ use Rattle.path_fields.specs.InPlace.{with_segment_id}
 
 -- ---- a write within a longer text
 
-behind : (a old new : List ℕ) (at : ℕ) (text : List ℕ) → Puts old new at text → Puts (a ++ old) (a ++ new) (length a + at) text
-behind a old new at text puts =
+after : (a old new : List ℕ) (at : ℕ) (text : List ℕ) → Puts old new at text → Puts (a ++ old) (a ++ new) (length a + at) text
+after a old new at text puts =
     let place : length a + at + length text ≡ length a + (at + length text) = omega arith in
     let front : take (length a + at) (a ++ old) ≡ a ++ take at old = take-append-add a old at in
     let back : drop (length a + at + length text) (a ++ old) ≡ drop (at + length text) old = rw place (drop-append-add a old (at + length text)) in
@@ -44,7 +44,7 @@ id_written [] k id there = absurd (omega arith)
 id_written (s ∷ ss) zero id there = record { parts = refl; room = omega arith }
 id_written (s ∷ ss) (suc k) id there =
     let place : 8 + (8 * k + 2) ≡ 8 * suc k + 2 = omega arith in
-    rw (← place) (behind (rows (info_table s.info)) (infos_text ss) (infos_text (with_segment_id ss k id)) (8 * k + 2) (row (field 16 id ∷ [])) (id_written ss k id (omega arith)))
+    rw (← place) (after (rows (info_table s.info)) (infos_text ss) (infos_text (with_segment_id ss k id)) (8 * k + 2) (row (field 16 id ∷ [])) (id_written ss k id (omega arith)))
 
 same_hops_text : (ss : List Segment) (k id : ℕ) → hops_text (with_segment_id ss k id) ≡ hops_text ss
 same_hops_text [] k id = refl
@@ -83,7 +83,7 @@ id_changed p k id place old new puts place-is old-is there =
     let meta = rows (meta_table p) in
     let text = row (field 16 id ∷ []) in
     let infos' = infos_text (with_segment_id p.segments k id) in
-    let within = behind meta _ _ _ text (before (hops_text p.segments) _ _ _ text (id_written p.segments k id there)) in
+    let within = after meta _ _ _ text (before (hops_text p.segments) _ _ _ text (id_written p.segments k id there)) in
     let named : Puts (path_text p) (path_text (with_id p k id)) (4 + (8 * k + 2)) text =
     subst (λ t. Puts (path_text p) t (4 + (8 * k + 2)) text)
     (ap₂ (λ t u. t ++ (infos' ++ u)) (sym (same_meta p k id)) (sym (same_hops_text p.segments k id)))

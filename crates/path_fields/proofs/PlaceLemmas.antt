@@ -118,9 +118,9 @@ last_is p end ends =
     let position = p.current_hop - first_hop p.lengths p.current_info in
     let size = hops_in (segments p) p.current_info in
     elim (cases_eq (p.current_hop + 1) end) [
-      | inl same ↦ eq-eqb _ _ same ∙ sym (eq-eqb (position + 1) size (omega (arith, its.size, its.behind, same, end-is)))
+      | inl same ↦ eq-eqb _ _ same ∙ sym (eq-eqb (position + 1) size (omega (arith, its.size, its.from_first, same, end-is)))
       | inr other ↦
-          let different : position + 1 ≢ size = omega (arith, its.size, its.behind, other, end-is) in
+          let different : position + 1 ≢ size = omega (arith, its.size, its.from_first, other, end-is) in
           ne_eqb _ _ other ∙ sym (ne_eqb (position + 1) size different)
     ]
 

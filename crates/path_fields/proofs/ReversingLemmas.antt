@@ -161,7 +161,7 @@ at_hop lengths info hop = place_at info (hop - first_hop lengths info)
 same_place : (k k' i i' : ℕ) → k ≡ k' → i ≡ i' → place_at k i ≡ place_at k' i'
 same_place k k' i i' e f = ap₂ place_at e f
 
--- the place of the hop that has as many hops before it as the current one has behind it
+-- the place of the hop that has as many hops before it as the current one has after it
 place_back : (p : Path) (back : List ℕ) (hop : ℕ) → IsBack p.lengths back → hop + p.current_hop + 1 ≡ hop_count p.lengths
     → at_hop back (segment_of back hop) hop ≡ mirrored (segments p) (place p)
 place_back p back hop is hop-is =
@@ -175,10 +175,10 @@ place_back p back hop is hop-is =
     let k' = count - 1 - k in
     let few : k' < 3 = omega (arith, (few_segments p).1, sizes.count) in
     let from : first_hop back k' ≤ hop = omega (arith, end, its.inside, hop-is) in
-    let below : hop < first_hop back k' + slice_index back k' = omega (arith, end, size, its.behind, hop-is) in
+    let below : hop < first_hop back k' + slice_index back k' = omega (arith, end, size, its.from_first, hop-is) in
     let segment-is : segment_of back hop ≡ k' = its_segment_is back k' hop few from below in
     ap (λ (n : ℕ). at_hop back n hop) segment-is
-    ∙ same_place k' (length (segments p) - 1 - k) (hop - first_hop back k') (hops_in (segments p) k - 1 - (p.current_hop - first_hop p.lengths k)) (ap (λ (n : ℕ). n - 1 - k) (sym sizes.count)) (omega (arith, end, its.size, its.behind, its.inside, hop-is))
+    ∙ same_place k' (length (segments p) - 1 - k) (hop - first_hop back k') (hops_in (segments p) k - 1 - (p.current_hop - first_hop p.lengths k)) (ap (λ (n : ℕ). n - 1 - k) (sym sizes.count)) (omega (arith, end, its.size, its.from_first, its.inside, hop-is))
 
 -- ---- the segments in reverse
 

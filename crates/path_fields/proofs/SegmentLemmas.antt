@@ -37,10 +37,10 @@ hops_in_from k zero n lengths (i ∷ infos) hops n-is there room =
     ∙ length-take-le (slice_index lengths n) (drop (first_hop lengths n) hops) (omega (arith, length-drop (first_hop lengths n) hops)))
 hops_in_from k (suc j) n lengths (i ∷ infos) hops n-is there room = hops_in_from (k + 1) j n lengths infos hops (omega arith) (omega arith) room
 
-none_behind : (k j : ℕ) (lengths : List ℕ) (infos : List Info) (hops : List Hop) → length infos ≤ j → hops_in (segments_from k lengths infos hops) j ≡ 0
-none_behind k j lengths [] hops behind = refl
-none_behind k zero lengths (i ∷ infos) hops behind = absurd (omega arith)
-none_behind k (suc j) lengths (i ∷ infos) hops behind = none_behind (k + 1) j lengths infos hops (omega arith)
+none_after : (k j : ℕ) (lengths : List ℕ) (infos : List Info) (hops : List Hop) → length infos ≤ j → hops_in (segments_from k lengths infos hops) j ≡ 0
+none_after k j lengths [] hops later = refl
+none_after k zero lengths (i ∷ infos) hops later = absurd (omega arith)
+none_after k (suc j) lengths (i ∷ infos) hops later = none_after (k + 1) j lengths infos hops (omega arith)
 
 -- a path's segments have the sizes of its lengths
 pub path_sizes : (p : Path) → HasSizes (segments p) p.lengths
@@ -56,14 +56,14 @@ path_sizes p =
       | One some none nothing is ↦ record {
         count = count;
         first = first (omega (arith, p.has_infos)) (omega (arith, p.has_hops));
-        second = none_behind 0 1 l infos hops (omega (arith, p.has_infos)) ∙ sym none;
-        third = none_behind 0 2 l infos hops (omega (arith, p.has_infos)) ∙ sym nothing;
+        second = none_after 0 1 l infos hops (omega (arith, p.has_infos)) ∙ sym none;
+        third = none_after 0 2 l infos hops (omega (arith, p.has_infos)) ∙ sym nothing;
       }
       | Two some more nothing is ↦ record {
         count = count;
         first = first (omega (arith, p.has_infos)) (omega (arith, p.has_hops));
         second = second (omega (arith, p.has_infos)) (omega (arith, p.has_hops));
-        third = none_behind 0 2 l infos hops (omega (arith, p.has_infos)) ∙ sym nothing;
+        third = none_after 0 2 l infos hops (omega (arith, p.has_infos)) ∙ sym nothing;
       }
       | Three some more most is ↦ record {
         count = count;
@@ -117,7 +117,7 @@ one_part hops = flat_map-map hop_text hop_field hops
 one_segment : (a : ℕ) (hops : List Hop) → length hops ≤ a → flat_map hop_text (map hop_field (take a hops)) ++ [] ≡ text_of hops
 one_segment a hops all = append-nil _ ∙ one_part (take a hops) ∙ ap text_of (take_all a hops all)
 
--- what stands before a place of the list, and what stands behind it
+-- what stands before a place of the list, and what stands after it
 two_parts : (a : ℕ) (hops : List Hop) (rest : List ℕ) → rest ≡ text_of (drop a hops) → flat_map hop_text (map hop_field (take a hops)) ++ rest ≡ text_of hops
 two_parts a hops rest rest-is =
     ap₂ (λ t u. t ++ u) (one_part (take a hops)) rest-is
@@ -169,8 +169,8 @@ number_is p =
     let few = few_segments p in
     let there : p.current_info < length (segments p) = omega (arith, its.there, info-is, sizes.count) in
     let before = hops_before (segments p) p.lengths p.current_info sizes (omega (arith, few.1)) there in
-    let behind : first_hop p.lengths p.current_info ≤ p.current_hop = rw info-is its.after in
-    omega (arith, before, behind)
+    let from_first : first_hop p.lengths p.current_info ≤ p.current_hop = rw info-is its.after in
+    omega (arith, before, from_first)
 
 hops_in_is : (ss : List Segment) (lengths : List ℕ) (k : ℕ) → HasSizes ss lengths → k < 3 → hops_in ss k ≡ slice_index lengths k
 hops_in_is ss lengths zero sizes few = sizes.first
@@ -182,7 +182,7 @@ hops_in_is ss lengths (suc (suc (suc k))) sizes few = absurd (omega arith)
 pub record InCurrentSegment (p : Path) : Type 0 where
   pub few : p.current_info < 3
   pub there : p.current_info < segment_count p.lengths
-  pub behind : first_hop p.lengths p.current_info ≤ p.current_hop
+  pub from_first : first_hop p.lengths p.current_info ≤ p.current_hop
   pub inside : p.current_hop < first_hop p.lengths p.current_info + slice_index p.lengths p.current_info
   pub size : hops_in (segments p) p.current_info ≡ slice_index p.lengths p.current_info
 
@@ -195,7 +195,7 @@ in_current_segment p =
     record {
       few = info-lt;
       there = rw info-is its.there;
-      behind = rw info-is its.after;
+      from_first = rw info-is its.after;
       inside = rw info-is its.inside;
       size = hops_in_is (segments p) p.lengths p.current_info sizes info-lt;
     }
@@ -254,7 +254,7 @@ lawful p =
       some = few.0;
       few = few.1;
       hops = omega (arith, all_hops (segments p) p.lengths sizes few.1, most);
-      inside = omega (arith, its.size, its.inside, its.behind);
+      inside = omega (arith, its.size, its.inside, its.from_first);
     }
 
 -- its text is as long as the lengths say

@@ -59,7 +59,7 @@ pub(crate) fn first_hop(lengths: &[u8; 3], segment: usize) -> usize
     }
 }
 
-/// The number behind that of the last hop of a segment.
+/// The number after that of the last hop of a segment.
 pub(crate) fn end_of(lengths: &[u8; 3], segment: u8) -> usize
     ensures { segment < 3 → result ≡ first_hop lengths.now segment + slice_index lengths.now segment }
 {

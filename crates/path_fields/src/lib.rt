@@ -21,7 +21,7 @@ mod writing;
 pub use fault::{NoRoom, PathEnd, PathFault};
 pub use fields::{Hop, Info};
 pub use in_place::{set_cursor, set_seg_id};
-pub use laws::lawful;
+pub use laws::path_is_lawful;
 pub use meta::{Meta, check_path, read_meta};
 pub use moves::advance;
 pub use path::Path;

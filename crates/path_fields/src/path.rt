@@ -15,7 +15,7 @@ pub struct Path {
     pub current_hop: u8,
     /// The reserved bits, kept as they came.
     pub reserved: u8,
-    /// How many hops each segment has, 0 behind the last segment.
+    /// How many hops each segment has, 0 after the last segment.
     pub lengths: [u8; 3],
     pub infos: ArrayVec<Info, 3>,
     pub hops: ArrayVec<Hop, 64>,

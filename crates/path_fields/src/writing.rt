@@ -14,7 +14,7 @@ use crate::lengths::{hop_count, segment_count};
 use crate::path::Path;
 use field_rows::{put, put_u8, put_u16, put_u32};
 
-/// Six more bits behind those of a word.
+/// Six more bits after those of a word.
 fn with_six(word: u32, bits: u8) -> u32
     requires word { word < 2 ^ 26 }
     requires bits { bits < 2 ^ 6 }
@@ -90,7 +90,7 @@ fn write_hops(hops: &[Hop], out: &mut [u8], at: usize)
     }
 }
 
-/// Writes the path at the front, and says how many bytes it is; what lies behind it is as it was.
+/// Writes the path at the front, and says how many bytes it is; what lies after it is as it was.
 /// Where there is no room for it nothing is written.
 pub fn write_path(path: &Path, out: &mut [u8]) -> Result<usize, NoRoom>
     ensures written { OnOk result (Puts out.old out.new 0 (path_text (fields_of path.now))) }

@@ -1,6 +1,6 @@
 //! Payloads, and the answers of routers.
 
-/// The protocols behind the header.
+/// The protocols after the header.
 pub const UDP: u8 = 17;
 
 pub const SCMP: u8 = 202;
@@ -34,7 +34,7 @@ pub struct Reply {
     pub interface: u64,
 }
 
-/// The reply that a datagram carries, if it carries one: an SCMP message of type 131 behind the header.
+/// The reply that a datagram carries, if it carries one: an SCMP message of type 131 after the header.
 pub fn reply_of(datagram: &[u8]) -> Option<Reply> {
     let words = *datagram.get(5)?;
     let message = datagram.get(4 * usize::from(words)..)?;

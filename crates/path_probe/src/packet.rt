@@ -10,10 +10,10 @@ use path_fields::{Hop, Info, Path, write_path};
 use scion_header::{Address, Header, Host, write_header};
 use std::alloc::{AllocError, Global};
 
-/// Where the path begins: behind the common header and two AS numbers with an IPv4 host each.
+/// Where the path begins: after the common header and two AS numbers with an IPv4 host each.
 const PATH_AT: usize = 36;
 
-/// Where the payload begins: behind a path of two segments of two hops each.
+/// Where the payload begins: after a path of two segments of two hops each.
 const PAYLOAD_AT: usize = 104;
 
 /// One end of a link between two ASes, with the key of its AS.

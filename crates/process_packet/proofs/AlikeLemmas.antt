@@ -4,9 +4,9 @@ use Rattle.std.proofs.lemmas.List.Sums.{sum_by-cons}
 use Rattle.path_fields.specs.InPlace.{with_segment_id}
 use Rattle.scion_packet.specs.Path.{InfoField, Place, Segment, count_hops, hops_in, place_at}
 use Rattle.scion_packet.specs.Places.{hop_there, info_there}
-use Rattle.process_packet.specs.Sight.{IsAlike, IsWhole, with_id}
-use Rattle.process_packet.specs.Spot.{IsSpot}
-use Rattle.process_packet.specs.declared.spot.Spot.{Spot}
+use Rattle.process_packet.specs.PacketView.{IsAlike, IsWhole, with_id}
+use Rattle.process_packet.specs.PathHop.{IsPathHop}
+use Rattle.process_packet.specs.declared.path_hop.PathHop.{PathHop}
 
 -- an info field with another identifier
 abbrev pub with_id_of : ℕ → InfoField → InfoField
@@ -83,8 +83,8 @@ whole_alike k old new alike whole = record {
 }
 
 -- what stands at a place of another segment stays
-pub spot_alike : (v : Spot) (k : ℕ) (old new : List Segment) (at : Place) → IsSpot v old at → IsAlike k old new → at.segment ≢ k → IsSpot v new at
-spot_alike v k old new at is alike other = record {
+pub path_hop_alike : (v : PathHop) (k : ℕ) (old new : List Segment) (at : Place) → IsPathHop v old at → IsAlike k old new → at.segment ≢ k → IsPathHop v new at
+path_hop_alike v k old new at is alike other = record {
   place = record {
     segment = is.place.segment;
     position = is.place.position;

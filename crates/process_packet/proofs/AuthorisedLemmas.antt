@@ -3,7 +3,7 @@ use Rattle.std.proofs.Common.{◌≡◌, ◌||◌, not, Bool, true, false, refl,
 use Rattle.process_packet.specs.Decide.{verdict}
 use Rattle.process_packet.specs.Laws.{IsAuthorised}
 use Rattle.process_packet.specs.Network.{is_local}
-use Rattle.process_packet.specs.Standing.{Standing, arrives, is_authentic, is_external, is_first_of_path}
+use Rattle.process_packet.specs.PacketState.{PacketState, arrives, is_authentic, is_external, is_first_of_path}
 use Rattle.process_packet.specs.Shown.{AllAuthorisedAreSent}
 use Rattle.process_packet.proofs.Coming.{ComesAsItShould}
 use Rattle.process_packet.proofs.RowsPassed.{delivers, replies_at_entry, replies_at_exit, sent_by_link, sent_to_sibling, turned_is}
@@ -14,7 +14,7 @@ source_lawful true first local elsewhere here = ap not (elsewhere refl)
 source_lawful false true local elsewhere here = here refl refl
 source_lawful false false local elsewhere here = refl
 
-pub comes_so : (s : Standing) → IsAuthorised s → ComesAsItShould s
+pub comes_so : (s : PacketState) → IsAuthorised s → ComesAsItShould s
 comes_so s is = record {
   short = is.short;
   sound = is.sound;
@@ -30,7 +30,7 @@ comes_so s is = record {
 pub authorised_sent : AllAuthorisedAreSent
 unfolding verdict
 authorised_sent n link source moment bytes is =
-    let s : Standing = arrives n link source moment bytes in
+    let s : PacketState = arrives n link source moment bytes in
     let comes : ComesAsItShould s = comes_so s is in
     record {
       entry_reply = λ asks. replies_at_entry s comes asks;

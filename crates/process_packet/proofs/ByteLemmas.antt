@@ -8,7 +8,7 @@ use Rattle.field_rows.specs.Row.{rows}
 use Rattle.path_fields.specs.InPlace.{with_segment_id}
 use Rattle.scion_packet.specs.Path.{PathFields, Place, Segment, hop_number, hop_text, hops_in, hops_text, info_table, infos_text, meta_table, path_text}
 use Rattle.scion_packet.proofs.Runs.{infos_len}
-use Rattle.process_packet.specs.Sight.{IsAlike, with_id}
+use Rattle.process_packet.specs.PacketView.{IsAlike, with_id}
 use Rattle.process_packet.proofs.AlikeLemmas.{alike_set}
 
 -- Each byte is as it was, or stands at such a place, and is a byte.
@@ -34,14 +34,14 @@ more_places Q R a b within rewritten = record {
   each = λ i. elim (rewritten.each i) [ inl same ↦ inl same | inr changed ↦ inr (within i changed.0, changed.1) ];
 }
 
--- ---- behind a text, and before one
+-- ---- after a text, and before one
 
--- a place behind so many bytes
-abbrev pub BehindFront : ℕ → (ℕ → Type 0) → ℕ → Type 0
-BehindFront front Q i = (front ≤ i) × Q (i - front)
+-- a place after so many bytes
+abbrev pub AfterFront : ℕ → (ℕ → Type 0) → ℕ → Type 0
+AfterFront front Q i = (front ≤ i) × Q (i - front)
 
-behind : (Q : ℕ → Type 0) (front xs ys : List ℕ) → IsRewritten Q xs ys → IsRewritten (BehindFront (length front) Q) (front ++ xs) (front ++ ys)
-behind Q front xs ys rewritten = record {
+after : (Q : ℕ → Type 0) (front xs ys : List ℕ) → IsRewritten Q xs ys → IsRewritten (AfterFront (length front) Q) (front ++ xs) (front ++ ys)
+after Q front xs ys rewritten = record {
   each = λ i. elim (cases_lt i (length front)) [
     | inl below ↦ inl (get_or_append_left front ys 0 i below ∙ sym (get_or_append_left front xs 0 i below))
     | inr above ↦
@@ -87,7 +87,7 @@ first_info s ss id (suc (suc zero)) = inr (inl refl, omega arith)
 first_info s ss id (suc (suc (suc zero))) = inr (inr refl, omega arith)
 first_info s ss id (suc (suc (suc (suc i)))) = inl refl
 
-next_place : (k i : ℕ) → BehindFront 8 (IsIdOfInfos k) i → IsIdOfInfos (suc k) i
+next_place : (k i : ℕ) → AfterFront 8 (IsIdOfInfos k) i → IsIdOfInfos (suc k) i
 next_place k i (above, inl high) = inl (omega arith)
 next_place k i (above, inr low) = inr (omega arith)
 
@@ -97,8 +97,8 @@ infos_rewritten (s ∷ ss) zero id = record { each = first_info s ss id }
 infos_rewritten (s ∷ ss) (suc k) id =
     let old = infos_text ss in
     let new = infos_text (with_segment_id ss k id) in
-    more_places (BehindFront 8 (IsIdOfInfos k)) (IsIdOfInfos (suc k)) (infos_text (s ∷ ss)) (infos_text (with_segment_id (s ∷ ss) (suc k) id)) (next_place k)
-    (behind (IsIdOfInfos k) (rows (info_table s.info)) old new (infos_rewritten ss k id))
+    more_places (AfterFront 8 (IsIdOfInfos k)) (IsIdOfInfos (suc k)) (infos_text (s ∷ ss)) (infos_text (with_segment_id (s ∷ ss) (suc k) id)) (next_place k)
+    (after (IsIdOfInfos k) (rows (info_table s.info)) old new (infos_rewritten ss k id))
 
 same_hops_text : (ss : List Segment) (k id : ℕ) → hops_text (with_segment_id ss k id) ≡ hops_text ss
 same_hops_text [] k id = refl
@@ -118,7 +118,7 @@ same_meta p k id =
     let three : hops_in (with_segment_id ss k id) 2 ≡ hops_in ss 2 = alike.hops 2 in
     rw (number, one, two, three) refl
 
-path_place : (k i : ℕ) → BehindFront 4 (IsIdOfInfos k) i → IsIdPlace k i
+path_place : (k i : ℕ) → AfterFront 4 (IsIdOfInfos k) i → IsIdPlace k i
 path_place k i (above, inl high) = inl (omega arith)
 path_place k i (above, inr low) = inr (omega arith)
 
@@ -132,8 +132,8 @@ id_rewritten p k id =
     let old-len = infos_len ss in
     let new-len = infos_len ts in
     let len : length (infos_text ss) ≡ length (infos_text ts) = omega arith in
-    let all = behind (IsIdOfInfos k) meta (infos_text ss ++ hops) (infos_text ts ++ hops) (before (IsIdOfInfos k) (infos_text ss) (infos_text ts) hops len (infos_rewritten ss k id)) in
-    let placed = more_places (BehindFront 4 (IsIdOfInfos k)) (IsIdPlace k) (path_text p) (meta ++ (infos_text ts ++ hops)) (path_place k) all in
+    let all = after (IsIdOfInfos k) meta (infos_text ss ++ hops) (infos_text ts ++ hops) (before (IsIdOfInfos k) (infos_text ss) (infos_text ts) hops len (infos_rewritten ss k id)) in
+    let placed = more_places (AfterFront 4 (IsIdOfInfos k)) (IsIdPlace k) (path_text p) (meta ++ (infos_text ts ++ hops)) (path_place k) all in
     subst (λ (t : List ℕ). IsRewritten (IsIdPlace k) (path_text p) t) (ap₂ (λ (m h : List ℕ). m ++ (infos_text ts ++ h)) (sym (same_meta p k id)) (sym (same_hops_text ss k id))) placed
 
 pub ids_rewritten : (o : Option ℕ) (p : PathFields) (k : ℕ) → IsRewritten (IsIdPlace k) (path_text p) (path_text (record p { segments = with_id o k p.segments }))
@@ -152,8 +152,8 @@ cursor_rewritten p at = record { each = cursor_byte p at }
 -- ---- a datagram
 
 pub datagram_rewritten : (Q : ℕ → Type 0) (front xs ys rest : List ℕ) → length xs ≡ length ys → IsRewritten Q xs ys
-    → IsRewritten (BehindFront (length front) Q) (front ++ (xs ++ rest)) (front ++ (ys ++ rest))
-datagram_rewritten Q front xs ys rest len rewritten = behind Q front (xs ++ rest) (ys ++ rest) (before Q xs ys rest len rewritten)
+    → IsRewritten (AfterFront (length front) Q) (front ++ (xs ++ rest)) (front ++ (ys ++ rest))
+datagram_rewritten Q front xs ys rest len rewritten = after Q front (xs ++ rest) (ys ++ rest) (before Q xs ys rest len rewritten)
 
 pub bytes_stay : (Q : ℕ → Type 0) (old new : List ℕ) → IsRewritten Q old new → IsBytes old → IsBytes new
 bytes_stay Q old new rewritten are i =

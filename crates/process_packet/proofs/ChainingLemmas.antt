@@ -18,8 +18,8 @@ use Rattle.process_packet.specs.Laws.{IsAuthorised}
 use Rattle.process_packet.specs.Network.{Network, is_local}
 use Rattle.process_packet.specs.Rows.{Answered, Dropped, Sent, Verdict}
 use Rattle.process_packet.specs.Shown.{StandsToLeave, packet_at, sent_along, turned}
-use Rattle.process_packet.specs.Sight.{IsAlike, with_id}
-use Rattle.process_packet.specs.Standing.{Standing, arrives, chained, chained_id, changed_over, is_along, is_authentic, is_external, is_last_of_segment, next_segment, packet, past_switch, turned_back}
+use Rattle.process_packet.specs.PacketView.{IsAlike, with_id}
+use Rattle.process_packet.specs.PacketState.{PacketState, arrives, chained, chained_id, changed_over, is_along, is_authentic, is_external, is_last_of_segment, next_segment, packet, past_switch, turned_back}
 use Rattle.process_packet.specs.Ways.{IsSentBy}
 use Rattle.process_packet.specs.WhatLeaves.{LeavesWhole}
 use Rattle.process_packet.proofs.AlikeLemmas.{alike_set, info_set}
@@ -37,7 +37,7 @@ pub chain_back : (beta : ℕ) (mac : List ℕ) → chain (chain beta mac) mac �
 chain_back beta mac = xor_back beta (number_at mac 0 2)
 
 -- a packet as it comes to a router
-abbrev comes : Network → ℕ → Underlay → ℕ → List ℕ → Packet → Standing
+abbrev comes : Network → ℕ → Underlay → ℕ → List ℕ → Packet → PacketState
 comes m link source moment bytes p = record {
   network = m;
   link = link;
@@ -52,7 +52,7 @@ comes m link source moment bytes p = record {
 
 -- ---- one hop farther
 
-module _ (m : Network) (link : ℕ) (source : Underlay) (moment : ℕ) (bytes : List ℕ) (u : Standing) (external : link ≢ 0) (accepted : is_authentic u ≡ true)
+module _ (m : Network) (link : ℕ) (source : Underlay) (moment : ℕ) (bytes : List ℕ) (u : PacketState) (external : link ≢ 0) (accepted : is_authentic u ≡ true)
     (there : u.path.place.segment < length u.path.segments) where
   abbrev ss : List Segment
   ss = u.path.segments
@@ -63,7 +63,7 @@ module _ (m : Network) (link : ℕ) (source : Underlay) (moment : ℕ) (bytes : 
   abbrev to : Place
   to = place_at k (u.path.place.position + 1)
 
-  abbrev came : Bool → Standing
+  abbrev came : Bool → PacketState
   came b = comes m link source moment bytes (packet_at u to (with_id (if b then Some (chained_id u) else None) k ss))
 
   outside : not (link == 0) ≡ true
@@ -71,23 +71,23 @@ module _ (m : Network) (link : ℕ) (source : Underlay) (moment : ℕ) (bytes : 
 
   follows_along : is_along u ≡ true → is_authentic (turned_back (came true)) ≡ true → FollowsOn u (turned_back (came true))
   follows_along along verified =
-      let v : Standing = came true in
+      let v : PacketState = came true in
       let set : info_there (with_segment_id ss k (chained_id u)) to ≡ with_identifier (chained_id u) (info_there ss to) = info_set ss k (chained_id u) (u.path.place.position + 1) there in
       let forward : is_along v ≡ true = ap (λ (i : InfoField). i.along) set ∙ along in
       let stays : turned_back v ≡ v = ap₂ (λ (a b : Bool). if a && not b then chained v else v) outside forward in
       let alike : IsAlike k ss (with_segment_id ss k (chained_id u)) = alike_set ss k (chained_id u) in
-      subst (λ (w : Standing). FollowsOn u w) (sym stays) (record {
+      subst (λ (w : PacketState). FollowsOn u w) (sym stays) (record {
         place = refl;
         hop_is = alike.hop to;
         accepted = accepted;
-        verified = subst (λ (w : Standing). is_authentic w ≡ true) stays verified;
+        verified = subst (λ (w : PacketState). is_authentic w ≡ true) stays verified;
         along = λ e. set;
         against = λ e. absurd cc;
       })
 
   follows_against : is_along u ≡ false → is_authentic (turned_back (came false)) ≡ true → FollowsOn u (turned_back (came false))
   follows_against against verified =
-      let w : Standing = came false in
+      let w : PacketState = came false in
       let back : turned_back w ≡ chained w = ap₂ (λ (a b : Bool). if a && not b then chained w else w) outside against in
       let id = chained_id w in
       let mac = (hop_there ss to).mac in
@@ -96,11 +96,11 @@ module _ (m : Network) (link : ℕ) (source : Underlay) (moment : ℕ) (bytes : 
       let same : hop_there (with_segment_id ss k id) to ≡ hop_there ss to = alike.hop to in
       let again : chain (info_there (with_segment_id ss k id) to).segment_id (hop_there (with_segment_id ss k id) to).mac ≡ (info_there ss to).segment_id =
       ap₂ (λ (i : InfoField) (h : HopField). chain i.segment_id h.mac) set same ∙ chain_back (info_there ss to).segment_id mac in
-      subst (λ (v : Standing). FollowsOn u v) (sym back) (record {
+      subst (λ (v : PacketState). FollowsOn u v) (sym back) (record {
         place = refl;
         hop_is = same;
         accepted = accepted;
-        verified = subst (λ (v : Standing). is_authentic v ≡ true) back verified;
+        verified = subst (λ (v : PacketState). is_authentic v ≡ true) back verified;
         along = λ e. absurd cc;
         against = λ e. sym (ap₂ with_identifier again set);
       })
@@ -120,11 +120,11 @@ module _ (m : Network) (link : ℕ) (source : Underlay) (moment : ℕ) (bytes : 
 
 -- ---- at the first of the two routers
 
-past_is : {t u : Standing} → StandsToLeave t u → past_switch t ≡ u
+past_is : {t u : PacketState} → StandsToLeave t u → past_switch t ≡ u
 past_is {t} (StandsToLeave.stays still) = ap (λ (b : Bool). if b then changed_over t else t) still
 past_is {t} (StandsToLeave.changes_over ends unexpired authentic) = ap (λ (b : Bool). if b then changed_over t else t) ends
 
-leaves_authentic : {t u : Standing} → is_authentic t ≡ true → StandsToLeave t u → is_authentic u ≡ true
+leaves_authentic : {t u : PacketState} → is_authentic t ≡ true → StandsToLeave t u → is_authentic u ≡ true
 leaves_authentic authentic (StandsToLeave.stays still) = authentic
 leaves_authentic authentic (StandsToLeave.changes_over ends unexpired after) = after
 
@@ -136,7 +136,7 @@ no_second false = refl
 not_turned : (m : Network) (link : ℕ) (source : Underlay) (moment : ℕ) (bytes : List ℕ) (p : Packet) → link ≡ 0
     → turned_back (comes m link source moment bytes p) ≡ comes m link source moment bytes p
 not_turned m link source moment bytes p inside =
-    let v : Standing = comes m link source moment bytes p in
+    let v : PacketState = comes m link source moment bytes p in
     ap (λ (l : ℕ). if not (l == 0) && not (is_along v) then chained v else v) inside
 
 -- what was sent, of a decision to send
@@ -157,7 +157,7 @@ authorised n link source moment bytes out to says =
 
 module _ (n m : Network) (link link' : ℕ) (source source' : Underlay) (moment moment' : ℕ) (bytes : List ℕ) (out out' : ℕ) (to to' : Option Underlay) (are : IsBytes bytes)
     (says : decide n link source moment bytes ≡ decision.Send out to) (next : decide m link' source' moment' (moved n link source moment bytes) ≡ decision.Send out' to') where
-  abbrev s : Standing
+  abbrev s : PacketState
   s = arrives n link source moment bytes
 
   abbrev left : List ℕ
@@ -176,17 +176,17 @@ module _ (n m : Network) (link link' : ℕ) (source source' : Underlay) (moment 
   verified p same =
       subst (λ (q : Packet). is_authentic (turned_back (comes m link' source' moment' left q)) ≡ true) (whole.read ∙ sym same) (authorised m link' source' moment' left out' to' next).authentic
 
-  exit_is : (u : Standing) → StandsToLeave (turned s) u → at_exit n link source moment bytes ≡ u
+  exit_is : (u : PacketState) → StandsToLeave (turned s) u → at_exit n link source moment bytes ≡ u
   exit_is u leaves = ap past_switch (turned_is s) ∙ past_is leaves
 
-  exit_authentic : (u : Standing) → StandsToLeave (turned s) u → is_authentic u ≡ true
+  exit_authentic : (u : PacketState) → StandsToLeave (turned s) u → is_authentic u ≡ true
   exit_authentic u leaves = leaves_authentic (ap is_authentic (sym (turned_is s)) ∙ is.authentic) leaves
 
   -- the law's standings are these
-  named : (P : Standing → Standing → Type 0) (u : Standing) (p : Packet) → StandsToLeave (turned s) u → p ≡ whole.packet → P u (turned_back (comes m link' source' moment' left p))
+  named : (P : PacketState → PacketState → Type 0) (u : PacketState) (p : Packet) → StandsToLeave (turned s) u → p ≡ whole.packet → P u (turned_back (comes m link' source' moment' left p))
       → P (at_exit n link source moment bytes) (at_entry m link' source' moment' left)
   named P u p leaves same holds =
-      subst (λ (x : Standing). P x (at_entry m link' source' moment' left)) (sym (exit_is u leaves))
+      subst (λ (x : PacketState). P x (at_entry m link' source' moment' left)) (sym (exit_is u leaves))
       (subst (λ (q : Packet). P u (turned_back (comes m link' source' moment' left q))) (same ∙ sym whole.read) holds)
 
   over_link_by : link' ≢ 0 → to ≡ None → is_last_of_segment (at_exit n link source moment bytes) ≡ false → (p : Packet) → p ≡ whole.packet → IsSentBy s out to p
@@ -212,12 +212,12 @@ module _ (n m : Network) (link link' : ℕ) (source source' : Underlay) (moment 
   within_by at inside some others p same (IsSentBy.by_sibling u by) =
       let stays : turned_back (comes m link' source' moment' left (packet u)) ≡ comes m link' source' moment' left (packet u) = not_turned m link' source' moment' left (packet u) inside in
       named IsSameHop u (packet u) by.leaves (by.packet ∙ same)
-      (subst (λ (v : Standing). IsSameHop u v) (sym stays) (record {
+      (subst (λ (v : PacketState). IsSameHop u v) (sym stays) (record {
         place = refl;
         info_is = refl;
         hop_is = refl;
         accepted = exit_authentic u by.leaves;
-        verified = subst (λ (v : Standing). is_authentic v ≡ true) stays (verified (packet u) (by.packet ∙ same));
+        verified = subst (λ (v : PacketState). is_authentic v ≡ true) stays (verified (packet u) (by.packet ∙ same));
       }))
 
   pub within : (at : Underlay) → link' ≡ 0 → to ≡ Some at → is_local n (packet_of bytes).header.destination ≡ false

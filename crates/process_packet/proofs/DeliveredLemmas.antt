@@ -10,7 +10,7 @@ use Rattle.process_packet.specs.Laws.{IsAuthorised}
 use Rattle.process_packet.specs.Neighbours.{service_at}
 use Rattle.process_packet.specs.Network.{Network, service}
 use Rattle.process_packet.specs.Rows.{Sent, Verdict, delivered, parameter_problem, to_service}
-use Rattle.process_packet.specs.Standing.{Standing, arrives, packet}
+use Rattle.process_packet.specs.PacketState.{PacketState, arrives, packet}
 use Rattle.process_packet.specs.declared.neighbours.Service.{Service}
 use Rattle.process_packet.specs.declared.underlay.Ip.TheVariants.{V4, V6}
 use Rattle.process_packet.specs.declared.underlay.Underlay.{Underlay}
@@ -66,6 +66,6 @@ for_us_sent n link source moment bytes out to p v way sent for_us false quiet =
 
 pub to_its_host : DeliveredToItsHost
 to_its_host n link source moment bytes out to p sent for_us =
-    let s : Standing = arrives n link source moment bytes in
+    let s : PacketState = arrives n link source moment bytes in
     let is : IsAuthorised s = (came_in s out to p (told n link source moment bytes out to p sent)).authorised in
     for_us_sent n link source moment bytes out to p (verdict n link source moment bytes) (authorised_sent n link source moment bytes is) sent for_us (asks_entry s) refl

@@ -21,10 +21,10 @@ use Rattle.process_packet.specs.Laws.{IsAuthorised, IsMoved, LeavesByItsEgress, 
 use Rattle.process_packet.specs.Neighbours.{service_at, sibling_at}
 use Rattle.process_packet.specs.Network.{Network, interface_kind, is_local, own_link, service, sibling}
 use Rattle.process_packet.specs.Request.{is_request}
-use Rattle.process_packet.specs.Rows.{Sent, Answered, Dropped, Turn, cause_of, GoesOn, Ends, Row, came_lawfully, delivered, ends_where, expired, faulty, is_destination_lawful, is_pair_lawful, is_source_lawful, sent_on, sent_out, then_rows, to_service, wrong_mac}
+use Rattle.process_packet.specs.Rows.{Sent, Answered, Dropped, RowResult, cause_of, GoesOn, Ends, Row, came_lawfully, delivered, ends_where, expired, faulty, is_destination_lawful, is_pair_lawful, is_source_lawful, sent_on, sent_out, then_rows, to_service, wrong_mac}
 use Rattle.process_packet.specs.Routed.{IsAnswer}
-use Rattle.process_packet.specs.Sight.{with_id}
-use Rattle.process_packet.specs.Standing.{Standing, arrives, chained, chained_id, changed_over, egress, egress_alert, hop_pointer, info_pointer, ingress, ingress_alert, is_along, is_authentic, is_expired, is_external, is_first_of_path, is_last_of_path, next_place, next_segment, packet, turned_back, with_place}
+use Rattle.process_packet.specs.PacketView.{with_id}
+use Rattle.process_packet.specs.PacketState.{PacketState, arrives, chained, chained_id, changed_over, egress, egress_alert, hop_pointer, info_pointer, ingress, ingress_alert, is_along, is_authentic, is_expired, is_external, is_first_of_path, is_last_of_path, next_place, next_segment, packet, turned_back, with_place}
 use Rattle.process_packet.proofs.PassingLemmas.{Passed, Sends, and_not, answer_passed, answer_passed_within, answered_not_sent, both_true, drop_passed, dropped_not_sent, fault_passed, not_false, not_true, parameter, same_sent}
 use Rattle.process_packet.proofs.AlikeLemmas.{alike_set}
 use Rattle.process_packet.proofs.LeavingLemmas.{ends_alike}
@@ -36,7 +36,7 @@ rest k = drop k decision_table
 -- ---- up to the change of the segment identifier
 
 -- past the rows by which a packet comes in
-pub record CameIn (s : Standing) (out : ℕ) (to : Option Underlay) (p : Packet) : Type 0 where
+pub record CameIn (s : PacketState) (out : ℕ) (to : Option Underlay) (p : Packet) : Type 0 where
   pub authorised : IsAuthorised s
   pub destination : is_destination_lawful s ≡ true
   pub after : Sends (GoesOn (turned_back s)) (rest 12) out to p
@@ -51,13 +51,13 @@ source_here true first local lawful is begins = let never : true ≡ false = is 
 source_here false true local lawful is begins = lawful
 source_here false false local lawful is begins = let never : false ≡ true = begins in absurd cc
 
-fault_none : (f : Option Fault) (s : Standing) (rows : List Row) (out : ℕ) (to : Option Underlay) (p : Packet) → Sends (faulty f s) rows out to p → f ≡ None
+fault_none : (f : Option Fault) (s : PacketState) (rows : List Row) (out : ℕ) (to : Option Underlay) (p : Packet) → Sends (faulty f s) rows out to p → f ≡ None
 fault_none None s rows out to p sent = refl
 fault_none (Some f) s rows out to p sent = absurd (dropped_not_sent (cause_of f) out to p sent)
 
-pub came_in : (s : Standing) (out : ℕ) (to : Option Underlay) (p : Packet) → Sends (GoesOn s) decision_table out to p → CameIn s out to p
+pub came_in : (s : PacketState) (out : ℕ) (to : Option Underlay) (p : Packet) → Sends (GoesOn s) decision_table out to p → CameIn s out to p
 came_in s out to p sent =
-    let t : Standing = turned_back s in
+    let t : PacketState = turned_back s in
     let short = drop_passed (nat_lt 9216 (length s.bytes)) cause.TooLong s (rest 1) out to p sent in
     let header = fault_passed (header_fault s.bytes) s (rest 2) out to p short.after in
     let path = fault_passed (path_fault (path_bytes s.bytes)) s (rest 3) out to p header in
@@ -89,7 +89,7 @@ came_in s out to p sent =
 -- ---- the way out
 
 -- What was sent is the packet as it stood, but for its place and the identifier of its segment.
-record Kept (u : Standing) (p : Packet) : Type 0 where
+record Kept (u : PacketState) (p : Packet) : Type 0 where
   header : p.header ≡ u.header
   payload : p.payload ≡ u.payload
   reserved : p.path.reserved ≡ u.path.reserved
@@ -97,16 +97,16 @@ record Kept (u : Standing) (p : Packet) : Type 0 where
   segments : p.path.segments ≡ with_id second u.path.place.segment u.path.segments
 
 -- How it left by its egress.
-record Left (u : Standing) (out : ℕ) (to : Option Underlay) (p : Packet) : Type 0 where
+record Left (u : PacketState) (out : ℕ) (to : Option Underlay) (p : Packet) : Type 0 where
   own : is_some (own_link u.network (egress u)) ≡ true → (out ≡ egress u) × (to ≡ None)
   other : is_some (own_link u.network (egress u)) ≡ false → (out ≡ 0) × (to ≡ option_map sibling_at (sibling u.network (egress u)))
   kept : Kept u p
 
-as_it_stood : (u : Standing) (p : Packet) → packet u ≡ p → Kept u p
+as_it_stood : (u : PacketState) (p : Packet) → packet u ≡ p → Kept u p
 as_it_stood u p same =
     subst (λ (q : Packet). Kept u q) same (record { header = refl; payload = refl; reserved = refl; second = None; segments = refl })
 
-out_kept : (b last : Bool) (u : Standing) (at : Place) (link out : ℕ) (to : Option Underlay) (p : Packet)
+out_kept : (b last : Bool) (u : PacketState) (at : Place) (link out : ℕ) (to : Option Underlay) (p : Packet)
     → (if last then Dropped cause.PathEnd else Sent link None (packet (with_place (if b then chained u else u) at))) ≡ Sent out to p
     → (out ≡ link) × (to ≡ None) × Kept u p
 out_kept b true u at link out to p sent = absurd (dropped_not_sent cause.PathEnd out to p sent)
@@ -125,34 +125,34 @@ out_kept false false u at link out to p sent =
           (record { header = refl; payload = refl; reserved = refl; second = None; segments = refl }),
     )
 
-on_kept : (u : Standing) (o : Option Underlay) (out : ℕ) (to : Option Underlay) (p : Packet) → sent_on (packet u) o ≡ Sent out to p
+on_kept : (u : PacketState) (o : Option Underlay) (out : ℕ) (to : Option Underlay) (p : Packet) → sent_on (packet u) o ≡ Sent out to p
     → (out ≡ 0) × (to ≡ o) × Kept u p
 on_kept u None out to p sent = absurd (dropped_not_sent cause.PathEnd out to p sent)
 on_kept u (Some at) out to p sent =
     let same = same_sent 0 out (Some at) to (packet u) p sent in
     (sym same.link, sym same.address, as_it_stood u p same.packet)
 
-left_by : (b : Bool) (u : Standing) (out : ℕ) (to : Option Underlay) (p : Packet) → is_some (own_link u.network (egress u)) ≡ b
+left_by : (b : Bool) (u : PacketState) (out : ℕ) (to : Option Underlay) (p : Packet) → is_some (own_link u.network (egress u)) ≡ b
     → Sends (if b then Ends (sent_out (if is_along u then chained u else u) (egress u)) else Ends (sent_on (packet u) (option_map sibling_at (sibling u.network (egress u))))) [] out to p
     → Left u out to p
 left_by true u out to p is sent =
-    let w : Standing = if is_along u then chained u else u in
+    let w : PacketState = if is_along u then chained u else u in
     let kept = out_kept (is_along u) (is_last_of_path w) u (next_place w.path.segments w.path.place) (egress u) out to p sent in
     record { own = λ e. (kept.0, kept.1); other = λ e. let no-way : true ≡ false = sym is ∙ e in absurd cc; kept = kept.2 }
 left_by false u out to p is sent =
     let kept = on_kept u (option_map sibling_at (sibling u.network (egress u))) out to p sent in
     record { own = λ e. let no-way : false ≡ true = sym is ∙ e in absurd cc; other = λ e. (kept.0, kept.1); kept = kept.2 }
 
-pair_row : (switched : Bool) (t : Bool) (q r : Problem) (s : Standing) (rows : List Row) (out : ℕ) (to : Option Underlay) (p : Packet)
+pair_row : (switched : Bool) (t : Bool) (q r : Problem) (s : PacketState) (rows : List Row) (out : ℕ) (to : Option Underlay) (p : Packet)
     → Sends (ends_where t (if switched then Answered q else Answered r) s) rows out to p → Passed t s rows out to p
 pair_row true t q r s rows out to p sent = answer_passed t q s rows out to p sent
 pair_row false t q r s rows out to p sent = answer_passed t r s rows out to p sent
 
-record WentOut (u : Standing) (out : ℕ) (to : Option Underlay) (p : Packet) : Type 0 where
+record WentOut (u : PacketState) (out : ℕ) (to : Option Underlay) (p : Packet) : Type 0 where
   leaves : LeavesByItsEgress u out to
   kept : Kept u p
 
-went_out : (u : Standing) (out : ℕ) (to : Option Underlay) (p : Packet) → is_local u.network u.header.destination ≡ false → Sends (GoesOn u) (rest 14) out to p → WentOut u out to p
+went_out : (u : PacketState) (out : ℕ) (to : Option Underlay) (p : Packet) → is_local u.network u.header.destination ≡ false → Sends (GoesOn u) (rest 14) out to p → WentOut u out to p
 went_out u out to p others sent =
     let known = answer_passed (not (is_some (interface_kind u.network (egress u)))) (parameter (if is_along u then 50 else 49) (hop_pointer u)) u (rest 15) out to p sent in
     let pair = pair_row u.switched (not (is_pair_lawful u)) (parameter 53 (info_pointer u)) (parameter 48 (hop_pointer u)) u (rest 16) out to p known.after in
@@ -166,7 +166,7 @@ went_out u out to p others sent =
 -- ---- from the delivery row on
 
 -- the segment of the way out: the one by which it came, or the next one
-pub record Leaving (t : Standing) (out : ℕ) (to : Option Underlay) (p : Packet) : Type 0 where
+pub record Leaving (t : PacketState) (out : ℕ) (to : Option Underlay) (p : Packet) : Type 0 where
   pub lawfully : LeftLawfully t out to
   header : p.header ≡ t.header
   payload : p.payload ≡ t.payload
@@ -176,10 +176,10 @@ pub record Leaving (t : Standing) (out : ℕ) (to : Option Underlay) (p : Packet
   near : (at ≡ t.path.place.segment) ⊎ (at ≡ t.path.place.segment + 1)
   segments : p.path.segments ≡ with_id second at t.path.segments
 
-changed_passed : (t : Standing) (out : ℕ) (to : Option Underlay) (p : Packet) → is_local t.network t.header.destination ≡ false → changes t ≡ true
+changed_passed : (t : PacketState) (out : ℕ) (to : Option Underlay) (p : Packet) → is_local t.network t.header.destination ≡ false → changes t ≡ true
     → Sends (then_rows (GoesOn (changed_over t)) (expired ∷ wrong_mac ∷ [])) (rest 14) out to p → Leaving t out to p
 changed_passed t out to p others there sent =
-    let u : Standing = changed_over t in
+    let u : PacketState = changed_over t in
     let unexpired = answer_passed_within (is_expired u) (parameter 52 (hop_pointer u)) u (wrong_mac ∷ []) (rest 14) out to p sent in
     let authentic = answer_passed_within (not (is_authentic u)) (parameter 51 (hop_pointer u)) u [] (rest 14) out to p unexpired.1 in
     let out-by = went_out u out to p others authentic.1 in
@@ -194,7 +194,7 @@ changed_passed t out to p others there sent =
       segments = out-by.kept.segments;
     }
 
-after_delivery : (b : Bool) (t : Standing) (out : ℕ) (to : Option Underlay) (p : Packet) → is_local t.network t.header.destination ≡ false → changes t ≡ b
+after_delivery : (b : Bool) (t : PacketState) (out : ℕ) (to : Option Underlay) (p : Packet) → is_local t.network t.header.destination ≡ false → changes t ≡ b
     → Sends (if b then then_rows (GoesOn (changed_over t)) (expired ∷ wrong_mac ∷ []) else GoesOn t) (rest 14) out to p → Leaving t out to p
 after_delivery true t out to p others there sent = changed_passed t out to p others there sent
 after_delivery false t out to p others there sent =
@@ -238,7 +238,7 @@ for_others true last true lawful apart = apart
 for_others true last false lawful apart = refl
 for_others false last local lawful apart = not_true local lawful
 
-delivery_row : (b : Bool) (t : Standing) (out : ℕ) (to : Option Underlay) (p : Packet) → is_destination_lawful t ≡ true
+delivery_row : (b : Bool) (t : PacketState) (out : ℕ) (to : Option Underlay) (p : Packet) → is_destination_lawful t ≡ true
     → (is_external t && is_local t.network t.header.destination) ≡ b → Sends (ends_where b (delivered t.network (packet t)) t) (rest 13) out to p
     → Leaving t out to p
 delivery_row true t out to p lawful test sent =
@@ -266,7 +266,7 @@ delivery_row false t out to p lawful test sent =
 
 -- ---- the whole table
 
-destination_turned : (b : Bool) (s : Standing) → is_destination_lawful (if b then chained s else s) ≡ is_destination_lawful s
+destination_turned : (b : Bool) (s : PacketState) → is_destination_lawful (if b then chained s else s) ≡ is_destination_lawful s
 destination_turned true s =
     let k = s.path.place.segment in
     let local = is_local s.network s.header.destination in
@@ -274,18 +274,18 @@ destination_turned true s =
     (ends_alike k s.path.segments _ s.path.place (alike_set s.path.segments k (chained_id s)))
 destination_turned false s = refl
 
-turned_with : (b : Bool) (s : Standing) → (o : Option ℕ) × ((if b then chained s else s).path.segments ≡ with_id o s.path.place.segment s.path.segments)
+turned_with : (b : Bool) (s : PacketState) → (o : Option ℕ) × ((if b then chained s else s).path.segments ≡ with_id o s.path.place.segment s.path.segments)
 turned_with true s = (Some (chained_id s), refl)
 turned_with false s = (None, refl)
 
-pub left_lawfully : (s : Standing) (out : ℕ) (to : Option Underlay) (p : Packet) → Sends (GoesOn s) decision_table out to p → Leaving (turned_back s) out to p
+pub left_lawfully : (s : PacketState) (out : ℕ) (to : Option Underlay) (p : Packet) → Sends (GoesOn s) decision_table out to p → Leaving (turned_back s) out to p
 left_lawfully s out to p sent =
     let came = came_in s out to p sent in
-    let t : Standing = turned_back s in
+    let t : PacketState = turned_back s in
     let lawful : is_destination_lawful t ≡ true = destination_turned (is_external s && not (is_along s)) s ∙ came.destination in
     delivery_row (is_external t && is_local t.network t.header.destination) t out to p lawful refl came.after
 
-pub is_moved : (s : Standing) (out : ℕ) (to : Option Underlay) (p q : Packet) → q ≡ packet s → Sends (GoesOn s) decision_table out to p → IsMoved q p
+pub is_moved : (s : PacketState) (out : ℕ) (to : Option Underlay) (p q : Packet) → q ≡ packet s → Sends (GoesOn s) decision_table out to p → IsMoved q p
 is_moved s out to p q is sent =
     let left = left_lawfully s out to p sent in
     let stays = turned_stays s in
@@ -309,14 +309,14 @@ told n link source moment bytes out to p sent = sent
 -- ---- what is answered
 
 -- rows beginning with a turn end in an answer
-abbrev Asks : Turn → List Row → Type 0
+abbrev Asks : RowResult → List Row → Type 0
 Asks t rows = IsAnswer (decision_of (verdict_of (then_rows t rows)))
 
-not_dropped : (b : Bool) (c : Cause) (s : Standing) (rows : List Row) → Asks (ends_where b (Dropped c) s) rows → Asks (GoesOn s) rows
+not_dropped : (b : Bool) (c : Cause) (s : PacketState) (rows : List Row) → Asks (ends_where b (Dropped c) s) rows → Asks (GoesOn s) rows
 not_dropped true c s rows asks = absurd asks
 not_dropped false c s rows asks = asks
 
-no_fault : (f : Option Fault) (s : Standing) (rows : List Row) → Asks (faulty f s) rows → (f ≡ None) × Asks (GoesOn s) rows
+no_fault : (f : Option Fault) (s : PacketState) (rows : List Row) → Asks (faulty f s) rows → (f ≡ None) × Asks (GoesOn s) rows
 no_fault None s rows asks = (refl, asks)
 no_fault (Some f) s rows asks = absurd asks
 

@@ -19,8 +19,8 @@ use Rattle.scion_packet.proofs.Parts.{path_are}
 use Rattle.process_packet.specs.declared.underlay.Underlay.{Underlay}
 use Rattle.process_packet.specs.Network.{Network}
 use Rattle.process_packet.specs.Shown.{StandsToLeave, sent_along, turned}
-use Rattle.process_packet.specs.Sight.{IsAlike, with_id}
-use Rattle.process_packet.specs.Standing.{Standing, arrives, chained_id, is_along, is_external, is_followed, is_last_of_path, is_last_of_segment, next_place, next_segment, packet}
+use Rattle.process_packet.specs.PacketView.{IsAlike, with_id}
+use Rattle.process_packet.specs.PacketState.{PacketState, arrives, chained_id, is_along, is_external, is_followed, is_last_of_path, is_last_of_segment, next_place, next_segment, packet}
 use Rattle.process_packet.specs.Ways.{IsSentBy}
 use Rattle.process_packet.proofs.AlikeLemmas.{alike_same, alike_set}
 use Rattle.process_packet.proofs.KeptLemmas.{IsKept, out_kept, place_kept, turned_kept}
@@ -88,7 +88,7 @@ macs_are_bytes bytes are sound at on =
 -- ---- from where it arrives to where it leaves
 
 -- the packet at the hop by which it leaves
-pub record StandsAtExit (t u : Standing) : Type 0 where
+pub record StandsAtExit (t u : PacketState) : Type 0 where
   pub kept : IsKept (packet t) (packet u)
   pub segments : u.path.segments ≡ t.path.segments
   pub near : (u.path.place.segment ≡ t.path.place.segment) ⊎ (u.path.place.segment ≡ t.path.place.segment + 1)
@@ -96,7 +96,7 @@ pub record StandsAtExit (t u : Standing) : Type 0 where
   pub payload : u.payload ≡ t.payload
   pub reserved : u.path.reserved ≡ t.path.reserved
 
-pub at_exit : {t u : Standing} → IsPacket (packet t) → StandsToLeave t u → StandsAtExit t u
+pub at_exit : {t u : PacketState} → IsPacket (packet t) → StandsToLeave t u → StandsAtExit t u
 at_exit {t} lawful (StandsToLeave.stays still) =
     record { kept = record { lawful = lawful; length = refl }; segments = refl; near = inl refl; header = refl; payload = refl; reserved = refl }
 at_exit {t} lawful (StandsToLeave.changes_over ends unexpired authentic) =
@@ -120,7 +120,7 @@ ids_if true ss k id = refl
 ids_if false ss k id = refl
 
 -- What is sent is what came, but for its place and the identifiers of two segments.
-pub record IsMovedFrom (s : Standing) (p : Packet) : Type 0 where
+pub record IsMovedFrom (s : PacketState) (p : Packet) : Type 0 where
   pub kept : IsKept (packet s) p
   pub header : p.header ≡ s.header
   pub payload : p.payload ≡ s.payload
@@ -132,10 +132,10 @@ pub record IsMovedFrom (s : Standing) (p : Packet) : Type 0 where
   pub path : record { reserved = s.path.reserved; place = p.path.place; segments = with_id second exit (with_id first s.path.place.segment s.path.segments) } ≡ p.path
 
 module _ (n : Network) (from : ℕ) (source : Underlay) (moment : ℕ) (bytes : List ℕ) (are : IsBytes bytes) (sound : first_fault bytes ≡ None) where
-  abbrev s : Standing
+  abbrev s : PacketState
   s = arrives n from source moment bytes
 
-  abbrev t : Standing
+  abbrev t : PacketState
   t = turned s
 
   abbrev against : Bool
@@ -145,7 +145,7 @@ module _ (n : Network) (from : ℕ) (source : Underlay) (moment : ℕ) (bytes : 
   spelled = packet_spelled bytes are sound
 
   -- the identifier chained at any place of the path, with other identifiers of two bytes
-  chain_fits : (v : Standing) (k : ℕ) → IsPath v.path → IsAlike k s.path.segments v.path.segments → chained_id v < 2 ^ 16
+  chain_fits : (v : PacketState) (k : ℕ) → IsPath v.path → IsAlike k s.path.segments v.path.segments → chained_id v < 2 ^ 16
   chain_fits v k lawful alike =
       let at = v.path.place in
       let on = is_on v.path lawful in
@@ -190,7 +190,7 @@ module _ (n : Network) (from : ℕ) (source : Underlay) (moment : ℕ) (bytes : 
         path = ap (λ (ss : List Segment). record { reserved = s.path.reserved; place = s.path.place; segments = ss }) (sym is_once);
       }
 
-  taken_over : (u : Standing) → StandsAtExit t u → IsMovedFrom s (packet u)
+  taken_over : (u : PacketState) → StandsAtExit t u → IsMovedFrom s (packet u)
   taken_over u exit =
       let on = is_on s.path spelled.lawful.path in
       let same : once ≡ u.path.segments = sym (exit.segments ∙ is_once) in
@@ -207,7 +207,7 @@ module _ (n : Network) (from : ℕ) (source : Underlay) (moment : ℕ) (bytes : 
             ∙ ap (λ (r : ℕ). record { reserved = r; place = u.path.place; segments = u.path.segments }) (sym exit.reserved);
       }
 
-  left_by_link : (u : Standing) → StandsAtExit t u → is_last_of_path u ≡ false → IsMovedFrom s (sent_along u)
+  left_by_link : (u : PacketState) → StandsAtExit t u → is_last_of_path u ≡ false → IsMovedFrom s (sent_along u)
   left_by_link u exit more =
       let lawful = exit.kept.lawful in
       let alike : IsAlike s.path.place.segment s.path.segments u.path.segments = subst (λ (ss : List Segment). IsAlike s.path.place.segment s.path.segments ss) (sym exit.segments) alike_turned in
@@ -240,5 +240,5 @@ module _ (n : Network) (from : ℕ) (source : Underlay) (moment : ℕ) (bytes : 
   moved_from out to p (IsSentBy.by_sibling u way) = subst (λ (q : Packet). IsMovedFrom s q) way.packet (taken_over u (at_exit kept_turned.lawful way.leaves))
 
   -- where it leaves, it stands at a hop of its path
-  pub lawful_exit : (u : Standing) → StandsToLeave t u → IsOnPath u.path.segments u.path.place
+  pub lawful_exit : (u : PacketState) → StandsToLeave t u → IsOnPath u.path.segments u.path.place
   lawful_exit u leaves = is_on u.path (at_exit kept_turned.lawful leaves).kept.lawful.path

@@ -8,14 +8,14 @@ use Rattle.scion_packet.specs.Path.{Place, Segment, count_hops, hop_number, hops
 use Rattle.scion_packet.specs.Places as places
 use Rattle.process_packet.specs.declared.cause.Cause.TheVariants as cause
 use Rattle.process_packet.specs.declared.departure.Departure.{Departure}
-use Rattle.process_packet.specs.declared.sight.Sight.{Sight}
-use Rattle.process_packet.specs.declared.spot.Spot.{Spot}
+use Rattle.process_packet.specs.declared.packet_view.PacketView.{PacketView}
+use Rattle.process_packet.specs.declared.path_hop.PathHop.{PathHop}
 use Rattle.process_packet.specs.declared.underlay.Underlay.{Underlay}
 use Rattle.process_packet.specs.Departure.{Departs, IsNumberOf, Keeps, moved_path}
 use Rattle.process_packet.specs.Rows.{Verdict, Sent, Dropped, sent_out}
-use Rattle.process_packet.specs.Sight.{IsAlike, IsWhole, Sees, with_id}
-use Rattle.process_packet.specs.Spot.{Lies}
-use Rattle.process_packet.specs.Standing.{Standing, chained, chained_id, is_last_of_path, next_place, next_segment}
+use Rattle.process_packet.specs.PacketView.{IsAlike, IsWhole, Shows, with_id}
+use Rattle.process_packet.specs.PathHop.{Lies}
+use Rattle.process_packet.specs.PacketState.{PacketState, chained, chained_id, is_last_of_path, next_place, next_segment}
 use Rattle.process_packet.proofs.AlikeLemmas.{alike_same, alike_set, alike_with}
 
 -- ---- numbers of hops
@@ -40,24 +40,24 @@ within_all (s ∷ ss) (suc k) there =
 
 -- ---- the next hop
 
-pub record HasNextHop (v : Spot) (ss : List Segment) (at : Place) (segment : ℕ) : Type 0 where
+pub record HasNextHop (v : PathHop) (ss : List Segment) (at : Place) (segment : ℕ) : Type 0 where
   pub segment_is : segment ≡ (next_place ss at).segment
   pub number_is : v.number + 1 ≡ hop_number ss (next_place ss at)
   pub segment_fits : segment < length ss
   pub number_fits : v.number + 1 < 64
 
-pub crosses : (v : Spot) (ss : List Segment) (at : Place) → IsWhole ss → Lies v ss at → v.position + 1 ≡ v.hops → v.segment + 1 < length ss
+pub crosses : (v : PathHop) (ss : List Segment) (at : Place) → IsWhole ss → Lies v ss at → v.position + 1 ≡ v.hops → v.segment + 1 < length ss
     → HasNextHop v ss at (v.segment + 1)
 crosses v ss at whole lies last followed =
     let test : places.is_last_of_segment ss at ≡ true = eq-eqb (at.position + 1) (hops_in ss at.segment) (omega (arith, lies.position, lies.hops, last)) in
     let place : next_place ss at ≡ next_segment at = cond-true (places.is_last_of_segment ss at) _ _ test in
     let step : at.segment + 1 ≡ suc at.segment = omega arith in
-    let behind : count_hops (take (at.segment + 1) ss) ≡ count_hops (take at.segment ss) + hops_in ss at.segment =
+    let after : count_hops (take (at.segment + 1) ss) ≡ count_hops (take at.segment ss) + hops_in ss at.segment =
     ap (λ (n : ℕ). count_hops (take n ss)) step ∙ count_next ss at.segment lies.there in
     let there : at.segment + 1 < length ss = omega (arith, lies.segment, followed) in
     let all = within_all ss (at.segment + 1) there in
     let some = whole.some (at.segment + 1) there in
-    let number : v.number + 1 ≡ hop_number ss (next_segment at) = omega (arith, lies.number, lies.position, lies.hops, last, behind) in
+    let number : v.number + 1 ≡ hop_number ss (next_segment at) = omega (arith, lies.number, lies.position, lies.hops, last, after) in
     record {
       segment_is = ap (λ (n : ℕ). n + 1) lies.segment ∙ sym (ap (λ (p : Place). p.segment) place);
       number_is = number ∙ sym (ap (λ (p : Place). hop_number ss p) place);
@@ -65,7 +65,7 @@ crosses v ss at whole lies last followed =
       number_fits = omega (arith, number, all, some, whole.hops);
     }
 
-pub goes_on_within : (v : Spot) (ss : List Segment) (at : Place) → IsWhole ss → Lies v ss at → v.position + 1 ≢ v.hops → HasNextHop v ss at v.segment
+pub goes_on_within : (v : PathHop) (ss : List Segment) (at : Place) → IsWhole ss → Lies v ss at → v.position + 1 ≢ v.hops → HasNextHop v ss at v.segment
 goes_on_within v ss at whole lies more =
     let other : at.position + 1 ≢ hops_in ss at.segment = omega (arith, lies.position, lies.hops, more) in
     let test : places.is_last_of_segment ss at ≡ false = ne_eqb (at.position + 1) (hops_in ss at.segment) other in
@@ -94,10 +94,10 @@ another_follows position hops segment segments more last =
 -- ---- the packet
 
 -- the packet with another place and other segments
-abbrev packet_at : Standing → Place → List Segment → Packet
+abbrev packet_at : PacketState → Place → List Segment → Packet
 packet_at s at ss = record { header = s.header; path = record { reserved = s.path.reserved; place = at; segments = ss }; payload = s.payload }
 
-as_kept : (v : Sight) (s : Standing) (p : Packet) (at : Place) (ss ts : List Segment) → Keeps v s p → ss ≡ ts
+as_kept : (v : PacketView) (s : PacketState) (p : Packet) (at : Place) (ss ts : List Segment) → Keeps v s p → ss ≡ ts
     → packet_at s at ss ≡ record p { path = record { reserved = p.path.reserved; place = at; segments = ts } }
 as_kept v s p at ss ts keeps same =
     ap (λ h. record { header = h; path = record { reserved = s.path.reserved; place = at; segments = ss }; payload = s.payload }) keeps.header
@@ -105,22 +105,22 @@ as_kept v s p at ss ts keeps same =
     ∙ ap (λ (us : List Segment). record { header = p.header; path = record { reserved = p.path.reserved; place = at; segments = us }; payload = s.payload }) same
     ∙ ap (λ b. record { header = p.header; path = record { reserved = p.path.reserved; place = at; segments = ts }; payload = b }) keeps.payload
 
--- A departure with this link, by these segments, from what the sight shows.
-pub record LeavesBy (d : Departure) (v : Sight) (link : ℕ) (to : Option Underlay) (chained : Option ℕ) : Type 0 where
+-- A departure with this link, by these segments, from what the view shows.
+pub record LeavesBy (d : Departure) (v : PacketView) (link : ℕ) (to : Option Underlay) (chained : Option ℕ) : Type 0 where
   pub link_is : d.link ≡ link
   pub to_is : d.to ≡ to
   pub entered_is : d.entered ≡ v.entered
   pub turned_is : d.turned ≡ v.turned
-  pub left_is : d.left ≡ v.spot.segment
+  pub left_is : d.left ≡ v.current.segment
   pub chained_is : d.chained ≡ chained
 
-pub departs : (d : Departure) (v : Sight) (s : Standing) (p : Packet) (link : ℕ) (to : Option Underlay) (chained : Option ℕ) (at : Place) (verdict : Verdict) → Sees v s → Keeps v s p
+pub departs : (d : Departure) (v : PacketView) (s : PacketState) (p : Packet) (link : ℕ) (to : Option Underlay) (chained : Option ℕ) (at : Place) (verdict : Verdict) → Shows v s → Keeps v s p
     → LeavesBy d v link to chained → IsNumberOf d.segment d.number s.path.segments at
     → verdict ≡ Sent link to (packet_at s at (with_id chained s.path.place.segment s.path.segments)) → Departs d verdict p
-departs d v s p link to chained at verdict sees keeps by number is =
+departs d v s p link to chained at verdict shows keeps by number is =
     let ps = p.path.segments in
     let alike : IsAlike v.entered ps (with_id v.turned v.entered ps) = alike_with v.turned v.entered ps in
-    let left : d.left ≡ s.path.place.segment = by.left_is ∙ sees.spot.place.segment in
+    let left : d.left ≡ s.path.place.segment = by.left_is ∙ shows.current.place.segment in
     let segments : with_id chained s.path.place.segment s.path.segments ≡ with_id d.chained d.left (with_id d.turned d.entered ps) =
     ap (λ (ss : List Segment). with_id chained s.path.place.segment ss) keeps.segments
     ∙ ap (λ (k : ℕ). with_id chained k (with_id v.turned v.entered ps)) (sym left)
@@ -136,7 +136,7 @@ departs d v s p link to chained at verdict sees keeps by number is =
           ∙ ap (λ (o : Option Underlay). Sent d.link o (record p { path = moved_path d at p.path })) (sym by.to_is);
       segment = number.segment_is;
       number = number.number_is ∙ ap (λ (ss : List Segment). hop_number ss at) keeps.segments ∙ alike.number at;
-      left = omega (arith, left, sees.spot.place.there, count);
+      left = omega (arith, left, shows.current.place.there, count);
       entered = omega (arith, by.entered_is, keeps.entered);
     }
 
@@ -153,23 +153,23 @@ next_alike : (k : ℕ) (old new : List Segment) (at : Place) → IsAlike k old n
 next_alike k old new at alike = ap (λ (b : Bool). if b then next_segment at else place_at at.segment (at.position + 1)) (last_alike k old new at alike)
 
 -- the identifier for the next hop, in the direction of construction
-abbrev pub id_for : Bool → Standing → Option ℕ
+abbrev pub id_for : Bool → PacketState → Option ℕ
 id_for b s = if b then Some (chained_id s) else None
 
-out_from : (s : Standing) (ts : List Segment) (link : ℕ) → IsAlike s.path.place.segment s.path.segments ts → is_last_of_path s ≡ false
+out_from : (s : PacketState) (ts : List Segment) (link : ℕ) → IsAlike s.path.place.segment s.path.segments ts → is_last_of_path s ≡ false
     → sent_out (record s { path = record s.path { segments = ts } }) link ≡ Sent link None (packet_at s (next_place s.path.segments s.path.place) ts)
 out_from s ts link alike more =
     let at = s.path.place in
     cond-false (places.is_last_of_path ts at) (Dropped cause.PathEnd) _ (ends_alike at.segment s.path.segments ts at alike ∙ more)
     ∙ ap (λ (p : Place). Sent link None (packet_at s p ts)) (next_alike at.segment s.path.segments ts at alike)
 
-pub out_is : (b : Bool) (s : Standing) (link : ℕ) → is_last_of_path s ≡ false
+pub out_is : (b : Bool) (s : PacketState) (link : ℕ) → is_last_of_path s ≡ false
     → sent_out (if b then chained s else s) link
     ≡ Sent link None (packet_at s (next_place s.path.segments s.path.place) (with_id (id_for b s) s.path.place.segment s.path.segments))
 out_is true s link more = out_from s _ link (alike_set s.path.segments s.path.place.segment (chained_id s)) more
 out_is false s link more = out_from s s.path.segments link (alike_same s.path.segments s.path.place.segment) more
 
-pub path_ends : (b : Bool) (s : Standing) (link : ℕ) → is_last_of_path s ≡ true → sent_out (if b then chained s else s) link ≡ Dropped cause.PathEnd
+pub path_ends : (b : Bool) (s : PacketState) (link : ℕ) → is_last_of_path s ≡ true → sent_out (if b then chained s else s) link ≡ Dropped cause.PathEnd
 path_ends true s link last =
     let at = s.path.place in
     let alike = alike_set s.path.segments at.segment (chained_id s) in

@@ -1,11 +1,11 @@
-pub mod SpotLemmas
+pub mod PathHopLemmas
 pub mod ArrivingLemmas
 pub mod AlikeLemmas
 pub mod TurningLemmas
 pub mod SwitchLemmas
 pub mod LeavingLemmas
 pub mod RowLemmas
-pub mod FrontLemmas
+pub mod ParsedHeadersLemmas
 pub mod PassingLemmas
 pub mod LawLemmas
 pub mod AgreementLemmas

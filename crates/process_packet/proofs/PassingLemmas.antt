@@ -6,14 +6,14 @@ use Rattle.process_packet.specs.declared.cause.Cause.{Cause}
 use Rattle.process_packet.specs.declared.decision.Problem.{Problem}
 use Rattle.process_packet.specs.declared.underlay.Underlay.{Underlay}
 use Rattle.process_packet.specs.Decide.{verdict_of}
-use Rattle.process_packet.specs.Rows.{Verdict, Sent, Answered, Dropped, Turn, GoesOn, Row, ends_where, faulty, then_rows}
-use Rattle.process_packet.specs.Standing.{Standing}
+use Rattle.process_packet.specs.Rows.{Verdict, Sent, Answered, Dropped, RowResult, GoesOn, Row, ends_where, faulty, then_rows}
+use Rattle.process_packet.specs.PacketState.{PacketState}
 
 abbrev pub parameter : ℕ → ℕ → Problem
 parameter code pointer = record { kind = 4; code = code; pointer = pointer }
 
 -- rows beginning with a turn end in a packet that is sent
-abbrev pub Sends : Turn → List Row → ℕ → Option Underlay → Packet → Type 0
+abbrev pub Sends : RowResult → List Row → ℕ → Option Underlay → Packet → Type 0
 Sends t rows out to p = verdict_of (then_rows t rows) ≡ Sent out to p
 
 abbrev IsSent : Verdict → Type 0
@@ -55,27 +55,27 @@ same_sent out out' to to' p p' e = record {
   packet = subst (λ (v : Verdict). p ≡ packet_in p v) e refl;
 }
 
-pub record Passed (t : Bool) (s : Standing) (rows : List Row) (out : ℕ) (to : Option Underlay) (p : Packet) : Type 0 where
+pub record Passed (t : Bool) (s : PacketState) (rows : List Row) (out : ℕ) (to : Option Underlay) (p : Packet) : Type 0 where
   pub clear : t ≡ false
   pub after : Sends (GoesOn s) rows out to p
 
-pub answer_passed : (t : Bool) (q : Problem) (s : Standing) (rows : List Row) (out : ℕ) (to : Option Underlay) (p : Packet)
+pub answer_passed : (t : Bool) (q : Problem) (s : PacketState) (rows : List Row) (out : ℕ) (to : Option Underlay) (p : Packet)
     → Sends (ends_where t (Answered q) s) rows out to p → Passed t s rows out to p
 answer_passed true q s rows out to p sent = absurd (answered_not_sent q out to p sent)
 answer_passed false q s rows out to p sent = record { clear = refl; after = sent }
 
 -- the same among rows within a row
-pub answer_passed_within : (t : Bool) (q : Problem) (s : Standing) (within rows : List Row) (out : ℕ) (to : Option Underlay) (p : Packet)
+pub answer_passed_within : (t : Bool) (q : Problem) (s : PacketState) (within rows : List Row) (out : ℕ) (to : Option Underlay) (p : Packet)
     → Sends (then_rows (ends_where t (Answered q) s) within) rows out to p → (t ≡ false) × Sends (then_rows (GoesOn s) within) rows out to p
 answer_passed_within true q s within rows out to p sent = absurd (answered_not_sent q out to p sent)
 answer_passed_within false q s within rows out to p sent = (refl, sent)
 
-pub drop_passed : (t : Bool) (c : Cause) (s : Standing) (rows : List Row) (out : ℕ) (to : Option Underlay) (p : Packet)
+pub drop_passed : (t : Bool) (c : Cause) (s : PacketState) (rows : List Row) (out : ℕ) (to : Option Underlay) (p : Packet)
     → Sends (ends_where t (Dropped c) s) rows out to p → Passed t s rows out to p
 drop_passed true c s rows out to p sent = absurd (dropped_not_sent c out to p sent)
 drop_passed false c s rows out to p sent = record { clear = refl; after = sent }
 
-pub fault_passed : (f : Option Fault) (s : Standing) (rows : List Row) (out : ℕ) (to : Option Underlay) (p : Packet)
+pub fault_passed : (f : Option Fault) (s : PacketState) (rows : List Row) (out : ℕ) (to : Option Underlay) (p : Packet)
     → Sends (faulty f s) rows out to p → Sends (GoesOn s) rows out to p
 fault_passed None s rows out to p sent = sent
 fault_passed (Some f) s rows out to p sent = absurd (dropped_not_sent _ out to p sent)

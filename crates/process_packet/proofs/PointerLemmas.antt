@@ -23,42 +23,42 @@ use Rattle.process_packet.specs.Pointers.{IsAtHand, IsNamed, PointersAreRight, P
 use Rattle.process_packet.specs.Request.{is_request}
 use Rattle.process_packet.specs.Routed.{IsAnswer}
 use Rattle.process_packet.specs.Rows.{Answered, Dropped, GoesOn, Row, Sent, Verdict, came_lawfully, delivered, ends_where, expired, is_destination_lawful, is_pair_lawful, is_source_lawful, then_rows, wrong_mac}
-use Rattle.process_packet.specs.Standing.{Standing, arrives, chained, chained_id, changed_over, egress, egress_alert, hop_pointer, info_pointer, ingress, ingress_alert, is_along, is_authentic, is_expired, is_external, is_followed, is_last_of_segment, next_segment, packet, turned_back}
+use Rattle.process_packet.specs.PacketState.{PacketState, arrives, chained, chained_id, changed_over, egress, egress_alert, hop_pointer, info_pointer, ingress, ingress_alert, is_along, is_authentic, is_expired, is_external, is_followed, is_last_of_segment, next_segment, packet, turned_back}
 use Rattle.process_packet.proofs.AlikeLemmas.{alike_set}
 use Rattle.process_packet.proofs.LawLemmas.{answers_sound, rest}
 use Rattle.process_packet.proofs.LawfulLemmas.{IsOnPath, is_on, some_hop, spelled}
 use Rattle.process_packet.proofs.PassingLemmas.{both_true, parameter}
-use Rattle.process_packet.proofs.ProblemLemmas.{IsTold, Tells, row_faulty, row_of, row_within, told_delivered, told_leave}
+use Rattle.process_packet.proofs.ProblemLemmas.{IsTold, IsToldAfter, row_faulty, row_of, row_within, told_delivered, told_leave}
 
 -- ---- pointers of what stands turned back, or at the next segment
 
 -- where the hop field of a place begins
-abbrev pointer_to : Standing → Place → ℕ
+abbrev pointer_to : PacketState → Place → ℕ
 pointer_to s at = front_len s.header + 4 + 8 * length s.path.segments + 12 * hop_number s.path.segments at
 
-same_pointer : (b : Bool) (s : Standing) → hop_pointer (if b then chained s else s) ≡ pointer_to s s.path.place
+same_pointer : (b : Bool) (s : PacketState) → hop_pointer (if b then chained s else s) ≡ pointer_to s s.path.place
 same_pointer true s =
     let alike = alike_set s.path.segments s.path.place.segment (chained_id s) in
     ap₂ (λ (c h : ℕ). front_len s.header + 4 + 8 * c + 12 * h) alike.count (alike.number s.path.place)
 same_pointer false s = refl
 
-next_pointer : (b : Bool) (s : Standing) → hop_pointer (changed_over (if b then chained s else s)) ≡ pointer_to s (next_segment s.path.place)
+next_pointer : (b : Bool) (s : PacketState) → hop_pointer (changed_over (if b then chained s else s)) ≡ pointer_to s (next_segment s.path.place)
 next_pointer true s =
     let alike = alike_set s.path.segments s.path.place.segment (chained_id s) in
     ap₂ (λ (c h : ℕ). front_len s.header + 4 + 8 * c + 12 * h) alike.count (alike.number (next_segment s.path.place))
 next_pointer false s = refl
 
-next_info : (b : Bool) (s : Standing) → info_pointer (changed_over (if b then chained s else s)) ≡ front_len s.header + 4 + 8 * (s.path.place.segment + 1)
+next_info : (b : Bool) (s : PacketState) → info_pointer (changed_over (if b then chained s else s)) ≡ front_len s.header + 4 + 8 * (s.path.place.segment + 1)
 next_info true s = refl
 next_info false s = refl
 
-never_switched : (b : Bool) (s : Standing) → s.switched ≡ false → (if b then chained s else s).switched ≡ false
+never_switched : (b : Bool) (s : PacketState) → s.switched ≡ false → (if b then chained s else s).switched ≡ false
 never_switched true s is = is
 never_switched false s is = is
 
-next_is_there : (b : Bool) (s : Standing) → changes (if b then chained s else s) ≡ true → s.path.place.segment + 1 < length s.path.segments
+next_is_there : (b : Bool) (s : PacketState) → changes (if b then chained s else s) ≡ true → s.path.place.segment + 1 < length s.path.segments
 next_is_there true s ends =
-    let t : Standing = chained s in
+    let t : PacketState = chained s in
     let count = (alike_set s.path.segments s.path.place.segment (chained_id s)).count in
     let there : t.path.place.segment + 1 < length t.path.segments = (Decides-ltb (t.path.place.segment + 1) (length t.path.segments)).0 (both_true (is_last_of_segment t) (is_followed t) ends).1 in
     omega arith
@@ -66,8 +66,8 @@ next_is_there false s ends = (Decides-ltb (s.path.place.segment + 1) (length s.p
 
 -- ---- rows
 
-told_pair_by : (K : Problem → Type 0) (switched b : Bool) (q r : Problem) (u : Standing) (rows : List Row) → (switched ≡ true → K q) → (switched ≡ false → K r) → Tells K (GoesOn u) rows
-    → Tells K (ends_where b (if switched then Answered q else Answered r) u) rows
+told_pair_by : (K : Problem → Type 0) (switched b : Bool) (q r : Problem) (u : PacketState) (rows : List Row) → (switched ≡ true → K q) → (switched ≡ false → K r) → IsToldAfter K (GoesOn u) rows
+    → IsToldAfter K (ends_where b (if switched then Answered q else Answered r) u) rows
 told_pair_by K true b q r u rows k j after = row_of K b (Answered q) u rows (λ is. k refl) (λ no. after)
 told_pair_by K false b q r u rows k j after = row_of K b (Answered r) u rows (λ is. j refl) (λ no. after)
 
@@ -77,10 +77,10 @@ either true x y a b c d = (a, b)
 either false x y a b c d = (c, d)
 
 module _ (n : Network) (from : ℕ) (source : Underlay) (moment : ℕ) (bytes : List ℕ) (are : IsBytes bytes) (sound : first_fault bytes ≡ None) where
-  abbrev s : Standing
+  abbrev s : PacketState
   s = arrives n from source moment bytes
 
-  abbrev t : Standing
+  abbrev t : PacketState
   t = turned_back s
 
   abbrev against : Bool
@@ -151,8 +151,8 @@ module _ (n : Network) (from : ℕ) (source : Underlay) (moment : ℕ) (bytes : 
   here : (code pointer : ℕ) → 48 ≤ code → code ≤ 52 → pointer ≡ pointer_to s s.path.place → K (parameter code pointer)
   here code pointer low high is = hop_named code pointer s.path.place low high (inl refl) on_path is
 
-  behind : changes t ≡ true → (code pointer : ℕ) → 48 ≤ code → code ≤ 52 → pointer ≡ pointer_to s (next_segment s.path.place) → K (parameter code pointer)
-  behind ends code pointer low high is = hop_named code pointer (next_segment s.path.place) low high (inr refl) (on_next (next_is_there against s ends)) is
+  later : changes t ≡ true → (code pointer : ℕ) → 48 ≤ code → code ≤ 52 → pointer ≡ pointer_to s (next_segment s.path.place) → K (parameter code pointer)
+  later ends code pointer low high is = hop_named code pointer (next_segment s.path.place) low high (inr refl) (on_next (next_is_there against s ends)) is
 
   segment_named : changes t ≡ true → K (parameter 53 (info_pointer (changed_over t)))
   segment_named ends =
@@ -171,7 +171,7 @@ module _ (n : Network) (from : ℕ) (source : Underlay) (moment : ℕ) (bytes : 
   unreachable : K (record { kind = 1; code = 0; pointer = 0 })
   unreachable = record { named = λ is. absurd (omega arith); inside = λ is. absurd (omega arith); none = λ is. refl }
 
-  leaves : (u : Standing) → ((code : ℕ) → 48 ≤ code → code ≤ 52 → K (parameter code (hop_pointer u))) → (u.switched ≡ true → K (parameter 53 (info_pointer u))) → Tells K (GoesOn u) (rest 14)
+  leaves : (u : PacketState) → ((code : ℕ) → 48 ≤ code → code ≤ 52 → K (parameter code (hop_pointer u))) → (u.switched ≡ true → K (parameter 53 (info_pointer u))) → IsToldAfter K (GoesOn u) (rest 14)
   leaves u hop info =
       let code = either (is_along u) 50 49 (omega arith) (omega arith) (omega arith) (omega arith) in
       row_of K (not (is_some (interface_kind u.network (egress u)))) (Answered (parameter (if is_along u then 50 else 49) (hop_pointer u))) u (rest 15) (λ is. hop _ code.0 code.1) (λ known.
@@ -179,10 +179,10 @@ module _ (n : Network) (from : ℕ) (source : Underlay) (moment : ℕ) (bytes : 
       (row_of K (is_some (own_link u.network (egress u)) && egress_alert u && is_request u.header.next_header u.payload) (Answered (record { kind = 131; code = 0; pointer = egress u })) u (rest 17)
       (λ asks. replies (egress u)) (λ quiet. told_leave K (is_some (own_link u.network (egress u))) u (if is_along u then chained u else u))))
 
-  switches : (b : Bool) → changes t ≡ b → Tells K (if b then then_rows (GoesOn (changed_over t)) (expired ∷ wrong_mac ∷ []) else GoesOn t) (rest 14)
+  switches : (b : Bool) → changes t ≡ b → IsToldAfter K (if b then then_rows (GoesOn (changed_over t)) (expired ∷ wrong_mac ∷ []) else GoesOn t) (rest 14)
   switches true ends =
-      let u : Standing = changed_over t in
-      let hop = λ (code : ℕ) (low : 48 ≤ code) (high : code ≤ 52). behind ends code (hop_pointer u) low high (next_pointer against s) in
+      let u : PacketState = changed_over t in
+      let hop = λ (code : ℕ) (low : 48 ≤ code) (high : code ≤ 52). later ends code (hop_pointer u) low high (next_pointer against s) in
       row_within K (is_expired u) (Answered (parameter 52 (hop_pointer u))) u (wrong_mac ∷ []) (rest 14) (λ is. hop 52 (omega arith) (omega arith)) (λ unexpired.
       row_within K (not (is_authentic u)) (Answered (parameter 51 (hop_pointer u))) u [] (rest 14) (λ is. hop 51 (omega arith) (omega arith)) (λ authentic.
       leaves u hop (λ is. segment_named ends)))
@@ -190,7 +190,7 @@ module _ (n : Network) (from : ℕ) (source : Underlay) (moment : ℕ) (bytes : 
       leaves t (λ code low high. here code (hop_pointer t) low high (same_pointer against s))
       (λ is. let never : false ≡ true = sym (never_switched against s refl) ∙ is in absurd cc)
 
-  told_all : Tells K (GoesOn s) decision_table
+  told_all : IsToldAfter K (GoesOn s) decision_table
   told_all =
       let code = either (is_along s) 49 50 (omega arith) (omega arith) (omega arith) (omega arith) in
       row_of K (nat_lt 9216 (length s.bytes)) (Dropped cause.TooLong) s (rest 1) (λ is. tt) (λ short.

@@ -13,8 +13,8 @@ use Rattle.process_packet.specs.Neighbours.{service_at, sibling_at}
 use Rattle.process_packet.specs.Network.{Network, interface_kind, is_local, own_link, service, sibling}
 use Rattle.process_packet.specs.Problems.{IsLawfulRequest, IsProblem, ProblemsAreLawful}
 use Rattle.process_packet.specs.Request.{is_request}
-use Rattle.process_packet.specs.Rows.{Answered, Dropped, Ends, GoesOn, Row, Sent, Turn, Verdict, came_lawfully, delivered, ends_where, expired, faulty, is_destination_lawful, is_pair_lawful, is_source_lawful, sent_on, sent_out, then_rows, to_service, wrong_mac}
-use Rattle.process_packet.specs.Standing.{Standing, arrives, chained, changed_over, egress, egress_alert, hop_pointer, info_pointer, ingress, ingress_alert, is_along, is_authentic, is_expired, is_external, is_last_of_path, packet, turned_back, next_place, with_place}
+use Rattle.process_packet.specs.Rows.{Answered, Dropped, Ends, GoesOn, Row, Sent, RowResult, Verdict, came_lawfully, delivered, ends_where, expired, faulty, is_destination_lawful, is_pair_lawful, is_source_lawful, sent_on, sent_out, then_rows, to_service, wrong_mac}
+use Rattle.process_packet.specs.PacketState.{PacketState, arrives, chained, changed_over, egress, egress_alert, hop_pointer, info_pointer, ingress, ingress_alert, is_along, is_authentic, is_expired, is_external, is_last_of_path, packet, turned_back, next_place, with_place}
 use Rattle.process_packet.specs.declared.cause.Cause.TheVariants as cause
 use Rattle.process_packet.specs.declared.decision.Problem.{Problem}
 use Rattle.process_packet.specs.declared.underlay.Ip.TheVariants.{V4, V6}
@@ -29,20 +29,20 @@ IsTold K (Sent out to p) = Unit {0}
 IsTold K (Answered q) = K q
 IsTold K (Dropped c) = Unit {0}
 
-abbrev pub Tells : (Problem → Type 0) → Turn → List Row → Type 0
-Tells K t rows = IsTold K (verdict_of (then_rows t rows))
+abbrev pub IsToldAfter : (Problem → Type 0) → RowResult → List Row → Type 0
+IsToldAfter K t rows = IsTold K (verdict_of (then_rows t rows))
 
-pub row_of : (K : Problem → Type 0) (b : Bool) (v : Verdict) (s : Standing) (rows : List Row) → (b ≡ true → IsTold K v) → (b ≡ false → Tells K (GoesOn s) rows)
-    → Tells K (ends_where b v s) rows
+pub row_of : (K : Problem → Type 0) (b : Bool) (v : Verdict) (s : PacketState) (rows : List Row) → (b ≡ true → IsTold K v) → (b ≡ false → IsToldAfter K (GoesOn s) rows)
+    → IsToldAfter K (ends_where b v s) rows
 row_of K true v s rows here after = here refl
 row_of K false v s rows here after = after refl
 
-pub row_within : (K : Problem → Type 0) (b : Bool) (v : Verdict) (s : Standing) (within rows : List Row) → (b ≡ true → IsTold K v)
-    → (b ≡ false → Tells K (then_rows (GoesOn s) within) rows) → Tells K (then_rows (ends_where b v s) within) rows
+pub row_within : (K : Problem → Type 0) (b : Bool) (v : Verdict) (s : PacketState) (within rows : List Row) → (b ≡ true → IsTold K v)
+    → (b ≡ false → IsToldAfter K (then_rows (GoesOn s) within) rows) → IsToldAfter K (then_rows (ends_where b v s) within) rows
 row_within K true v s within rows here after = here refl
 row_within K false v s within rows here after = after refl
 
-pub row_faulty : (K : Problem → Type 0) (f : Option Fault) (s : Standing) (rows : List Row) → Tells K (GoesOn s) rows → Tells K (faulty f s) rows
+pub row_faulty : (K : Problem → Type 0) (f : Option Fault) (s : PacketState) (rows : List Row) → IsToldAfter K (GoesOn s) rows → IsToldAfter K (faulty f s) rows
 row_faulty K None s rows after = after
 row_faulty K (Some f) s rows after = tt
 
@@ -73,13 +73,13 @@ told_on : (K : Problem → Type 0) (p : Packet) (o : Option Underlay) → IsTold
 told_on K p None = tt
 told_on K p (Some at) = tt
 
-pub told_leave : (K : Problem → Type 0) (b : Bool) (u w : Standing)
-    → Tells K (if b then Ends (sent_out w (egress u)) else Ends (sent_on (packet u) (option_map sibling_at (sibling u.network (egress u))))) []
+pub told_leave : (K : Problem → Type 0) (b : Bool) (u w : PacketState)
+    → IsToldAfter K (if b then Ends (sent_out w (egress u)) else Ends (sent_on (packet u) (option_map sibling_at (sibling u.network (egress u))))) []
 told_leave K true u w = told_out K (is_last_of_path w) (egress u) (packet (with_place w (next_place w.path.segments w.path.place)))
 told_leave K false u w = told_on K (packet u) (option_map sibling_at (sibling u.network (egress u)))
 
-told_pair : (K : Problem → Type 0) (switched b : Bool) (q r : Problem) (u : Standing) (rows : List Row) → K q → K r → Tells K (GoesOn u) rows
-    → Tells K (ends_where b (if switched then Answered q else Answered r) u) rows
+told_pair : (K : Problem → Type 0) (switched b : Bool) (q r : Problem) (u : PacketState) (rows : List Row) → K q → K r → IsToldAfter K (GoesOn u) rows
+    → IsToldAfter K (ends_where b (if switched then Answered q else Answered r) u) rows
 told_pair K true b q r u rows k j after = row_of K b (Answered q) u rows (λ is. k) (λ no. after)
 told_pair K false b q r u rows k j after = row_of K b (Answered r) u rows (λ is. j) (λ no. after)
 
@@ -91,11 +91,11 @@ three false y z e = absurd cc
 
 -- ---- the table
 
-module _ (s : Standing) where
+module _ (s : PacketState) where
   abbrev K : Problem → Type 0
   K q = IsProblem s q
 
-  abbrev t : Standing
+  abbrev t : PacketState
   t = turned_back s
 
   four : (code pointer : ℕ) → K (parameter code pointer)
@@ -113,7 +113,7 @@ module _ (s : Standing) where
       let same = turned_stays s in
       ap₂ (λ (h : HeaderFields) (p : List ℕ). is_request h.next_header p) (sym same.header) (sym same.payload) ∙ is
 
-  leaves : (u : Standing) → u.header ≡ t.header → u.payload ≡ t.payload → (is_request s.header.next_header s.payload ≡ true → IsLawfulRequest s) → Tells K (GoesOn u) (rest 14)
+  leaves : (u : PacketState) → u.header ≡ t.header → u.payload ≡ t.payload → (is_request s.header.next_header s.payload ≡ true → IsLawfulRequest s) → IsToldAfter K (GoesOn u) (rest 14)
   leaves u header payload lawful =
       row_of K (not (is_some (interface_kind u.network (egress u)))) (Answered (parameter (if is_along u then 50 else 49) (hop_pointer u))) u (rest 15) (λ is. four _ _) (λ known.
       told_pair K u.switched (not (is_pair_lawful u)) (parameter 53 (info_pointer u)) (parameter 48 (hop_pointer u)) u (rest 16) (four _ _) (four _ _)
@@ -123,9 +123,9 @@ module _ (s : Standing) where
       (λ quiet. told_leave K (is_some (own_link u.network (egress u))) u (if is_along u then chained u else u))))
 
   switches : (b : Bool) → (is_request s.header.next_header s.payload ≡ true → IsLawfulRequest s)
-      → Tells K (if b then then_rows (GoesOn (changed_over t)) (expired ∷ wrong_mac ∷ []) else GoesOn t) (rest 14)
+      → IsToldAfter K (if b then then_rows (GoesOn (changed_over t)) (expired ∷ wrong_mac ∷ []) else GoesOn t) (rest 14)
   switches true lawful =
-      let u : Standing = changed_over t in
+      let u : PacketState = changed_over t in
       row_within K (is_expired u) (Answered (parameter 52 (hop_pointer u))) u (wrong_mac ∷ []) (rest 14) (λ is. four _ _) (λ unexpired.
       row_within K (not (is_authentic u)) (Answered (parameter 51 (hop_pointer u))) u [] (rest 14) (λ is. four _ _) (λ authentic. leaves u refl refl lawful))
   switches false lawful = leaves t refl refl lawful
@@ -138,7 +138,7 @@ module _ (s : Standing) where
     authentic = not_false (is_authentic t) authentic;
   }
 
-  told_all : Tells K (GoesOn s) decision_table
+  told_all : IsToldAfter K (GoesOn s) decision_table
   told_all =
       row_of K (nat_lt 9216 (length s.bytes)) (Dropped cause.TooLong) s (rest 1) (λ is. tt) (λ short.
       row_faulty K (header_fault s.bytes) s (rest 2)

@@ -11,7 +11,7 @@ use Rattle.process_packet.specs.Neighbours.{sibling_at}
 use Rattle.process_packet.specs.Network.{Network, own_link, sibling}
 use Rattle.process_packet.specs.Rows.{Sent, delivered}
 use Rattle.process_packet.specs.Shown.{AuthorisedIsSent, StandsToLeave, asks_entry, asks_exit, is_for_us, sent_along, turned}
-use Rattle.process_packet.specs.Standing.{Standing, arrives, changed_over, egress, is_last_of_path, packet}
+use Rattle.process_packet.specs.PacketState.{PacketState, arrives, changed_over, egress, is_last_of_path, packet}
 use Rattle.process_packet.specs.Ways.{IsSentBy, SentByThreeWays}
 use Rattle.process_packet.proofs.AuthorisedLemmas.{authorised_sent, comes_so}
 use Rattle.process_packet.proofs.Coming.{ComesAsItShould}
@@ -21,7 +21,7 @@ use Rattle.process_packet.proofs.PassingLemmas.{answered_not_sent, dropped_not_s
 use Rattle.process_packet.proofs.RowsPassed.{ends_there, turned_is, unlisted}
 
 module _ (n : Network) (from : ℕ) (source : Underlay) (moment : ℕ) (bytes : List ℕ) (out : ℕ) (to : Option Underlay) (p : Packet) (sent : verdict n from source moment bytes ≡ Sent out to p) where
-  abbrev s : Standing
+  abbrev s : PacketState
   s = arrives n from source moment bytes
 
   is : IsAuthorised s
@@ -34,13 +34,13 @@ module _ (n : Network) (from : ℕ) (source : Underlay) (moment : ℕ) (bytes : 
   way = authorised_sent n from source moment bytes is
 
   left : LeftLawfully (turned s) out to
-  left = subst (λ (t : Standing). LeftLawfully t out to) (turned_is s) (left_lawfully s out to p (told n from source moment bytes out to p sent)).lawfully
+  left = subst (λ (t : PacketState). LeftLawfully t out to) (turned_is s) (left_lawfully s out to p (told n from source moment bytes out to p sent)).lawfully
 
   ends : ends_as s decision_table ≡ Sent out to p
   unfolding verdict
   ends = sent
 
-  by_sibling : (u : Standing) → asks_entry s ≡ false → is_for_us s ≡ false → StandsToLeave (turned s) u → LeavesByItsEgress u out to → own_link u.network (egress u) ≡ None
+  by_sibling : (u : PacketState) → asks_entry s ≡ false → is_for_us s ≡ false → StandsToLeave (turned s) u → LeavesByItsEgress u out to → own_link u.network (egress u) ≡ None
       → (o : Option Underlay) → option_map sibling_at (sibling u.network (egress u)) ≡ o → IsSentBy s out to p
   by_sibling u quiet others leaves l none None unlisted-there =
       absurd (dropped_not_sent cause.PathEnd out to p (sym (unlisted s u comes quiet others leaves l.pair none unlisted-there) ∙ ends))
@@ -48,7 +48,7 @@ module _ (n : Network) (from : ℕ) (source : Underlay) (moment : ℕ) (bytes : 
       let same = same_sent 0 out (Some at) to (packet u) p (sym (way.to_sibling u at quiet others leaves l.pair none listed) ∙ sent) in
       IsSentBy.by_sibling u (record { others = others; leaves = leaves; pair = l.pair; own = none; at = at; listed = listed; link = same.link; address = same.address; packet = same.packet })
 
-  by_link : (u : Standing) (last : Bool) → asks_entry s ≡ false → is_for_us s ≡ false → StandsToLeave (turned s) u → LeavesByItsEgress u out to → asks_exit u ≡ false
+  by_link : (u : PacketState) (last : Bool) → asks_entry s ≡ false → is_for_us s ≡ false → StandsToLeave (turned s) u → LeavesByItsEgress u out to → asks_exit u ≡ false
       → is_some (own_link u.network (egress u)) ≡ true → is_last_of_path u ≡ last → IsSentBy s out to p
   by_link u true quiet others leaves l still own ended =
       absurd (dropped_not_sent cause.PathEnd out to p (sym (ends_there s u comes quiet others leaves l.pair still own ended) ∙ ends))
@@ -56,7 +56,7 @@ module _ (n : Network) (from : ℕ) (source : Underlay) (moment : ℕ) (bytes : 
       let same = same_sent (egress u) out None to (sent_along u) p (sym (way.by_link u quiet others leaves l.pair still own more) ∙ sent) in
       IsSentBy.by_link u (record { others = others; leaves = leaves; pair = l.pair; own = own; more = more; link = same.link; address = same.address; packet = same.packet })
 
-  by_egress : (u : Standing) (asks : Bool) → asks_entry s ≡ false → is_for_us s ≡ false → StandsToLeave (turned s) u → LeavesByItsEgress u out to → asks_exit u ≡ asks
+  by_egress : (u : PacketState) (asks : Bool) → asks_entry s ≡ false → is_for_us s ≡ false → StandsToLeave (turned s) u → LeavesByItsEgress u out to → asks_exit u ≡ asks
       → (o : Option Link) → own_link u.network (egress u) ≡ o → IsSentBy s out to p
   by_egress u true quiet others leaves l asks o own = absurd (answered_not_sent _ out to p (sym (way.exit_reply u quiet others leaves l.pair asks) ∙ sent))
   by_egress u false quiet others leaves l still None own =
@@ -67,10 +67,10 @@ module _ (n : Network) (from : ℕ) (source : Underlay) (moment : ℕ) (bytes : 
   by_way : asks_entry s ≡ false → is_for_us s ≡ false → LeftLawfully (turned s) out to → IsSentBy s out to p
   by_way quiet others (inl inside) = let here : is_for_us s ≡ true = ap₂ (λ (a b : Bool). a && b) inside.came_in inside.is_for_us in absurd cc
   by_way quiet others (inr (inl stays)) =
-      let u : Standing = turned s in
+      let u : PacketState = turned s in
       by_egress u (asks_exit u) quiet others (StandsToLeave.stays stays.stays) stays.leaves refl (own_link u.network (egress u)) refl
   by_way quiet others (inr (inr over)) =
-      let u : Standing = changed_over (turned s) in
+      let u : PacketState = changed_over (turned s) in
       by_egress u (asks_exit u) quiet others (StandsToLeave.changes_over over.changes over.unexpired over.authentic) over.leaves refl (own_link u.network (egress u)) refl
 
   by_any : (asks for_us : Bool) → asks_entry s ≡ asks → is_for_us s ≡ for_us → IsSentBy s out to p

@@ -13,10 +13,10 @@ use Rattle.process_packet.specs.Decide.{decision_of, moved_by, verdict}
 use Rattle.process_packet.specs.Laws.{IsAuthorised}
 use Rattle.process_packet.specs.Network.{Network}
 use Rattle.process_packet.specs.Rows.{Answered, Dropped, Sent, Verdict}
-use Rattle.process_packet.specs.Sight.{with_id}
-use Rattle.process_packet.specs.Standing.{Standing, arrives, packet}
+use Rattle.process_packet.specs.PacketView.{with_id}
+use Rattle.process_packet.specs.PacketState.{PacketState, arrives, packet}
 use Rattle.process_packet.specs.WhatLeaves.{DiffersInFive, IsElsewhere, LeavesWhole, WhatLeavesIsLawful}
-use Rattle.process_packet.proofs.ByteLemmas.{BehindFront, IsIdPlace, IsRewritten, bytes_stay, cursor_rewritten, datagram_rewritten, ids_rewritten, rewritten_then}
+use Rattle.process_packet.proofs.ByteLemmas.{AfterFront, IsIdPlace, IsRewritten, bytes_stay, cursor_rewritten, datagram_rewritten, ids_rewritten, rewritten_then}
 use Rattle.process_packet.proofs.LawLemmas.{came_in, told}
 use Rattle.process_packet.proofs.LawfulLemmas.{IsMovedFrom, moved_from, spelled}
 use Rattle.process_packet.proofs.WaysLemmas.{sent_by}
@@ -40,15 +40,15 @@ path_rewritten p q first second k j is =
     subst (λ (r : PathFields). IsRewritten (FivePlaces k j) (path_text p) (path_text r)) is both
 
 is_none : (bytes : List ℕ) (front k j i : ℕ) → front ≡ front_end bytes → front ≤ i → FivePlaces k j (i - front) → IsElsewhere bytes k j i → ⊥
-is_none bytes front k j i is behind (inl (inl cursor)) elsewhere = elsewhere.cursor (omega arith)
-is_none bytes front k j i is behind (inl (inr (inl high))) elsewhere = elsewhere.one_high (omega arith)
-is_none bytes front k j i is behind (inl (inr (inr low))) elsewhere = elsewhere.one_low (omega arith)
-is_none bytes front k j i is behind (inr (inl high)) elsewhere = elsewhere.other_high (omega arith)
-is_none bytes front k j i is behind (inr (inr low)) elsewhere = elsewhere.other_low (omega arith)
+is_none bytes front k j i is after (inl (inl cursor)) elsewhere = elsewhere.cursor (omega arith)
+is_none bytes front k j i is after (inl (inr (inl high))) elsewhere = elsewhere.one_high (omega arith)
+is_none bytes front k j i is after (inl (inr (inr low))) elsewhere = elsewhere.one_low (omega arith)
+is_none bytes front k j i is after (inr (inl high)) elsewhere = elsewhere.other_high (omega arith)
+is_none bytes front k j i is after (inr (inr low)) elsewhere = elsewhere.other_low (omega arith)
 
 module _ (n : Network) (from : ℕ) (source : Underlay) (moment : ℕ) (bytes : List ℕ) (are : IsBytes bytes) (out : ℕ) (to : Option Underlay) (p : Packet)
     (sent : verdict n from source moment bytes ≡ Sent out to p) where
-  abbrev s : Standing
+  abbrev s : PacketState
   s = arrives n from source moment bytes
 
   is : IsAuthorised s
@@ -83,12 +83,12 @@ module _ (n : Network) (from : ℕ) (source : Underlay) (moment : ℕ) (bytes : 
       let same = ap length same_front in
       omega arith
 
-  rewritten : IsRewritten (BehindFront front places) bytes (spelling p)
+  rewritten : IsRewritten (AfterFront front places) bytes (spelling p)
   rewritten =
       let path = path_rewritten s.path p.path moves.first moves.second s.path.place.segment moves.exit moves.path in
       let all = datagram_rewritten places (header_text s.header) (path_text s.path) (path_text p.path) s.payload same_len path in
-      subst (λ (old : List ℕ). IsRewritten (BehindFront front places) old (spelling p)) (sym text.text)
-      (subst (λ (new : List ℕ). IsRewritten (BehindFront front places) (spelling (packet s)) new) (sym same_front) all)
+      subst (λ (old : List ℕ). IsRewritten (AfterFront front places) old (spelling p)) (sym text.text)
+      (subst (λ (new : List ℕ). IsRewritten (AfterFront front places) (spelling (packet s)) new) (sym same_front) all)
 
   front_is : front ≡ front_end bytes
   front_is = front_text_len s.header ∙ (path_lies bytes s.header are (both_pass bytes is.sound).0 refl).begin
@@ -117,7 +117,7 @@ module _ (n : Network) (from : ℕ) (source : Underlay) (moment : ℕ) (bytes : 
     verdict = refl;
     read = sym (packet_only (spelling p) p reads);
     sound = packet_passes (spelling p) p reads;
-    are = bytes_stay (BehindFront front places) bytes (spelling p) rewritten are;
+    are = bytes_stay (AfterFront front places) bytes (spelling p) rewritten are;
     few = differs;
   }
 

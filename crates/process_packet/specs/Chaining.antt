@@ -9,7 +9,7 @@ use Rattle.process_packet.specs.declared.decision.Decision.TheVariants as decisi
 use Rattle.process_packet.specs.declared.underlay.Underlay.{Underlay}
 use Rattle.process_packet.specs.Decide.{decide, moved}
 use Rattle.process_packet.specs.Network.{Network, is_local}
-use Rattle.process_packet.specs.Standing.{Standing, arrives, hop, info, is_along, is_authentic, is_last_of_segment, past_switch, turned_back}
+use Rattle.process_packet.specs.PacketState.{PacketState, arrives, hop, info, is_along, is_authentic, is_last_of_segment, past_switch, turned_back}
 
 -- an info field with another identifier; its timestamp stays
 abbrev pub with_identifier : ℕ → InfoField → InfoField
@@ -18,7 +18,7 @@ with_identifier id i = record i { segment_id = id }
 -- The packet stood at one hop and was authentic there, and stands at the next hop of its segment and is authentic there. Along,
 -- the identifier there is chained from the one here by the MAC here; against the direction of construction, where the next hop
 -- field was made before, the one here is chained from the one there. All else of the info field is the same.
-pub record FollowsOn (u v : Standing) : Type 0 where
+pub record FollowsOn (u v : PacketState) : Type 0 where
   pub place : v.path.place ≡ place_at u.path.place.segment (u.path.place.position + 1)
   pub hop_is : hop v ≡ hop_there u.path.segments v.path.place
   pub accepted : is_authentic u ≡ true
@@ -27,7 +27,7 @@ pub record FollowsOn (u v : Standing) : Type 0 where
   pub against : is_along u ≡ false → info u ≡ with_identifier (chain (info v).segment_id (hop v).mac) (info v)
 
 -- The packet stands at the very same hop, with the same identifier, and is authentic there too.
-pub record IsSameHop (u v : Standing) : Type 0 where
+pub record IsSameHop (u v : PacketState) : Type 0 where
   pub place : v.path.place ≡ u.path.place
   pub info_is : info v ≡ info u
   pub hop_is : hop v ≡ hop u
@@ -35,14 +35,14 @@ pub record IsSameHop (u v : Standing) : Type 0 where
   pub verified : is_authentic v ≡ true
 
 -- the hop field that was accepted where the packet came, its identifier turned back, and the one by which it leaves
-abbrev pub at_entry : Network → ℕ → Underlay → ℕ → List ℕ → Standing
+abbrev pub at_entry : Network → ℕ → Underlay → ℕ → List ℕ → PacketState
 at_entry n link source moment bytes = turned_back (arrives n link source moment bytes)
 
-abbrev pub at_exit : Network → ℕ → Underlay → ℕ → List ℕ → Standing
+abbrev pub at_exit : Network → ℕ → Underlay → ℕ → List ℕ → PacketState
 at_exit n link source moment bytes = past_switch (at_entry n link source moment bytes)
 
 -- One router sends a datagram, and another one sends on what it got. So a hop field of another segment, another time or
--- another AS's chain isn't accepted behind it.
+-- another AS's chain isn't accepted after it.
 pub record NoHopIsSplicedIn : Type 0 where
   -- by a link of the one, to a link of the other, where the segment goes on
   pub over_link : (n m : Network) (link link' : ℕ) (source source' : Underlay) (moment moment' : ℕ) (bytes : List ℕ) (out out' : ℕ) (to' : Option Underlay)

@@ -6,8 +6,8 @@ use Rattle.process_packet.specs.declared.decision.Decision.{Decision}
 use Rattle.process_packet.specs.declared.decision.Decision.TheVariants as decision
 use Rattle.process_packet.specs.declared.underlay.Underlay.{Underlay}
 use Rattle.process_packet.specs.Network.{Network}
-use Rattle.process_packet.specs.Standing.{Standing, arrives}
-use Rattle.process_packet.specs.Rows.{Verdict, Sent, Answered, Dropped, Turn, GoesOn, Ends, Row, then_rows, too_long, faulty_header, faulty_path, expired, wrong_ingress, wrong_payload_length, wrong_underlay_source, wrong_source, wrong_destination, turn_back_segment_id, wrong_mac, ingress_request, delivery, switch, unknown_egress, wrong_pair, egress_request, leave}
+use Rattle.process_packet.specs.PacketState.{PacketState, arrives}
+use Rattle.process_packet.specs.Rows.{Verdict, Sent, Answered, Dropped, RowResult, GoesOn, Ends, Row, then_rows, too_long, faulty_header, faulty_path, expired, wrong_ingress, wrong_payload_length, wrong_underlay_source, wrong_source, wrong_destination, turn_back_segment_id, wrong_mac, ingress_request, delivery, switch, unknown_egress, wrong_pair, egress_request, leave}
 
 -- tried in order; the first that ends the decision decides
 abbrev pub decision_table : List Row
@@ -19,12 +19,12 @@ decision_table =
     ∷ switch ∷ unknown_egress ∷ wrong_pair ∷ egress_request ∷ leave ∷ []
 
 -- the last row always ends the decision
-abbrev pub verdict_of : Turn → Verdict
+abbrev pub verdict_of : RowResult → Verdict
 verdict_of (Ends v) = v
 verdict_of (GoesOn s) = Dropped cause.PathEnd
 
 -- what becomes of a packet that stands before these rows
-abbrev pub ends_as : Standing → List Row → Verdict
+abbrev pub ends_as : PacketState → List Row → Verdict
 ends_as s rows = verdict_of (then_rows (GoesOn s) rows)
 
 unfoldable pub verdict : Network → ℕ → Underlay → ℕ → List ℕ → Verdict

@@ -4,11 +4,11 @@ use Rattle.scion_packet.specs.Packet.{Packet}
 use Rattle.scion_packet.specs.Path.{PathFields, Place, Segment, hop_number}
 use Rattle.process_packet.specs.declared.departure.Departure.{Departure}
 use Rattle.process_packet.specs.declared.refusal.Refusal.{Refusal}
-use Rattle.process_packet.specs.declared.sight.Sight.{Sight}
+use Rattle.process_packet.specs.declared.packet_view.PacketView.{PacketView}
 use Rattle.process_packet.specs.Rows.{Verdict, Sent}
-use Rattle.process_packet.specs.Sight.{IsWhole, refused, with_id}
-use Rattle.process_packet.specs.Spot.{LiesOn}
-use Rattle.process_packet.specs.Standing.{Standing}
+use Rattle.process_packet.specs.PacketView.{IsWhole, refused, with_id}
+use Rattle.process_packet.specs.PathHop.{LiesOn}
+use Rattle.process_packet.specs.PacketState.{PacketState}
 
 -- the path as it leaves: at its new place, with the new identifiers
 abbrev pub moved_path : Departure → Place → PathFields → PathFields
@@ -28,7 +28,7 @@ pub record Departs (d : Departure) (v : Verdict) (p : Packet) : Type 0 where
   pub entered : d.entered < length p.path.segments
 
 -- The packet stands as it came, but for its place and the identifier that was turned back.
-pub record Keeps (v : Sight) (s : Standing) (p : Packet) : Type 0 where
+pub record Keeps (v : PacketView) (s : PacketState) (p : Packet) : Type 0 where
   pub header : s.header ≡ p.header
   pub payload : s.payload ≡ p.payload
   pub reserved : s.path.reserved ≡ p.path.reserved
@@ -40,13 +40,13 @@ pub record IsNumberOf (segment number : ℕ) (ss : List Segment) (at : Place) : 
   pub segment_is : segment ≡ at.segment
   pub number_is : number ≡ hop_number ss at
 
--- The sight lies on a lawful path.
-pub record IsOnPath (v : Sight) : Type 0 where
+-- The view is of a packet on a lawful path.
+pub record IsOnPath (v : PacketView) : Type 0 where
   pub segments : List Segment
   pub whole : IsWhole segments
-  pub lies : LiesOn v.spot segments
+  pub lies : LiesOn v.current segments
   pub count : v.segments ≡ length segments
 
 -- a result tells a verdict: how the packet departs, or the refusal
-abbrev pub Tells : Verdict → Packet → Result Departure Refusal → Type 0
-Tells v p result = MatchResult result (λ d. Departs d v p) (λ r. v ≡ refused r)
+abbrev pub TellsVerdict : Verdict → Packet → Result Departure Refusal → Type 0
+TellsVerdict v p result = MatchResult result (λ d. Departs d v p) (λ r. v ≡ refused r)

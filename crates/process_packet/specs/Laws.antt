@@ -10,8 +10,8 @@ use Rattle.process_packet.specs.Neighbours.{sibling_at}
 use Rattle.process_packet.specs.Network.{Network, is_local, own_link, sibling}
 use Rattle.process_packet.specs.Routed.{IsAnswer}
 use Rattle.process_packet.specs.Rows.{Sent, came_lawfully, is_destination_lawful, is_pair_lawful}
-use Rattle.process_packet.specs.Sight.{with_id}
-use Rattle.process_packet.specs.Standing.{Standing, arrives, changed_over, egress, ingress, is_authentic, is_expired, is_external, is_followed, is_last_of_path, is_last_of_segment, next_place, turned_back, is_first_of_path}
+use Rattle.process_packet.specs.PacketView.{with_id}
+use Rattle.process_packet.specs.PacketState.{PacketState, arrives, changed_over, egress, ingress, is_authentic, is_expired, is_external, is_followed, is_last_of_path, is_last_of_segment, next_place, turned_back, is_first_of_path}
 
 -- ---- what a packet had to show where it arrived
 
@@ -21,7 +21,7 @@ use Rattle.process_packet.specs.Standing.{Standing, arrives, changed_over, egres
 -- within the AS from the router that has the interface of entry. From outside it claims no source in this AS; where its path
 -- begins inside, its source is in this AS. What comes from outside is for this AS exactly at its path's last hop; what comes
 -- from inside is for another one.
-pub record IsAuthorised (s : Standing) : Type 0 where
+pub record IsAuthorised (s : PacketState) : Type 0 where
   pub short : length s.bytes ≤ 9216
   pub sound : first_fault s.bytes ≡ None
   pub unexpired : is_expired s ≡ false
@@ -36,7 +36,7 @@ pub record IsAuthorised (s : Standing) : Type 0 where
 -- ---- how it left
 
 -- It is for this AS: it came from another one, and its path ends here; it is delivered inside.
-pub record IsDelivered (s : Standing) (out : ℕ) : Type 0 where
+pub record IsDelivered (s : PacketState) (out : ℕ) : Type 0 where
   pub came_in : is_external s ≡ true
   pub is_for_us : is_local s.network s.header.destination ≡ true
   pub at_its_end : is_last_of_path s ≡ true
@@ -44,29 +44,29 @@ pub record IsDelivered (s : Standing) (out : ℕ) : Type 0 where
 
 -- It left the AS's router by the egress interface of its hop field: by this router's own link, or to the router that has
 -- the interface. The pair of links is lawful.
-pub record LeavesByItsEgress (s : Standing) (out : ℕ) (to : Option Underlay) : Type 0 where
+pub record LeavesByItsEgress (s : PacketState) (out : ℕ) (to : Option Underlay) : Type 0 where
   pub for_others : is_local s.network s.header.destination ≡ false
   pub pair : is_pair_lawful s ≡ true
   pub own : is_some (own_link s.network (egress s)) ≡ true → (out ≡ egress s) × (to ≡ None)
   pub other : is_some (own_link s.network (egress s)) ≡ false → (out ≡ 0) × (to ≡ option_map sibling_at (sibling s.network (egress s)))
 
 -- a segment ends here, and another one follows
-abbrev pub changes : Standing → Bool
+abbrev pub changes : PacketState → Bool
 changes s = is_last_of_segment s && is_followed s
 
 -- on its segment
-pub record StaysOn (s : Standing) (out : ℕ) (to : Option Underlay) : Type 0 where
+pub record StaysOn (s : PacketState) (out : ℕ) (to : Option Underlay) : Type 0 where
   pub stays : changes s ≡ false
   pub leaves : LeavesByItsEgress s out to
 
 -- or on the next one, whose first hop field was within its time and carried its MAC too
-pub record ChangesOver (s : Standing) (out : ℕ) (to : Option Underlay) : Type 0 where
+pub record ChangesOver (s : PacketState) (out : ℕ) (to : Option Underlay) : Type 0 where
   pub changes : changes s ≡ true
   pub unexpired : is_expired (changed_over s) ≡ false
   pub authentic : is_authentic (changed_over s) ≡ true
   pub leaves : LeavesByItsEgress (changed_over s) out to
 
-abbrev pub LeftLawfully : Standing → ℕ → Option Underlay → Type 0
+abbrev pub LeftLawfully : PacketState → ℕ → Option Underlay → Type 0
 LeftLawfully s out to = IsDelivered s out ⊎ (StaysOn s out to ⊎ ChangesOver s out to)
 
 -- ---- the laws, for every configuration, link, source, moment and datagram

@@ -49,7 +49,7 @@ has_link n id = id == 0 || is_some (own_link n id)
 abbrev pub is_local : Network → HostAddress → Bool
 is_local n a = a.isd == n.isd && a.autonomous_system == n.autonomous_system
 
--- what the AS behind an interface of this AS is: behind an own link, else behind a sibling's interface
+-- what the AS at the other end of an interface of this AS is: of an own link, else of a sibling's interface
 abbrev pub kind_or : Option Link → Option Sibling → Option LinkKind
 kind_or None s = option_map sibling_kind s
 kind_or (Some l) s = Some l.kind

@@ -10,7 +10,7 @@ use Rattle.process_packet.specs.declared.decision.Problem.{Problem}
 use Rattle.process_packet.specs.declared.underlay.Underlay.{Underlay}
 use Rattle.process_packet.specs.Decide.{decide}
 use Rattle.process_packet.specs.Network.{Network}
-use Rattle.process_packet.specs.Standing.{next_segment}
+use Rattle.process_packet.specs.PacketState.{next_segment}
 
 -- The twelve bytes there are this hop field of the path, whose bytes stand between the addresses and the end of the header.
 pub record PointsAtHop (bytes : List ℕ) (at : Place) (pointer : ℕ) : Type 0 where

@@ -11,7 +11,7 @@ abbrev pub request_of : Option Layer → Option (ℕ × ℕ)
 request_of None = None
 request_of (Some l) = if asks l then Some (number_at l.bytes 4 2, number_at l.bytes 6 2) else None
 
--- of the bytes behind a header that names this next header
+-- of the bytes after a header that names this next header
 abbrev pub request : ℕ → List ℕ → Option (ℕ × ℕ)
 request next_header payload = request_of (upper_layer next_header payload)
 

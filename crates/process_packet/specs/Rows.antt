@@ -14,7 +14,7 @@ use Rattle.process_packet.specs.declared.underlay.Ip.TheVariants.{V4, V6}
 use Rattle.process_packet.specs.declared.underlay.Underlay.{Underlay}
 use Rattle.process_packet.specs.Neighbours.{service_at, sibling_at}
 use Rattle.process_packet.specs.Network.{Network, own_link, sibling, service, interface_kind, is_local, is_owner, is_remote}
-use Rattle.process_packet.specs.Standing.{Standing, packet, arrival_kind, is_external, is_expired, is_authentic, is_along, ingress, egress, entry, ingress_alert, egress_alert, is_first_of_path, is_last_of_segment, is_last_of_path, is_followed, next_place, hop_pointer, info_pointer, chained, turned_back, changed_over, with_place}
+use Rattle.process_packet.specs.PacketState.{PacketState, packet, arrival_kind, is_external, is_expired, is_authentic, is_along, ingress, egress, entry, ingress_alert, egress_alert, is_first_of_path, is_last_of_segment, is_last_of_path, is_followed, next_place, hop_pointer, info_pointer, chained, turned_back, changed_over, with_place}
 use Rattle.process_packet.specs.Request.{is_request}
 
 -- what becomes of a packet; a packet that is sent stands as it leaves
@@ -23,12 +23,12 @@ pub data Verdict : Type 0 where
   Answered : Problem → Verdict
   Dropped : Cause → Verdict
 
-pub data Turn : Type 0 where
-  GoesOn : Standing → Turn
-  Ends : Verdict → Turn
+pub data RowResult : Type 0 where
+  GoesOn : PacketState → RowResult
+  Ends : Verdict → RowResult
 
 abbrev pub Row : Type 0
-Row = Standing → Turn
+Row = PacketState → RowResult
 
 -- a row that ends the decision where its test applies
 abbrev pub ends_where : Bool → Verdict → Row
@@ -36,7 +36,7 @@ ends_where true v s = Ends v
 ends_where false v s = GoesOn s
 
 -- rows in order: the first that ends the decision decides
-abbrev pub then_rows : Turn → List Row → Turn
+abbrev pub then_rows : RowResult → List Row → RowResult
 then_rows (Ends v) rows = Ends v
 then_rows (GoesOn s) [] = GoesOn s
 then_rows (GoesOn s) (r ∷ rows) = then_rows (r s) rows
@@ -89,7 +89,7 @@ wrong_payload_length s = ends_where (not (s.header.payload_length == length s.pa
 
 -- from outside by the router at the other end of the link; from inside where the path begins, or by the router that
 -- owns the interface of entry
-abbrev pub came_lawfully : Standing → Bool
+abbrev pub came_lawfully : PacketState → Bool
 came_lawfully s =
     if is_external s then is_remote (own_link s.network s.link) s.source
     else is_first_of_path s.path.place || is_owner (sibling s.network (entry s)) s.source
@@ -98,7 +98,7 @@ abbrev pub wrong_underlay_source : Row
 wrong_underlay_source s = ends_where (not (came_lawfully s)) (Dropped cause.UnderlaySource) s
 
 -- a packet from outside comes from another AS; one that begins its path inside comes from this one
-abbrev pub is_source_lawful : Standing → Bool
+abbrev pub is_source_lawful : PacketState → Bool
 is_source_lawful s =
     if is_external s then not (is_local s.network s.header.source)
     else not (is_first_of_path s.path.place) || is_local s.network s.header.source
@@ -107,7 +107,7 @@ abbrev pub wrong_source : Row
 wrong_source s = ends_where (not (is_source_lawful s)) (parameter_problem 33 20) s
 
 -- a packet from outside ends here exactly at its path's last hop; one from inside goes to another AS
-abbrev pub is_destination_lawful : Standing → Bool
+abbrev pub is_destination_lawful : PacketState → Bool
 is_destination_lawful s =
     let local = is_local s.network s.header.destination in
     if is_external s then (if is_last_of_path s then local else not local) else not local
@@ -160,7 +160,7 @@ abbrev pub known_pair : Bool → Option LinkKind → Option LinkKind → Bool
 known_pair switched from None = false
 known_pair switched from (Some to) = is_pair switched from to
 
-abbrev pub is_pair_lawful : Standing → Bool
+abbrev pub is_pair_lawful : PacketState → Bool
 is_pair_lawful s = known_pair s.switched (arrival_kind s) (interface_kind s.network (egress s))
 
 abbrev pub wrong_pair : Row
@@ -173,7 +173,7 @@ egress_request s =
     (traceroute_reply (egress s)) s
 
 -- out by an own link, at the next hop
-abbrev pub sent_out : Standing → ℕ → Verdict
+abbrev pub sent_out : PacketState → ℕ → Verdict
 sent_out s link =
     if is_last_of_path s then Dropped cause.PathEnd
     else Sent link None (packet (with_place s (next_place s.path.segments s.path.place)))

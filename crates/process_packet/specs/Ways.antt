@@ -8,16 +8,16 @@ use Rattle.process_packet.specs.Neighbours.{sibling_at}
 use Rattle.process_packet.specs.Network.{Network, own_link, sibling}
 use Rattle.process_packet.specs.Rows.{Sent, is_pair_lawful}
 use Rattle.process_packet.specs.Shown.{StandsToLeave, is_for_us, sent_along, turned}
-use Rattle.process_packet.specs.Standing.{Standing, arrives, egress, is_last_of_path, packet}
+use Rattle.process_packet.specs.PacketState.{PacketState, arrives, egress, is_last_of_path, packet}
 
 -- It is for this AS, and goes to its host as it stands.
-pub record IsDeliveredSo (s : Standing) (out : ℕ) (to : Option Underlay) (p : Packet) : Type 0 where
+pub record IsDeliveredSo (s : PacketState) (out : ℕ) (to : Option Underlay) (p : Packet) : Type 0 where
   pub for_us : is_for_us s ≡ true
   pub host : IsSentToHost s.network s.header.destination out to
   pub packet : packet (turned s) ≡ p
 
 -- It leaves by the egress interface of the hop at which it stands: a link of this router, where the path goes on.
-pub record LeavesByLink (s u : Standing) (out : ℕ) (to : Option Underlay) (p : Packet) : Type 0 where
+pub record LeavesByLink (s u : PacketState) (out : ℕ) (to : Option Underlay) (p : Packet) : Type 0 where
   pub others : is_for_us s ≡ false
   pub leaves : StandsToLeave (turned s) u
   pub pair : is_pair_lawful u ≡ true
@@ -28,7 +28,7 @@ pub record LeavesByLink (s u : Standing) (out : ℕ) (to : Option Underlay) (p :
   pub packet : sent_along u ≡ p
 
 -- Or the router that has the interface takes it over, as it stands.
-pub record LeavesBySibling (s u : Standing) (out : ℕ) (to : Option Underlay) (p : Packet) : Type 0 where
+pub record LeavesBySibling (s u : PacketState) (out : ℕ) (to : Option Underlay) (p : Packet) : Type 0 where
   pub others : is_for_us s ≡ false
   pub leaves : StandsToLeave (turned s) u
   pub pair : is_pair_lawful u ≡ true
@@ -39,10 +39,10 @@ pub record LeavesBySibling (s u : Standing) (out : ℕ) (to : Option Underlay) (
   pub address : Some at ≡ to
   pub packet : packet u ≡ p
 
-pub data IsSentBy (s : Standing) (out : ℕ) (to : Option Underlay) (p : Packet) : Type 0 where
+pub data IsSentBy (s : PacketState) (out : ℕ) (to : Option Underlay) (p : Packet) : Type 0 where
   to_host : IsDeliveredSo s out to p → IsSentBy s out to p
-  by_link : (u : Standing) → LeavesByLink s u out to p → IsSentBy s out to p
-  by_sibling : (u : Standing) → LeavesBySibling s u out to p → IsSentBy s out to p
+  by_link : (u : PacketState) → LeavesByLink s u out to p → IsSentBy s out to p
+  by_sibling : (u : PacketState) → LeavesBySibling s u out to p → IsSentBy s out to p
 
 abbrev pub SentByThreeWays : Type 0
 SentByThreeWays =

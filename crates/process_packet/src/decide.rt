@@ -1,44 +1,44 @@
 //! The decision table: its rows in the order in which they are tried, where the first that ends the decision
-//! decides. The rows stand beside, phase by phase: `front`, `arriving`, `authority`, `delivery`, `leaving`.
+//! decides. The rows stand beside, phase by phase: `parsed_headers`, `arriving`, `authority`, `delivery`, `leaving`.
 
 ghost use Rattle.std.specs.Prelude.{◌≡◌, [], ◌∷◌, None, IfOk, length};
 ghost use Rattle.scion_packet.specs.Header.{header_fault, header_of};
 ghost use Rattle.scion_packet.specs.Packet.{Packet, packet_of};
 ghost use Rattle.scion_packet.specs.Path.{path_of};
 ghost use Rattle.process_packet.specs.Decide.{decide, ends_as, moved};
-ghost use Rattle.process_packet.specs.Departure.{Keeps, Tells};
-ghost use Rattle.process_packet.specs.Front.{IsFront};
+ghost use Rattle.process_packet.specs.Departure.{Keeps, TellsVerdict};
+ghost use Rattle.process_packet.specs.ParsedHeaders.{AreHeadersOf};
 ghost use Rattle.process_packet.specs.Network.{network};
 ghost use Rattle.process_packet.specs.Rows as row;
-ghost use Rattle.process_packet.specs.Sight.{IsAlike, Says, Sees};
-ghost use Rattle.process_packet.specs.Spot.{IsMetaOf, LiesOn};
-ghost use Rattle.process_packet.specs.Standing.{Standing, arrives};
+ghost use Rattle.process_packet.specs.PacketView.{IsAlike, TellsRow, Shows};
+ghost use Rattle.process_packet.specs.PathHop.{IsMetaOf, LiesOn};
+ghost use Rattle.process_packet.specs.PacketState.{PacketState, arrives};
 
 use crate::config::Config;
 use crate::decision::Decision;
 use crate::departure::Departure;
-use crate::front::Front;
+use crate::packet_view::PacketView;
+use crate::parsed_headers::ParsedHeaders;
 use crate::refusal::Refusal;
-use crate::sight::Sight;
 use crate::underlay::Underlay;
 use path_fields::Meta;
 
-impl Front {
+impl ParsedHeaders {
     /// The rows that look at the datagram as bytes.
-    fn read(bytes: &[u8]) -> Result<Front, Refusal>
-        ensures front { IfOk result (λ f. IsFront f bytes.now) }
-        ensures says { (s : Standing) → bytes.now ≡ s.bytes
-            → Says (row.then_rows (row.GoesOn s) (row.too_long ∷ row.faulty_header ∷ row.faulty_path ∷ [])) s result }
+    fn read(bytes: &[u8]) -> Result<ParsedHeaders, Refusal>
+        ensures headers { IfOk result (λ f. AreHeadersOf f bytes.now) }
+        ensures says { (s : PacketState) → bytes.now ≡ s.bytes
+            → TellsRow (row.then_rows (row.GoesOn s) (row.too_long ∷ row.faulty_header ∷ row.faulty_path ∷ [])) s result }
     {
-        Front::too_long(bytes)?;
-        let ends = Front::faulty_header(bytes)?;
-        Front::faulty_path(ends, bytes)
+        ParsedHeaders::too_long(bytes)?;
+        let ends = ParsedHeaders::faulty_header(bytes)?;
+        ParsedHeaders::faulty_path(ends, bytes)
     }
 }
 
-impl Sight {
+impl PacketView {
     /// The rows that look at how the packet came.
-    fn comes_in(
+    fn check_arrival(
         &self,
         config: &Config,
         source: &Underlay,
@@ -48,10 +48,10 @@ impl Sight {
     ) -> Result<(), Refusal>
         requires sound { header_fault bytes.now ≡ None }
         requires meta { IsMetaOf meta.now path.now }
-        requires spot { LiesOn self.now.spot (path_of path.now).segments }
-        ensures { (s : Standing) → Sees self.now s → network config.now ≡ s.network → source.now ≡ s.source → header_of bytes.now ≡ s.header
+        requires current { LiesOn self.now.current (path_of path.now).segments }
+        ensures { (s : PacketState) → Shows self.now s → network config.now ≡ s.network → source.now ≡ s.source → header_of bytes.now ≡ s.header
             → s.path.segments ≡ (path_of path.now).segments
-            → Says (row.then_rows (row.GoesOn s) (row.expired ∷ row.wrong_ingress ∷ row.wrong_payload_length
+            → TellsRow (row.then_rows (row.GoesOn s) (row.expired ∷ row.wrong_ingress ∷ row.wrong_payload_length
             ∷ row.wrong_underlay_source ∷ row.wrong_source ∷ row.wrong_destination ∷ [])) s result }
     {
         self.expired()?;
@@ -64,17 +64,17 @@ impl Sight {
 
     /// The rows that look at what the hop field is authorised for, once its segment identifier is turned
     /// back.
-    fn is_authorised(&self, config: &Config, bytes: &[u8], payload: &[u8]) -> Result<(), Refusal>
+    fn check_authority(&self, config: &Config, bytes: &[u8], payload: &[u8]) -> Result<(), Refusal>
         requires sound { header_fault bytes.now ≡ None }
-        ensures { (s : Standing) → Sees self.now s → network config.now ≡ s.network → header_of bytes.now ≡ s.header → payload.now ≡ s.payload
-            → Says (row.then_rows (row.GoesOn s) (row.wrong_mac ∷ row.ingress_request ∷ [])) s result }
+        ensures { (s : PacketState) → Shows self.now s → network config.now ≡ s.network → header_of bytes.now ≡ s.header → payload.now ≡ s.payload
+            → TellsRow (row.then_rows (row.GoesOn s) (row.wrong_mac ∷ row.ingress_request ∷ [])) s result }
     {
         self.wrong_mac(config)?;
         self.ingress_request(bytes, payload)
     }
 
     /// The rows by which it is delivered in this AS, or leaves.
-    fn goes(
+    fn deliver_or_forward(
         &mut self,
         config: &Config,
         bytes: &[u8],
@@ -84,14 +84,14 @@ impl Sight {
     ) -> Result<Departure, Refusal>
         requires sound { header_fault bytes.now ≡ None }
         requires meta { IsMetaOf meta.now path.now }
-        requires spot { LiesOn self.old.spot (path_of path.now).segments }
+        requires current { LiesOn self.old.current (path_of path.now).segments }
         requires count { self.old.segments ≡ length (path_of path.now).segments }
-        ensures { (s : Standing) (p : Packet) → Sees self.old s → network config.now ≡ s.network → header_of bytes.now ≡ s.header → payload.now ≡ s.payload → Keeps self.old s p
+        ensures { (s : PacketState) (p : Packet) → Shows self.old s → network config.now ≡ s.network → header_of bytes.now ≡ s.header → payload.now ≡ s.payload → Keeps self.old s p
             → IsAlike s.path.place.segment (path_of path.now).segments s.path.segments
-            → Tells (ends_as s (row.delivery ∷ row.switch ∷ row.unknown_egress ∷ row.wrong_pair ∷ row.egress_request ∷ row.leave ∷ [])) p result }
+            → TellsVerdict (ends_as s (row.delivery ∷ row.switch ∷ row.unknown_egress ∷ row.wrong_pair ∷ row.egress_request ∷ row.leave ∷ [])) p result }
     {
         if let Some(to) = self.delivery(config, bytes)? {
-            return Ok(self.as_it_stands(0, Some(to)));
+            return Ok(self.unchanged(0, Some(to)));
         }
         self.switch(config, path, meta)?;
         let exit = self.unknown_egress(config)?;
@@ -101,29 +101,29 @@ impl Sight {
     }
 }
 
-/// How a datagram with a sound front departs.
+/// How a datagram with sound headers departs.
 fn depart(
     config: &Config,
     link: u16,
     source: &Underlay,
     now: u64,
-    front: &Front,
+    headers: &ParsedHeaders,
     bytes: &[u8],
 ) -> Result<Departure, Refusal>
-    requires front { IsFront front.now bytes.now }
-    ensures { Tells (ends_as (arrives (network config.now) link source.now now bytes.now)
+    requires headers { AreHeadersOf headers.now bytes.now }
+    ensures { TellsVerdict (ends_as (arrives (network config.now) link source.now now bytes.now)
         (row.expired ∷ row.wrong_ingress ∷ row.wrong_payload_length ∷ row.wrong_underlay_source ∷ row.wrong_source ∷ row.wrong_destination
         ∷ row.turn_back_segment_id ∷ row.wrong_mac ∷ row.ingress_request
         ∷ row.delivery ∷ row.switch ∷ row.unknown_egress ∷ row.wrong_pair ∷ row.egress_request ∷ row.leave ∷ []))
         (packet_of bytes.now) result }
 {
-    let path = &bytes[front.path_begin..front.path_end];
-    let payload = &bytes[front.path_end..];
-    let mut sight = Sight::arrives(front, bytes, link, now);
-    sight.comes_in(config, source, bytes, path, &front.meta)?;
-    sight.turn_back_segment_id();
-    sight.is_authorised(config, bytes, payload)?;
-    sight.goes(config, bytes, path, &front.meta, payload)
+    let path = &bytes[headers.path_begin..headers.path_end];
+    let payload = &bytes[headers.path_end..];
+    let mut view = PacketView::arrives(headers, bytes, link, now);
+    view.check_arrival(config, source, bytes, path, &headers.meta)?;
+    view.turn_back_segment_id();
+    view.check_authority(config, bytes, payload)?;
+    view.deliver_or_forward(config, bytes, path, &headers.meta, payload)
 }
 
 /// What is done with a datagram that arrived on the link (0 is the internal network) from the
@@ -141,13 +141,13 @@ pub fn route_in_place(
     ensures decision { result ≡ decide (network config.now) link source now bytes.old }
     ensures bytes { bytes.new ≡ moved (network config.now) link source now bytes.old }
 {
-    let front = match Front::read(bytes) {
-        Ok(front) => front,
+    let headers = match ParsedHeaders::read(bytes) {
+        Ok(headers) => headers,
         Err(refusal) => return refusal.decision(),
     };
-    match depart(config, link, &source, now, &front, bytes) {
+    match depart(config, link, &source, now, &headers, bytes) {
         Ok(departure) => {
-            departure.write(&mut bytes[front.path_begin..front.path_end]);
+            departure.write(&mut bytes[headers.path_begin..headers.path_end]);
             Decision::Send {
                 link: departure.link,
                 to: departure.to,

@@ -6,13 +6,13 @@ ghost use Rattle.scion_packet.specs.Packet.{Packet};
 ghost use Rattle.process_packet.specs.Network.{is_local, network};
 ghost use Rattle.process_packet.specs.Rows as row;
 ghost use Rattle.process_packet.specs.Rows.{delivered};
-ghost use Rattle.process_packet.specs.Sight.{Sees, refused};
-ghost use Rattle.process_packet.specs.Standing.{Standing, is_external, packet};
+ghost use Rattle.process_packet.specs.PacketView.{Shows, refused};
+ghost use Rattle.process_packet.specs.PacketState.{PacketState, is_external, packet};
 
 use crate::config::Config;
 use crate::decision::Problem;
+use crate::packet_view::PacketView;
 use crate::refusal::{Refusal, parameter_problem};
-use crate::sight::Sight;
 use crate::underlay::{Ip, Underlay};
 use field_rows::u16_at;
 use scion_header::{Host, destination_address};
@@ -20,7 +20,7 @@ use scion_header::{Host, destination_address};
 /// Where a packet is delivered: to its host at the end hosts' port, or to the service's address.
 fn deliver(config: &Config, bytes: &[u8]) -> Result<Underlay, Refusal>
     requires sound { header_fault bytes.now ≡ None }
-    ensures { (s : Standing) (p : Packet) → network config.now ≡ s.network → header_of bytes.now ≡ s.header → p.header ≡ s.header
+    ensures { (s : PacketState) (p : Packet) → network config.now ≡ s.network → header_of bytes.now ≡ s.header → p.header ≡ s.header
         → MatchResult result (λ to. delivered s.network p ≡ row.Sent 0 (Some to) p) (λ r. delivered s.network p ≡ refused r) }
 {
     let destination = destination_address(bytes);
@@ -45,11 +45,11 @@ fn deliver(config: &Config, bytes: &[u8]) -> Result<Underlay, Refusal>
     }
 }
 
-impl Sight {
+impl PacketView {
     /// Whether it came from outside for this AS.
     fn is_for_here(&self, config: &Config, bytes: &[u8]) -> bool
         requires sound { header_fault bytes.now ≡ None }
-        ensures { (s : Standing) → Sees self.now s → network config.now ≡ s.network → header_of bytes.now ≡ s.header
+        ensures { (s : PacketState) → Shows self.now s → network config.now ≡ s.network → header_of bytes.now ≡ s.header
             → result ≡ (is_external s && is_local s.network s.header.destination) }
     {
         self.is_external() && config.is_destination_local(bytes)
@@ -62,7 +62,7 @@ impl Sight {
         bytes: &[u8],
     ) -> Result<Option<Underlay>, Refusal>
         requires sound { header_fault bytes.now ≡ None }
-        ensures { (s : Standing) → Sees self.now s → network config.now ≡ s.network → header_of bytes.now ≡ s.header
+        ensures { (s : PacketState) → Shows self.now s → network config.now ≡ s.network → header_of bytes.now ≡ s.header
             → MatchResult result (λ o. MatchOption o (row.delivery s ≡ row.GoesOn s) (λ to. row.delivery s ≡ row.Ends (row.Sent 0 (Some to) (packet s))))
             (λ r. row.delivery s ≡ row.Ends (refused r)) }
     {

@@ -30,7 +30,7 @@ impl Departure {
     ghost use Rattle.scion_packet.specs.Lengths.{info_place};
     ghost use Rattle.scion_packet.specs.Path.{PathFields, Place, hop_number, path_text};
     ghost use Rattle.process_packet.specs.Departure.{moved_path};
-    ghost use Rattle.process_packet.specs.Sight.{with_id};
+    ghost use Rattle.process_packet.specs.PacketView.{with_id};
 
     /// Writes a segment's new identifier, if any, into the path that the bytes spell.
     fn write_id(path: &mut [u8], segment: usize, id: Option<u16>)

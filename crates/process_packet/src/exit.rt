@@ -3,13 +3,13 @@
 use crate::underlay::Underlay;
 use segment_switch::LinkKind;
 
-/// The way out of the AS by an interface, and what the AS behind it is.
+/// The way out of the AS by an interface, and what the AS at its other end is.
 #[derive(Clone, Copy, Debug, PartialEq, Eq)]
 pub(crate) enum Exit {
     /// A link of this router.
     Own(LinkKind),
     /// An interface of the router at this internal address.
-    Beyond(LinkKind, Underlay),
+    OfSibling(LinkKind, Underlay),
 }
 
 impl Exit {
@@ -21,7 +21,7 @@ impl Exit {
     {
         match self {
             Exit::Own(kind) => *kind,
-            Exit::Beyond(kind, _) => *kind,
+            Exit::OfSibling(kind, _) => *kind,
         }
     }
 
@@ -30,7 +30,7 @@ impl Exit {
     {
         match self {
             Exit::Own(_) => true,
-            Exit::Beyond(..) => false,
+            Exit::OfSibling(..) => false,
         }
     }
 }

@@ -13,17 +13,17 @@ mod decision;
 mod delivery;
 mod departure;
 mod exit;
-mod front;
 mod laws;
 mod leaving;
 mod lookup;
 mod neighbours;
 mod net;
+mod packet_view;
+mod parsed_headers;
+mod path_hop;
 mod refusal;
 mod request;
 mod routed;
-mod sight;
-mod spot;
 mod totals;
 mod underlay;
 
@@ -33,7 +33,6 @@ pub use cause::Cause;
 pub use config::Config;
 pub use decide::route_in_place;
 pub use decision::{Decision, Problem};
-pub use front::LONGEST_DATAGRAM;
 pub use laws::{
     answers_are_sound, authorised_is_sent, delivers_to_its_host, hosts_are_reached,
     next_place_is_next, no_hop_is_spliced_in, nothing_else_changes, only_authorised,
@@ -42,6 +41,7 @@ pub use laws::{
 };
 pub use neighbours::{Bands, Link, Service, Sibling};
 pub use net::{End, Net, Wire};
+pub use parsed_headers::LONGEST_DATAGRAM;
 pub use refusal::header_cause;
 pub use request::trace_request;
 pub use routed::route;

@@ -76,7 +76,7 @@ impl Config {
         match self.own_link(id) {
             Some(link) => Some(Exit::Own(link.kind)),
             None => match self.sibling(id) {
-                Some(sibling) => Some(Exit::Beyond(sibling.kind, sibling.at)),
+                Some(sibling) => Some(Exit::OfSibling(sibling.kind, sibling.at)),
                 None => None,
             },
         }

@@ -44,7 +44,7 @@ pub struct Link {
 pub struct Sibling {
     /// The number of the interface, at least 1.
     pub id: u16,
-    /// What the AS behind the interface is.
+    /// What the AS at the other end of the interface's link is.
     pub kind: LinkKind,
     /// The internal address and port of the router that owns it.
     pub at: Underlay,

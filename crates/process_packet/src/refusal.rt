@@ -20,7 +20,7 @@ pub(crate) enum Refusal {
 impl Refusal {
     ghost use Rattle.std.specs.Prelude.{◌≡◌};
     ghost use Rattle.process_packet.specs.Decide.{decision_of};
-    ghost use Rattle.process_packet.specs.Sight.{refused};
+    ghost use Rattle.process_packet.specs.PacketView.{refused};
 
     /// The decision that it is.
     pub(crate) fn decision(self) -> Decision

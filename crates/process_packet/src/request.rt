@@ -14,17 +14,17 @@ const TRACEROUTE_REQUEST: u8 = 130;
 
 const REQUEST_LEN: usize = 24;
 
-/// The identifier and the sequence number of a traceroute request, by the bytes behind the header; none
+/// The identifier and the sequence number of a traceroute request, by the bytes after the header; none
 /// where these are no such request. Its checksum isn't looked at (SCMP specification, "Traceroute
 /// Request").
 pub fn trace_request(header: &Header, bytes: &[u8]) -> Option<(u16, u16)>
     ensures { result ≡ request header.now.next_header bytes.now }
 {
-    request_behind(header.next_header, bytes)
+    request_in(header.next_header, bytes)
 }
 
 /// The same by the protocol that the header names for these bytes.
-fn request_behind(next_header: u8, bytes: &[u8]) -> Option<(u16, u16)>
+fn request_in(next_header: u8, bytes: &[u8]) -> Option<(u16, u16)>
     ensures { result ≡ request next_header bytes.now }
 {
     let place = upper_place(next_header, bytes)?;
@@ -38,11 +38,11 @@ fn request_behind(next_header: u8, bytes: &[u8]) -> Option<(u16, u16)>
     Some((u16_at(message, 4), u16_at(message, 6)))
 }
 
-/// Whether a datagram, whose header has no fault, carries such a request behind it.
+/// Whether a datagram, whose header has no fault, carries such a request after it.
 #[inline(always)]
 pub(crate) fn carries_request(bytes: &[u8], payload: &[u8]) -> bool
     requires sound { header_fault bytes.now ≡ None }
     ensures { result ≡ is_request (header_of bytes.now).next_header payload.now }
 {
-    request_behind(next_header(bytes), payload).is_some()
+    request_in(next_header(bytes), payload).is_some()
 }

@@ -9,7 +9,7 @@ use crate::cause::Cause;
 use crate::config::Config;
 use crate::decide::route_in_place;
 use crate::decision::Decision;
-use crate::front::LONGEST_DATAGRAM;
+use crate::parsed_headers::LONGEST_DATAGRAM;
 use std::alloc::Global;
 
 /// A copy of the bytes.

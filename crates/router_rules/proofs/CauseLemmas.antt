@@ -3,8 +3,8 @@ use Rattle.std.proofs.Common.{◌≡◌, ℕ, Bool, true, false, ◌&&◌, ◌==
 use Rattle.std.specs.List.{AllByRecursion}
 use Rattle.process_packet.specs.Decide.{decision_table, verdict, verdict_of}
 use Rattle.process_packet.specs.Network.{Network}
-use Rattle.process_packet.specs.Rows.{Verdict, Sent, Answered, Dropped, Turn, GoesOn, Ends, Row, cause_of, delivered, delivery, ends_where, expired, faulty, leave, sent_on, switch, then_rows, to_service, wrong_mac, wrong_pair}
-use Rattle.process_packet.specs.Standing.{Standing, arrives, changed_over, packet}
+use Rattle.process_packet.specs.Rows.{Verdict, Sent, Answered, Dropped, RowResult, GoesOn, Ends, Row, cause_of, delivered, delivery, ends_where, expired, faulty, leave, sent_on, switch, then_rows, to_service, wrong_mac, wrong_pair}
+use Rattle.process_packet.specs.PacketState.{PacketState, arrives, changed_over, packet}
 use Rattle.process_packet.specs.declared.cause.Cause.{Cause}
 use Rattle.process_packet.specs.declared.decision.Problem.{Problem}
 use Rattle.process_packet.specs.declared.underlay.Underlay.{Underlay}
@@ -21,22 +21,22 @@ has_own_cause (Dropped why) = is_decided why
 pub record IsRuled (v : Verdict) : Type 0 where
   pub is : has_own_cause v ≡ true
 
-abbrev AreRuled : Turn → Type 0
+abbrev AreRuled : RowResult → Type 0
 AreRuled (GoesOn s) = Unit {0}
 AreRuled (Ends v) = IsRuled v
 
-record IsRuledTurn (t : Turn) : Type 0 where
+record IsRuledTurn (t : RowResult) : Type 0 where
   is : AreRuled t
 
 abbrev IsRuledRow : Row → Type 0
-IsRuledRow r = (s : Standing) → IsRuledTurn (r s)
+IsRuledRow r = (s : PacketState) → IsRuledTurn (r s)
 
-all_ruled : (t : Turn) (rows : List Row) → IsRuledTurn t → AllByRecursion IsRuledRow rows → IsRuledTurn (then_rows t rows)
+all_ruled : (t : RowResult) (rows : List Row) → IsRuledTurn t → AllByRecursion IsRuledRow rows → IsRuledTurn (then_rows t rows)
 all_ruled (Ends v) rows h all = h
 all_ruled (GoesOn s) [] h all = h
 all_ruled (GoesOn s) (r ∷ rows) h all = all_ruled (r s) rows (all.0 s) all.1
 
-verdict_ruled : (t : Turn) → IsRuledTurn t → IsRuled (verdict_of t)
+verdict_ruled : (t : RowResult) → IsRuledTurn t → IsRuled (verdict_of t)
 verdict_ruled (Ends v) h = h.is
 verdict_ruled (GoesOn s) h = record { is = refl }
 
@@ -51,7 +51,7 @@ answered problem = record { is = refl }
 dropped : (why : Cause) → is_decided why ≡ true → IsRuled (Dropped why)
 dropped why h = record { is = h }
 
-goes_on : (s : Standing) → IsRuledTurn (GoesOn s)
+goes_on : (s : PacketState) → IsRuledTurn (GoesOn s)
 goes_on s = record { is = tt }
 
 ends : (v : Verdict) → IsRuled v → IsRuledTurn (Ends v)
@@ -61,11 +61,11 @@ either : (b : Bool) (v w : Verdict) → IsRuled v → IsRuled w → IsRuled (if 
 either true v w h k = h
 either false v w h k = k
 
-either_turn : (b : Bool) (t u : Turn) → IsRuledTurn t → IsRuledTurn u → IsRuledTurn (if b then t else u)
+either_turn : (b : Bool) (t u : RowResult) → IsRuledTurn t → IsRuledTurn u → IsRuledTurn (if b then t else u)
 either_turn true t u h k = h
 either_turn false t u h k = k
 
-test_ruled : (b : Bool) (v : Verdict) (s : Standing) → IsRuled v → IsRuledTurn (ends_where b v s)
+test_ruled : (b : Bool) (v : Verdict) (s : PacketState) → IsRuled v → IsRuledTurn (ends_where b v s)
 test_ruled true v s h = ends v h
 test_ruled false v s h = goes_on s
 
@@ -77,7 +77,7 @@ fault_ruled WrongLength = refl
 fault_ruled WrongPath = refl
 fault_ruled PeeringSegment = refl
 
-faulty_ruled : (f : Option Fault) (s : Standing) → IsRuledTurn (faulty f s)
+faulty_ruled : (f : Option Fault) (s : PacketState) → IsRuledTurn (faulty f s)
 faulty_ruled None s = goes_on s
 faulty_ruled (Some f) s = ends _ (dropped (cause_of f) (fault_ruled f))
 
@@ -91,30 +91,30 @@ delivered_ruled n p =
     either (host.kind == 0 && host_code host == 0) _ _ (sent _ _ _)
     (either (host.kind == 0 && host_code host == 3) _ _ (sent _ _ _) (either (host.kind == 1 && host_code host == 0) _ _ (service_ruled p _) (answered _)))
 
-switch_ruled : (s : Standing) → IsRuledTurn (switch s)
+switch_ruled : (s : PacketState) → IsRuledTurn (switch s)
 switch_ruled s =
     either_turn _ _ _
     (all_ruled (GoesOn (changed_over s)) (expired ∷ wrong_mac ∷ []) (goes_on _) ((λ t. test_ruled _ _ t (answered _)), ((λ t. test_ruled _ _ t (answered _)), tt)))
     (goes_on s)
 
-wrong_pair_ruled : (s : Standing) → IsRuledTurn (wrong_pair s)
+wrong_pair_ruled : (s : PacketState) → IsRuledTurn (wrong_pair s)
 wrong_pair_ruled s = test_ruled _ _ s (either _ _ _ (answered _) (answered _))
 
 on_ruled : (p : Packet) (at : Option Underlay) → IsRuled (sent_on p at)
 on_ruled p None = dropped _ refl
 on_ruled p (Some at) = sent _ _ _
 
-leave_ruled : (s : Standing) → IsRuledTurn (leave s)
+leave_ruled : (s : PacketState) → IsRuledTurn (leave s)
 leave_ruled s = either_turn _ _ _ (ends _ (either _ _ _ (dropped _ refl) (sent _ _ _))) (ends _ (on_ruled (packet s) _))
 
 -- a row that answers or drops where its test applies
-asks : (b : Standing → Bool) (q : Standing → Problem) → IsRuledRow (λ s. ends_where (b s) (Answered (q s)) s)
+asks : (b : PacketState → Bool) (q : PacketState → Problem) → IsRuledRow (λ s. ends_where (b s) (Answered (q s)) s)
 asks b q s = test_ruled (b s) _ s (answered (q s))
 
-drops : (b : Standing → Bool) (why : Cause) → is_decided why ≡ true → IsRuledRow (λ s. ends_where (b s) (Dropped why) s)
+drops : (b : PacketState → Bool) (why : Cause) → is_decided why ≡ true → IsRuledRow (λ s. ends_where (b s) (Dropped why) s)
 drops b why h s = test_ruled (b s) _ s (dropped why h)
 
-delivery_ruled : (s : Standing) → IsRuledTurn (delivery s)
+delivery_ruled : (s : PacketState) → IsRuledTurn (delivery s)
 delivery_ruled s = test_ruled _ _ s (delivered_ruled s.network (packet s))
 
 table_ruled : AllByRecursion IsRuledRow decision_table

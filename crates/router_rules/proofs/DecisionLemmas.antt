@@ -10,7 +10,7 @@ use Rattle.process_packet.specs.Decide.{decision_of, decision_table, moved_by, v
 use Rattle.process_packet.specs.Laws.{LeavesByItsEgress, LeftLawfully, NothingElseChanges, OnlyLawfulWays}
 use Rattle.process_packet.specs.Network.{Network, has_link, network, own_link}
 use Rattle.process_packet.specs.Rows.{Verdict, Sent, Answered, Dropped, cause_of, ends_where, faulty, then_rows}
-use Rattle.process_packet.specs.Standing.{Standing, arrives, chained, egress, is_along, is_external, turned_back}
+use Rattle.process_packet.specs.PacketState.{PacketState, arrives, chained, egress, is_along, is_external, turned_back}
 use Rattle.process_packet.specs.declared.cause.Cause.{Cause}
 use Rattle.process_packet.specs.declared.cause.Cause.TheVariants as cause
 use Rattle.process_packet.specs.declared.config.Config.{Config}
@@ -104,7 +104,7 @@ sent_by c d (Sent out to p) l y v is =
     record { out = out; to = to; packet = p; is = v; link = link; text = ap (λ (z : Parcel). z.bytes) parcel }
 
 -- it leaves by a link of the router
-turned_network : (b : Bool) (s : Standing) → (if b then chained s else s).network ≡ s.network
+turned_network : (b : Bool) (s : PacketState) → (if b then chained s else s).network ≡ s.network
 turned_network true s = refl
 turned_network false s = refl
 
@@ -114,14 +114,14 @@ own_has_link n out own = or_right _ _ own
 internal_has_link : (n : Network) (out : ℕ) → out ≡ 0 → has_link n out ≡ true
 internal_has_link n out is = or_left _ _ (eq-eqb out 0 is)
 
-by_egress : (s : Standing) (out : ℕ) (to : Option Underlay) → LeavesByItsEgress s out to → has_link s.network out ≡ true
+by_egress : (s : PacketState) (out : ℕ) (to : Option Underlay) → LeavesByItsEgress s out to → has_link s.network out ≡ true
 by_egress s out to leaves =
     elim (cases_Bool (is_some (own_link s.network (egress s)))) [
       | inl own ↦ let e : out ≡ egress s = (leaves.own own).0 in own_has_link s.network out (ap (λ (id : ℕ). is_some (own_link s.network id)) e ∙ own)
       | inr other ↦ internal_has_link s.network out (leaves.other other).0
     ]
 
-by_lawful_way : (s : Standing) (out : ℕ) (to : Option Underlay) → LeftLawfully s out to → has_link s.network out ≡ true
+by_lawful_way : (s : PacketState) (out : ℕ) (to : Option Underlay) → LeftLawfully s out to → has_link s.network out ≡ true
 by_lawful_way s out to (inl delivered) = internal_has_link s.network out delivered.inside
 by_lawful_way s out to (inr (inl stays)) = by_egress s out to stays.leaves
 by_lawful_way s out to (inr (inr changes)) = by_egress _ out to changes.leaves
@@ -129,7 +129,7 @@ by_lawful_way s out to (inr (inr changes)) = by_egress _ out to changes.leaves
 pub leaves_by_link : OnlyLawfulWays → (c : Config) (d : Datagram) (l : ℕ) (y : Parcel) → decided c d ≡ Sends l y → (out : ℕ) × (l ≡ link_index c out) × (has_link (network c) out ≡ true)
 leaves_by_link only c d l y is =
     let sent : IsSent c d l y = sent_by c d (verdict_on c d) l y refl is in
-    let s : Standing = arrives (network c) d.interface d.source d.moment d.bytes in
+    let s : PacketState = arrives (network c) d.interface d.source d.moment d.bytes in
     let way = by_lawful_way (turned_back s) sent.out sent.to (only (network c) d.interface d.source d.moment d.bytes sent.out sent.to sent.packet sent.is) in
     let same : (turned_back s).network ≡ network c = turned_network (is_external s && not (is_along s)) s in
     (sent.out, sent.link, subst (λ (n : Network). has_link n sent.out ≡ true) same way)

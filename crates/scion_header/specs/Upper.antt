@@ -5,7 +5,7 @@ use Rattle.scion_header.specs.declared.upper.Upper.{Upper}
 use Rattle.scion_header.specs.declared.upper.Upper.TheVariants.{Scmp, Other, Cut}
 use Rattle.scion_header.specs.declared.upper.UpperPlace.{UpperPlace}
 
--- the layer at a place of the bytes behind the header
+-- the layer at a place of the bytes after the header
 abbrev pub layer_at : List ℕ → UpperPlace → Layer
 layer_at bytes place = layer place.protocol (drop place.at bytes)
 

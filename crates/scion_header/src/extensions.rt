@@ -1,7 +1,7 @@
 //! The way over the extension headers to the upper layer.
 
 ghost use Rattle.std.specs.Prelude.{◌≡◌, ◌≤◌, length, option_map, IfSome};
-ghost use Rattle.scion_packet.specs.Extensions.{behind, upper_layer};
+ghost use Rattle.scion_packet.specs.Extensions.{skip_extension, upper_layer};
 ghost use Rattle.scion_header.specs.Upper.{layer_at, upper_of};
 
 use crate::header::Header;
@@ -14,11 +14,11 @@ const END_TO_END: u8 = 201;
 
 const SCMP: u8 = 202;
 
-/// The place behind an extension of this kind, if one begins at the place, and else the place itself.
+/// The place after an extension of this kind, if one begins at the place, and else the place itself.
 /// There is none where the extension isn't wholly there.
-fn behind(kind: u8, place: UpperPlace, bytes: &[u8]) -> Option<UpperPlace>
+fn skip_extension(kind: u8, place: UpperPlace, bytes: &[u8]) -> Option<UpperPlace>
     requires inside { place.at ≤ length bytes.now }
-    ensures layer { option_map (layer_at bytes.now) result ≡ behind kind (layer_at bytes.now place) }
+    ensures layer { option_map (layer_at bytes.now) result ≡ skip_extension kind (layer_at bytes.now place) }
     ensures inside { IfSome result (λ p. p.at ≤ length bytes.now) }
 {
     if place.protocol != kind {
@@ -38,7 +38,7 @@ fn behind(kind: u8, place: UpperPlace, bytes: &[u8]) -> Option<UpperPlace>
     })
 }
 
-/// Where the upper layer begins in the bytes behind the header, whose first ones are of the protocol
+/// Where the upper layer begins in the bytes after the header, whose first ones are of the protocol
 /// `next_header`: at most one hop-by-hop extension is passed over, and then at most one end-to-end
 /// extension. There is none where one of these isn't wholly there
 /// (draft-dekater-scion-dataplane, "Extension Headers").
@@ -50,11 +50,11 @@ pub fn upper_place(next_header: u8, bytes: &[u8]) -> Option<UpperPlace>
         protocol: next_header,
         at: 0,
     };
-    let second = behind(HOP_BY_HOP, first, bytes)?;
-    behind(END_TO_END, second, bytes)
+    let second = skip_extension(HOP_BY_HOP, first, bytes)?;
+    skip_extension(END_TO_END, second, bytes)
 }
 
-/// What the upper layer of a packet is, by the bytes behind its header.
+/// What the upper layer of a packet is, by the bytes after its header.
 pub fn upper_layer(header: &Header, bytes: &[u8]) -> Upper
     ensures { result ≡ upper_of (upper_layer header.now.next_header bytes.now) }
 {

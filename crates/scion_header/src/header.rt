@@ -35,7 +35,7 @@ impl Header {
     ghost use Rattle.scion_packet.specs.Header.{front_len};
     ghost use Rattle.scion_header.specs.Header.{header_fields};
 
-    /// How many bytes the common header and the address header have: the path begins behind them.
+    /// How many bytes the common header and the address header have: the path begins after them.
     pub fn front_len(&self) -> usize
         ensures { result ≡ front_len (header_fields self.now) }
     {

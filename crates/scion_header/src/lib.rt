@@ -30,7 +30,7 @@ pub use fields::{
 };
 pub use header::Header;
 pub use host::Host;
-pub use laws::lawful;
+pub use laws::header_is_lawful;
 pub use reading::{check_header, read_header};
 pub use upper::{Upper, UpperPlace};
 pub use writing::write_header;

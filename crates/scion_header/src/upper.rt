@@ -1,4 +1,4 @@
-//! What stands behind the extension headers of a packet.
+//! What stands after the extension headers of a packet.
 
 /// What a router tells apart of the upper layer.
 #[derive(Clone, Copy, Debug, PartialEq, Eq)]

@@ -50,9 +50,9 @@ first_byte bytes at text stands some =
 pub number_back : (bytes : List ℕ) (at n x : ℕ) (rest : List ℕ) → x < 256 ^ n → StandsAt bytes at (big_bytes n x ++ rest) → number_at bytes at n ≡ x
 number_back bytes at n x rest below stands = number_of_bytes bytes at n x below (StandsAt-front bytes at (big_bytes n x) rest stands)
 
--- what stands behind a text of known length
-pub behind : (bytes : List ℕ) (at n : ℕ) (a b : List ℕ) → StandsAt bytes at (a ++ b) → at + length a ≡ n → StandsAt bytes n b
-behind bytes at n a b stands place = subst (λ (k : ℕ). StandsAt bytes k b) place (StandsAt-back bytes at a b stands)
+-- what stands after a text of known length
+pub stands_after : (bytes : List ℕ) (at n : ℕ) (a b : List ℕ) → StandsAt bytes at (a ++ b) → at + length a ≡ n → StandsAt bytes n b
+stands_after bytes at n a b stands place = subst (λ (k : ℕ). StandsAt bytes k b) place (StandsAt-back bytes at a b stands)
 
 -- ---- an info field
 
@@ -102,8 +102,8 @@ info_back path at i spelled =
     let along : (slice_index path at % 2 == 1) ≡ i.along = flag_of i.along (slice_index path at % 2) (omega arith) in
     let reserved : slice_index path (at + 1) ≡ i.reserved = omega arith in
     let front = row (field 6 i.reserved_flags ∷ field 1 0 ∷ field 1 (bit i.along) ∷ []) ++ row (field 8 i.reserved ∷ []) in
-    let from2 : StandsAt path (at + 2) (row (field 16 i.segment_id ∷ []) ++ (row (field 32 i.timestamp ∷ []) ++ [])) = behind path at (at + 2) front _ stands refl in
-    let from4 : StandsAt path (at + 4) (row (field 32 i.timestamp ∷ []) ++ []) = behind path (at + 2) (at + 4) (row (field 16 i.segment_id ∷ [])) _ from2 (omega arith) in
+    let from2 : StandsAt path (at + 2) (row (field 16 i.segment_id ∷ []) ++ (row (field 32 i.timestamp ∷ []) ++ [])) = stands_after path at (at + 2) front _ stands refl in
+    let from4 : StandsAt path (at + 4) (row (field 32 i.timestamp ∷ []) ++ []) = stands_after path (at + 2) (at + 4) (row (field 16 i.segment_id ∷ [])) _ from2 (omega arith) in
     let id : number_at path (at + 2) 2 ≡ i.segment_id = number_back path (at + 2) 2 i.segment_id _ spelled.fits.1.1.0.0 from2 in
     let time : number_at path (at + 4) 4 ≡ i.timestamp = number_back path (at + 4) 4 i.timestamp _ spelled.fits.1.1.1.0.0 from4 in
     same_info (info_at path at) i flags along reserved id time
@@ -176,9 +176,9 @@ hop_back path at h spelled =
     let egress : (slice_index path at % 2 == 1) ≡ h.egress_alert = flag_of h.egress_alert (slice_index path at % 2) (omega arith) in
     let expiry : slice_index path (at + 1) ≡ h.expiry = omega arith in
     let front = row (field 6 h.reserved_flags ∷ field 1 (bit h.ingress_alert) ∷ field 1 (bit h.egress_alert) ∷ []) ++ row (field 8 h.expiry ∷ []) in
-    let from2 : StandsAt path (at + 2) (big_bytes 2 h.construction_ingress ++ (big_bytes 2 h.construction_egress ++ h.mac)) = behind path at (at + 2) front _ stands refl in
-    let from4 : StandsAt path (at + 4) (big_bytes 2 h.construction_egress ++ h.mac) = behind path (at + 2) (at + 4) (big_bytes 2 h.construction_ingress) _ from2 (omega arith) in
-    let from6 : StandsAt path (at + 6) h.mac = behind path (at + 4) (at + 6) (big_bytes 2 h.construction_egress) _ from4 (omega arith) in
+    let from2 : StandsAt path (at + 2) (big_bytes 2 h.construction_ingress ++ (big_bytes 2 h.construction_egress ++ h.mac)) = stands_after path at (at + 2) front _ stands refl in
+    let from4 : StandsAt path (at + 4) (big_bytes 2 h.construction_egress ++ h.mac) = stands_after path (at + 2) (at + 4) (big_bytes 2 h.construction_ingress) _ from2 (omega arith) in
+    let from6 : StandsAt path (at + 6) h.mac = stands_after path (at + 4) (at + 6) (big_bytes 2 h.construction_egress) _ from4 (omega arith) in
     let in-is : number_at path (at + 2) 2 ≡ h.construction_ingress = number_back path (at + 2) 2 h.construction_ingress _ fits.1.1.0.0 from2 in
     let out-is : number_at path (at + 4) 2 ≡ h.construction_egress = number_back path (at + 4) 2 h.construction_egress _ fits.1.1.1.0.0 from4 in
     let mac : text_at path (at + 6) 6 ≡ h.mac = ap (λ (n : ℕ). take n (drop (at + 6) path)) (sym spelled.lawful.mac_len) ∙ from6.read in

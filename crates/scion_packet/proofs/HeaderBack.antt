@@ -6,10 +6,10 @@ use Rattle.field_rows.specs.Place.{StandsAt, number_at, text_at}
 use Rattle.field_rows.proofs.Rows.{StandsAt-front}
 use Rattle.field_rows.proofs.Unique.{byte_of}
 use Rattle.scion_packet.specs.Header.{HeaderFields, HostAddress, IsAddress, SpellsHeader, address_of, common_table, domain_table, front_end, front_len, header_end, header_fault, header_of, header_tests, host_code, host_kinds, host_len}
-use Rattle.scion_packet.proofs.Fields.{behind, number_back}
+use Rattle.scion_packet.proofs.Fields.{stands_after, number_back}
 use Rattle.scion_packet.proofs.Tests.{none_fails}
 
--- What the places of the common header and the texts behind it hold.
+-- What the places of the common header and the texts after it hold.
 record HeaderRead (bytes : List ℕ) (h : HeaderFields) : Type 0 where
   word : number_at bytes 0 4 ≡ 0 * 268435456 + (h.traffic_class * 1048576 + h.flow_id)
   version : slice_index bytes 0 / 16 ≡ 0
@@ -55,8 +55,8 @@ common_read bytes h spells =
     let r5 = row (field 2 h.destination.kind ∷ field 2 (host_code h.destination) ∷ field 2 h.source.kind ∷ field 2 (host_code h.source) ∷ []) in
     let r6 = row (field 16 h.reserved ∷ []) in
     let front6 : List ℕ = r0 ++ (r1 ++ r2) in
-    let from6 : StandsAt bytes 6 (r3 ++ (r4 ++ (r5 ++ (r6 ++ [])))) = behind bytes 0 6 front6 (r3 ++ (r4 ++ (r5 ++ (r6 ++ [])))) stands refl in
-    let from10 : StandsAt bytes 10 (r6 ++ []) = behind bytes 6 10 (r3 ++ (r4 ++ r5)) (r6 ++ []) from6 refl in
+    let from6 : StandsAt bytes 6 (r3 ++ (r4 ++ (r5 ++ (r6 ++ [])))) = stands_after bytes 0 6 front6 (r3 ++ (r4 ++ (r5 ++ (r6 ++ [])))) stands refl in
+    let from10 : StandsAt bytes 10 (r6 ++ []) = stands_after bytes 6 10 (r3 ++ (r4 ++ r5)) (r6 ++ []) from6 refl in
     record {
       word = number_back bytes 0 4 (0 * 268435456 + (h.traffic_class * 1048576 + h.flow_id)) (r1 ++ (r2 ++ (r3 ++ (r4 ++ (r5 ++ (r6 ++ [])))))) (omega arith) stands;
       version = omega arith;
@@ -112,7 +112,7 @@ address_read : (bytes : List ℕ) (a : HostAddress) (domain host bits : ℕ) (re
 address_read bytes a domain host bits rest lawful stands host-stands kind-is code-is =
     let r0 = row (field 16 a.isd ∷ []) in
     let r1 = row (field 48 a.autonomous_system ∷ []) in
-    let from2 : StandsAt bytes (domain + 2) (r1 ++ rest) = behind bytes domain (domain + 2) r0 (r1 ++ rest) stands refl in
+    let from2 : StandsAt bytes (domain + 2) (r1 ++ rest) = stands_after bytes domain (domain + 2) r0 (r1 ++ rest) stands refl in
     let isd : number_at bytes domain 2 ≡ a.isd = number_back bytes domain 2 a.isd (r1 ++ rest) lawful.0.0.0 stands in
     let as_number : number_at bytes (domain + 2) 6 ≡ a.autonomous_system = number_back bytes (domain + 2) 6 a.autonomous_system rest lawful.0.1.0.0 from2 in
     let len : length a.host ≡ host_len (bits % 4) = omega (arith, lawful.1, code-is) in
@@ -130,10 +130,10 @@ header_only bytes h spells =
     let dh = h.destination.host in
     let sh = h.source.host in
     let place = 28 + host_len (b / 16 % 4) in
-    let from12 : StandsAt bytes 12 (d ++ (s ++ (dh ++ sh))) = behind bytes 0 12 common _ spells.front refl in
-    let from20 : StandsAt bytes 20 (s ++ (dh ++ sh)) = behind bytes 12 20 d _ from12 refl in
-    let from28 : StandsAt bytes 28 (dh ++ sh) = behind bytes 20 28 s _ from20 refl in
-    let last : StandsAt bytes place sh = behind bytes 28 place dh sh from28 (omega (arith, lawful.destination.1, read.destination_code)) in
+    let from12 : StandsAt bytes 12 (d ++ (s ++ (dh ++ sh))) = stands_after bytes 0 12 common _ spells.front refl in
+    let from20 : StandsAt bytes 20 (s ++ (dh ++ sh)) = stands_after bytes 12 20 d _ from12 refl in
+    let from28 : StandsAt bytes 28 (dh ++ sh) = stands_after bytes 20 28 s _ from20 refl in
+    let last : StandsAt bytes place sh = stands_after bytes 28 place dh sh from28 (omega (arith, lawful.destination.1, read.destination_code)) in
     let w-class : h.traffic_class ≡ number_at bytes 0 4 / 2 ^ 20 % 2 ^ 8 = omega (arith, read.word, read.class_fits, read.flow_fits) in
     let w-flow : h.flow_id ≡ number_at bytes 0 4 % 2 ^ 20 = omega (arith, read.word, read.class_fits, read.flow_fits) in
     let sk : b % 16 / 4 ≡ h.source.kind = omega (arith, read.source_kind) in

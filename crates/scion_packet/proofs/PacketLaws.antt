@@ -96,12 +96,12 @@ packet_parts bytes p spells =
     let ends = front_is bytes p.header header in
     let f : front_end bytes ≡ length front = ends.0 ∙ sym front-len in
     let n : header_end bytes - front_end bytes ≡ length path = omega (arith, ends.0, ends.1, lawful.whole) in
-    let behind-front : drop (length front) bytes ≡ path ++ p.payload = ap (λ (t : List ℕ). drop (length front) t) spells.text ∙ drop_at front (path ++ p.payload) (length front) refl in
+    let after-front : drop (length front) bytes ≡ path ++ p.payload = ap (λ (t : List ℕ). drop (length front) t) spells.text ∙ drop_at front (path ++ p.payload) (length front) refl in
     let path-is : path_bytes bytes ≡ path =
-    ap₂ (λ (m k : ℕ). take m (drop k bytes)) n f ∙ ap (λ (t : List ℕ). take (length path) t) behind-front ∙ take_at path p.payload (length path) refl in
+    ap₂ (λ (m k : ℕ). take m (drop k bytes)) n f ∙ ap (λ (t : List ℕ). take (length path) t) after-front ∙ take_at path p.payload (length path) refl in
     let e : header_end bytes ≡ length front + length path = omega (arith, ends.1, lawful.whole, front-len) in
     let payload : drop (header_end bytes) bytes ≡ p.payload =
-    ap (λ (k : ℕ). drop k bytes) e ∙ sym (drop-drop (length path) (length front) bytes) ∙ ap (λ (t : List ℕ). drop (length path) t) behind-front ∙ drop_at path p.payload (length path) refl in
+    ap (λ (k : ℕ). drop k bytes) e ∙ sym (drop-drop (length path) (length front) bytes) ∙ ap (λ (t : List ℕ). drop (length path) t) after-front ∙ drop_at path p.payload (length path) refl in
     record { header = header; path = record { lawful = lawful.path; text = path-is }; payload = payload }
 
 pub packet_passes : (bytes : List ℕ) (p : Packet) → Spells bytes p → first_fault bytes ≡ None

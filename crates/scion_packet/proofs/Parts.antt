@@ -29,7 +29,7 @@ path_lies bytes h are none is =
 pub path_between : (bytes : List ℕ) (begin end : ℕ) → begin ≡ front_end bytes → end ≡ header_end bytes → text_at bytes begin (end - begin) ≡ path_bytes bytes
 path_between bytes begin end begin-is end-is = ap₂ (λ (b e : ℕ). text_at bytes b (e - b)) begin-is end-is
 
--- what stands behind a place
+-- what stands after a place
 pub rest_of : (bytes : List ℕ) (end other : ℕ) → end ≡ other → take (length bytes - end) (drop end bytes) ≡ drop other bytes
 rest_of bytes end other same =
     take_all (length bytes - end) (drop end bytes) (omega (arith, length-drop end bytes)) ∙ ap (λ (e : ℕ). drop e bytes) same

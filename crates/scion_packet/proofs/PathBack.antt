@@ -8,10 +8,10 @@ use Rattle.field_rows.specs.Place.{StandsAt}
 use Rattle.field_rows.proofs.Rows.{StandsAt-front}
 use Rattle.scion_packet.specs.Lengths.{are_lengths, first_hop, hop_count, segment_count, segment_of}
 use Rattle.scion_packet.specs.Path.{HopField, InfoField, IsSegment, PathFields, Segment, SpellsPath, count_hops, current_hop, current_info, hop_number, hop_text, hops_in, hops_text, info_at, infos_text, lengths_of, meta_table, no_peering, path_fault, path_of, path_tests, path_text, place_at, segments_at}
-use Rattle.scion_packet.proofs.Fields.{behind}
+use Rattle.scion_packet.proofs.Fields.{stands_after}
 use Rattle.scion_packet.proofs.Meta.{MetaRead, meta_back}
 use Rattle.scion_packet.proofs.PathSpelled.{same_three, segs}
-use Rattle.scion_packet.proofs.Runs.{count_more_hops, hops_len, info_of, infos_behind, infos_clear, infos_len, run, run_back, run_len, seg}
+use Rattle.scion_packet.proofs.Runs.{count_more_hops, hops_len, info_of, infos_after, infos_clear, infos_len, run, run_back, run_len, seg}
 use Rattle.scion_packet.proofs.Sizes.{Sized, sizes, sizes_are}
 use Rattle.scion_packet.proofs.Tests.{none_fails}
 
@@ -57,7 +57,7 @@ parts_of path p spells =
     let infos-len = infos_len ss in
     let hops-len = hops_len ss lawful.segments in
     let stands : StandsAt path 0 (meta ++ (infos ++ hops)) = whole_stands path (path_text p) spells.text in
-    let from4 : StandsAt path 4 (infos ++ hops) = behind path 0 4 meta (infos ++ hops) stands refl in
+    let from4 : StandsAt path 4 (infos ++ hops) = stands_after path 0 4 meta (infos ++ hops) stands refl in
     let fits = lawful.meta in
     let read : MetaRead path p.place.segment (hop_number ss p.place) p.reserved (hops_in ss 0) (hops_in ss 1) (hops_in ss 2) =
     meta_back path p.place.segment (hop_number ss p.place) p.reserved (hops_in ss 0) (hops_in ss 1) (hops_in ss 2)
@@ -66,7 +66,7 @@ parts_of path p spells =
       sized = sizes_are ss lawful.some lawful.few lawful.segments;
       there = has_segment ss p.place.segment (omega (arith, lawful.inside));
       infos = StandsAt-front path 4 infos hops from4;
-      hops = behind path 4 (4 + 8 * length ss) infos hops from4 (omega (arith, infos-len));
+      hops = stands_after path 4 (4 + 8 * length ss) infos hops from4 (omega (arith, infos-len));
       read = read;
       lengths = same_three _ _ _ _ _ _ read.first_is read.second_is read.third_is;
       whole = omega (arith, ap length spells.text, length-append meta (infos ++ hops), length-append infos hops, infos-len, hops-len);
@@ -112,11 +112,11 @@ hops_of : (path : List ℕ) (base a : ℕ) (s : Segment) (rest : List ℕ) → I
 hops_of path base a s rest lawful stands =
     run_back path base a s.hops (record { text = StandsAt-front path (base + 12 * a) (flat_map hop_text s.hops) rest stands; lawful = lawful.hops })
 
--- the hop fields behind those of a segment
-hops_behind : (path : List ℕ) (base a : ℕ) (s : Segment) (rest : List ℕ) → IsSegment s → StandsAt path (base + 12 * a) (flat_map hop_text s.hops ++ rest)
+-- the hop fields after those of a segment
+hops_after : (path : List ℕ) (base a : ℕ) (s : Segment) (rest : List ℕ) → IsSegment s → StandsAt path (base + 12 * a) (flat_map hop_text s.hops ++ rest)
     → StandsAt path (base + 12 * (a + length s.hops)) rest
-hops_behind path base a s rest lawful stands =
-    behind path (base + 12 * a) (base + 12 * (a + length s.hops)) (flat_map hop_text s.hops) rest stands (omega (arith, run_len s.hops lawful.hops))
+hops_after path base a s rest lawful stands =
+    stands_after path (base + 12 * a) (base + 12 * (a + length s.hops)) (flat_map hop_text s.hops) rest stands (omega (arith, run_len s.hops lawful.hops))
 
 to_zero : (path : List ℕ) (base : ℕ) (text : List ℕ) → StandsAt path base text → StandsAt path (base + 12 * 0) text
 to_zero path base text stands = let same : base ≡ base + 12 * 0 = omega arith in subst (λ (n : ℕ). StandsAt path n text) same stands
@@ -134,18 +134,18 @@ segments_back path (s ∷ []) some few all infos hops =
 segments_back path (s ∷ t ∷ []) some few all infos hops =
     let lengths = sizes (s ∷ t ∷ []) in
     let h0 = to_zero path 20 (hops_text (s ∷ t ∷ [])) hops in
-    let h1 = from_first path 20 (length s.hops) (hops_text (t ∷ [])) (hops_behind path 20 0 s (hops_text (t ∷ [])) all.0 h0) in
-    let i1 = infos_behind path 0 (t ∷ []) s infos in
+    let h1 = from_first path 20 (length s.hops) (hops_text (t ∷ [])) (hops_after path 20 0 s (hops_text (t ∷ [])) all.0 h0) in
+    let i1 = infos_after path 0 (t ∷ []) s infos in
     let s0 : seg path 20 lengths 0 ≡ s = seg_back path 20 lengths 0 s (info_of path 0 (t ∷ []) s all infos) (hops_of path 20 0 s (hops_text (t ∷ [])) all.0 h0) in
     let s1 : seg path 20 lengths 1 ≡ t = seg_back path 20 lengths 1 t (info_of path 1 [] t all.1 i1) (hops_of path 20 (length s.hops) t [] all.1.0 h1) in
     ap₂ (λ (x y : Segment). x ∷ y ∷ []) s0 s1
 segments_back path (s ∷ t ∷ u ∷ []) some few all infos hops =
     let lengths = sizes (s ∷ t ∷ u ∷ []) in
     let h0 = to_zero path 28 (hops_text (s ∷ t ∷ u ∷ [])) hops in
-    let h1 = from_first path 28 (length s.hops) (hops_text (t ∷ u ∷ [])) (hops_behind path 28 0 s (hops_text (t ∷ u ∷ [])) all.0 h0) in
-    let h2 = hops_behind path 28 (length s.hops) t (hops_text (u ∷ [])) all.1.0 h1 in
-    let i1 = infos_behind path 0 (t ∷ u ∷ []) s infos in
-    let i2 = infos_behind path 1 (u ∷ []) t i1 in
+    let h1 = from_first path 28 (length s.hops) (hops_text (t ∷ u ∷ [])) (hops_after path 28 0 s (hops_text (t ∷ u ∷ [])) all.0 h0) in
+    let h2 = hops_after path 28 (length s.hops) t (hops_text (u ∷ [])) all.1.0 h1 in
+    let i1 = infos_after path 0 (t ∷ u ∷ []) s infos in
+    let i2 = infos_after path 1 (u ∷ []) t i1 in
     let s0 : seg path 28 lengths 0 ≡ s = seg_back path 28 lengths 0 s (info_of path 0 (t ∷ u ∷ []) s all infos) (hops_of path 28 0 s (hops_text (t ∷ u ∷ [])) all.0 h0) in
     let s1 : seg path 28 lengths 1 ≡ t = seg_back path 28 lengths 1 t (info_of path 1 (u ∷ []) t all.1 i1) (hops_of path 28 (length s.hops) t (hops_text (u ∷ [])) all.1.0 h1) in
     let s2 : seg path 28 lengths 2 ≡ u = seg_back path 28 lengths 2 u (info_of path 2 [] u all.1.1 i2) (hops_of path 28 (length s.hops + length t.hops) u [] all.1.1.0 h2) in

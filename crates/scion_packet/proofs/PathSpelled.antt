@@ -53,7 +53,7 @@ seg_lawful path base lengths k are info-room hops-room clear some =
       some = omega (arith, run_length path base (first_hop lengths k) (slice_index lengths k));
     }
 
--- the hop fields of a segment, and what stands behind them
+-- the hop fields of a segment, and what stands after them
 join : (path : List ℕ) (base a b n : ℕ) (rest : List ℕ) → IsBytes path → base + 12 * (a + n) ≤ length path → b ≡ a + n
     → StandsAt path (base + 12 * b) rest → StandsAt path (base + 12 * a) (flat_map hop_text (run path base a n) ++ rest)
 join path base a b n rest are inside place after =
@@ -73,7 +73,7 @@ pub record SegmentsSpelled (path : List ℕ) (base : ℕ) (lengths : List ℕ) (
   pub some : 1 ≤ length ss
   pub few : length ss ≤ 3
 
--- the first n segments, where the hop fields begin behind n info fields
+-- the first n segments, where the hop fields begin after n info fields
 abbrev pub segs : List ℕ → List ℕ → ℕ → List Segment
 segs path lengths n = map (seg path (4 + 8 * n) lengths) (range_with_len 0 n)
 
@@ -149,7 +149,7 @@ segments_spelled path a b c are lawful whole clear =
 
 -- ---- the whole path
 
--- texts that stand one behind the other and fill the bytes are the bytes
+-- texts that stand one after the other and fill the bytes are the bytes
 whole_text : (path meta infos hops : List ℕ) (base : ℕ) → StandsAt path 0 meta → StandsAt path 4 infos → StandsAt path base hops → length meta ≡ 4
     → base ≡ 4 + length infos → length path ≡ base + length hops → path ≡ meta ++ (infos ++ hops)
 whole_text path meta infos hops base m i h meta-len base-is whole =

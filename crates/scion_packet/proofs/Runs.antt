@@ -8,7 +8,7 @@ use Rattle.field_rows.specs.Place.{IsBytes, StandsAt}
 use Rattle.field_rows.proofs.Rows.{StandsAt-front, StandsAt-next}
 use Rattle.scion_packet.specs.Lengths.{first_hop}
 use Rattle.scion_packet.specs.Path.{HopField, IsHop, IsSegment, Segment, count_hops, hop_at, hop_text, hops_text, info_at, info_table, infos_text, no_peering}
-use Rattle.scion_packet.proofs.Fields.{InfoSpelled, behind, hop_back, hop_spelled, info_back, info_clear, info_spelled}
+use Rattle.scion_packet.proofs.Fields.{InfoSpelled, stands_after, hop_back, hop_spelled, info_back, info_clear, info_spelled}
 
 -- ---- hop fields
 
@@ -43,7 +43,7 @@ run_back path base a [] spelled = refl
 run_back path base a (h ∷ hops) spelled =
     let first : StandsAt path (base + 12 * a) (hop_text h) = StandsAt-front path (base + 12 * a) (hop_text h) (flat_map hop_text hops) spelled.text in
     let rest : StandsAt path (base + 12 * (a + 1)) (flat_map hop_text hops) =
-    behind path (base + 12 * a) (base + 12 * (a + 1)) (hop_text h) (flat_map hop_text hops) spelled.text (omega (arith, hop_text_len h spelled.lawful.0)) in
+    stands_after path (base + 12 * a) (base + 12 * (a + 1)) (hop_text h) (flat_map hop_text hops) spelled.text (omega (arith, hop_text_len h spelled.lawful.0)) in
     let here : hop_at path (base + 12 * a) ≡ h = hop_back path (base + 12 * a) h (record { text = first; lawful = spelled.lawful.0 }) in
     let others : run path base (a + 1) (length hops) ≡ hops = run_back path base (a + 1) hops (record { text = rest; lawful = spelled.lawful.1 }) in
     ap₂ (λ (x : HopField) (xs : List HopField). x ∷ xs) here others
@@ -86,7 +86,7 @@ infos_clear path k [] all stands clear = let same : k + 0 ≡ k = omega arith in
 infos_clear path k (s ∷ ss) all stands clear =
     let text = rows (info_table s.info) in
     let first : StandsAt path (4 + 8 * k) text = StandsAt-front path (4 + 8 * k) text (infos_text ss) stands in
-    let rest : StandsAt path (4 + 8 * suc k) (infos_text ss) = behind path (4 + 8 * k) (4 + 8 * suc k) text (infos_text ss) stands (omega arith) in
+    let rest : StandsAt path (4 + 8 * suc k) (infos_text ss) = stands_after path (4 + 8 * k) (4 + 8 * suc k) text (infos_text ss) stands (omega arith) in
     let here : (slice_index path (4 + 8 * k) / 2 % 2 == 0) ≡ true = eq-eqb _ 0 (info_clear path (4 + 8 * k) s.info (record { text = first; fits = all.0.info })) in
     let more : no_peering (suc k) path ≡ true = and_from (no_peering k path) _ clear here in
     let order : k + suc (length ss) ≡ suc k + length ss = omega arith in
@@ -98,9 +98,9 @@ info_of path k ss s all stands =
     let text = rows (info_table s.info) in
     info_back path (4 + 8 * k) s.info (record { text = StandsAt-front path (4 + 8 * k) text (infos_text ss) stands; fits = all.0.info })
 
--- the info fields behind those of the first segment
-pub infos_behind : (path : List ℕ) (k : ℕ) (ss : List Segment) (s : Segment) → StandsAt path (4 + 8 * k) (infos_text (s ∷ ss)) → StandsAt path (4 + 8 * (k + 1)) (infos_text ss)
-infos_behind path k ss s stands = behind path (4 + 8 * k) (4 + 8 * (k + 1)) (rows (info_table s.info)) (infos_text ss) stands (omega arith)
+-- the info fields after those of the first segment
+pub infos_after : (path : List ℕ) (k : ℕ) (ss : List Segment) (s : Segment) → StandsAt path (4 + 8 * k) (infos_text (s ∷ ss)) → StandsAt path (4 + 8 * (k + 1)) (infos_text ss)
+infos_after path k ss s stands = stands_after path (4 + 8 * k) (4 + 8 * (k + 1)) (rows (info_table s.info)) (infos_text ss) stands (omega arith)
 
 pub count_more_hops : (s : Segment) (ss : List Segment) → count_hops (s ∷ ss) ≡ length s.hops + count_hops ss
 count_more_hops s ss = omega (arith, sum_by-append (λ (t : Segment). length t.hops) (s ∷ []) ss)

@@ -204,7 +204,7 @@ hop_is_of lengths hop lawful lt =
       ]
     ]
 
--- Where segment k ends: behind the last hop of the path, or before it where another segment follows.
+-- Where segment k ends: after the last hop of the path, or before it where another segment follows.
 pub record EndOf (lengths : List ℕ) (k : ℕ) : Type 0 where
   pub last : k + 1 ≡ segment_count lengths → first_hop lengths k + slice_index lengths k ≡ hop_count lengths
   pub others : k + 1 < segment_count lengths → first_hop lengths k + slice_index lengths k < hop_count lengths

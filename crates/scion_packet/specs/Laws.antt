@@ -43,7 +43,7 @@ pub record FieldsStand (path : List ℕ) : Type 0 where
   pub hops : (k : ℕ) → k < segment_count (lengths_of path) → hops_in (path_of path).segments k ≡ slice_index (lengths_of path) k
   pub number : (k i : ℕ) → k < segment_count (lengths_of path)
       → hop_number (path_of path).segments (place_at k i) ≡ first_hop (lengths_of path) k + i
-  -- segment behind segment, each of at least one hop, and at most 64 hops in all
+  -- segment after segment, each of at least one hop, and at most 64 hops in all
   pub some : (k : ℕ) → k < segment_count (lengths_of path) → 1 ≤ slice_index (lengths_of path) k
   pub follows : (k : ℕ) → k + 1 < segment_count (lengths_of path)
       → first_hop (lengths_of path) (k + 1) ≡ first_hop (lengths_of path) k + slice_index (lengths_of path) k

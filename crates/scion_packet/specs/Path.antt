@@ -151,9 +151,9 @@ hop_at path at = record {
   mac = text_at path (at + 6) 6;
 }
 
--- a field of the meta word, by the number of bits behind it and its width
+-- a field of the meta word, by the number of bits after it and its width
 abbrev pub meta_field : List ℕ → ℕ → ℕ → ℕ
-meta_field path behind width = number_at path 0 4 / 2 ^ behind % 2 ^ width
+meta_field path after width = number_at path 0 4 / 2 ^ after % 2 ^ width
 
 abbrev pub current_info : List ℕ → ℕ
 current_info path = meta_field path 30 2

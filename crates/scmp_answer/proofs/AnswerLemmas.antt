@@ -54,9 +54,9 @@ summed_there h path message s front at len stands front-is at-is len-is =
     let addresses : StandsAt s 12 (address_text h) = StandsAt-back s 0 (rows (common_table h)) (address_text h) header in
     let n : front - 12 ≡ length (address_text h) = ap (λ (k : ℕ). k - 12) front-is ∙ sym (address_text_len h) in
     let first : text_at s 12 (front - 12) ≡ address_text h = ap (λ (k : ℕ). text_at s 12 k) n ∙ addresses.read in
-    let behind : StandsAt s (0 + length whole) message = StandsAt-back s 0 whole message stands in
+    let later : StandsAt s (0 + length whole) message = StandsAt-back s 0 whole message stands in
     let place : at ≡ 0 + length whole = omega (arith, at-is) in
-    let last : text_at s at len ≡ message = ap₂ (λ (p k : ℕ). text_at s p k) place len-is ∙ behind.read in
+    let last : text_at s at len ≡ message = ap₂ (λ (p k : ℕ). text_at s p k) place len-is ∙ later.read in
     ap₂ (λ (a b : List ℕ). a ++ b) first (ap₂ (λ (k : ℕ) (m : List ℕ). rows (pseudo_table k) ++ m) len-is last)
 
 -- the whole answer

@@ -9,7 +9,7 @@ use Rattle.scion_packet.specs.Reversed.{reversed_path}
 use Rattle.scmp_answer.specs.WayBack.{is_external, is_in_later_segment, leaves_the_hop, moved_to, one_hop_on, way_back}
 use Rattle.process_packet.specs.declared.underlay.Underlay.{Underlay}
 use Rattle.process_packet.specs.Network.{own_link}
-use Rattle.process_packet.specs.Standing.{entry_place, is_first_of_path}
+use Rattle.process_packet.specs.PacketState.{entry_place, is_first_of_path}
 use Rattle.process_packet.specs.Net.{Joined, Net, Router, end_at, router_at}
 use Rattle.walk_laws.specs.Domain.{IsOf}
 use Rattle.walk_laws.specs.Route.{IsBefore, Crosses, IsOn, IsRoute, Joins, Route, after, id_before, id_after, last_in, reversed_route, way_in, way_out}
@@ -48,7 +48,7 @@ keeps link p test = cond-false (leaves_the_hop link p) _ _ test
 
 -- ---- from outside
 
--- What the way back of a packet from outside is: the hop behind which it leads is the one before.
+-- What the way back of a packet from outside is: it starts past the current hop, at the one before.
 record TurnsOutside (w : Route) (a : PacketAt) : Type 0 where
   to : Place
   way_is : way_back a.link a.packet.path ≡ back_at a.packet.path to

@@ -131,13 +131,13 @@ all_summed a m even short =
 
 -- ---- a checksum that is right
 
--- the checksum stands behind the first two bytes of the message
+-- the checksum stands after the first two bytes of the message
 pub message_sum : (f t : List ℕ) (c : ℕ) → length f ≡ 2 → c < 65536 → sum (words (f ++ (big_bytes 2 c ++ t))) ≡ sum (words f) + (c + sum (words t))
 message_sum f t c two fits =
     let rest = big_bytes 2 c ++ t in
     let word : c / 256 % 256 * 256 + c % 256 ≡ c = omega arith in
-    let behind : sum (words rest) ≡ c + sum (words t) = sum-cons (c / 256 % 256 * 256 + c % 256) (words t) ∙ ap (λ (n : ℕ). n + sum (words t)) word in
-    omega (arith, words-append 1 f rest two, behind)
+    let later : sum (words rest) ≡ c + sum (words t) = sum-cons (c / 256 % 256 * 256 + c % 256) (words t) ∙ ap (λ (n : ℕ). n + sum (words t)) word in
+    omega (arith, words-append 1 f rest two, later)
 
 all_ones : (d e total : ℕ) → Carried d total → Carried e (total + (65535 - d)) → e ≡ 65535
 all_ones d e total before after =

@@ -2,7 +2,7 @@
 use Rattle.std.proofs.Common.{◌≡◌, ◌≤◌, ◌<◌, ◌⊎◌, ◌+◌, ◌-◌, ◌*◌, ◌==◌, ◌&&◌, not, ℕ, zero, suc, Bool, true, false, List, length, Some, None, refl, sym, ap, ap₂, subst, ◌∙◌, arith, inl, inr, if◌then◌else◌}
 use Rattle.std.proofs.lemmas.Bool.{cond-false, eq-eqb, eqb-true, ltb-false, ne_eqb}
 use Rattle.process_packet.specs.Rows.{delivered}
-use Rattle.process_packet.specs.Standing.{is_first_of_path, packet}
+use Rattle.process_packet.specs.PacketState.{is_first_of_path, packet}
 use Rattle.process_packet.specs.declared.decision.Problem.{Problem}
 use Rattle.process_packet.specs.declared.cause.Cause.TheVariants as cause
 use Rattle.process_packet.specs.declared.underlay.Ip.TheVariants.{V4, V6}
@@ -28,7 +28,7 @@ use Rattle.walk_laws.specs.Route.{IsOn, IsRoute, Route, end_of}
 use Rattle.process_packet.specs.Shown.{is_for_us, turned}
 use Rattle.walk_laws.specs.Stands.{PacketAt, IsHostOf, IsUnasked, Stands, place_of}
 use Rattle.walk_laws.specs.Start.{outset}
-use Rattle.walk_laws.specs.Stop.{IsAsked, progress, standing, verdict_at}
+use Rattle.walk_laws.specs.Stop.{IsAsked, progress, packet_state, verdict_at}
 use Rattle.walk_laws.specs.Walk.{IsDelivered, Walks}
 use Rattle.process_packet.proofs.HostLemmas.{is_reached}
 use Rattle.walk_laws.proofs.LeavesLemmas.{same_router}
@@ -88,7 +88,7 @@ from_outside net w from b stands last = elim stands.there [
 ]
 
 for_its_as : (b : PacketAt) (x : Router) (moment : ℕ) → 1 ≤ b.link → IsHostOf b.packet.header.destination (domain_of x)
-    → is_for_us (standing x.network b moment (spelling b.packet)) ≡ true
+    → is_for_us (packet_state x.network b moment (spelling b.packet)) ≡ true
 for_its_as b x moment outside home =
     ap₂ (λ (p q : Bool). not p && q) (ne_eqb b.link 0 (λ none. absurd (omega arith)))
     (ap₂ (λ (p q : Bool). p && q) (eq-eqb _ _ home.isd) (eq-eqb _ _ home.autonomous_system))
@@ -103,7 +103,7 @@ host_known x a (IsIpHost.ip_6 kind code) = record { at = record { ip = V6 a.host
 reaches : (net : Net) (w : Route) (from : Place) (moment n : ℕ) (a : PacketAt) (host : HostAddress) (d : IsDelivered net w from moment n a) → a.packet.header.destination ≡ host
     → IsKnown d.here host → ReachesHost net moment n a host
 reaches net w from moment n a host d same known =
-    let p : Packet = packet (turned (standing d.here.network d.end moment (spelling d.end.packet))) in
+    let p : Packet = packet (turned (packet_state d.here.network d.end moment (spelling d.end.packet))) in
     record {
       end = d.end;
       walk = d.walk;
@@ -179,7 +179,7 @@ record EndsBy (net : Net) (w : Route) (moment : ℕ) (start : PacketAt) (n : ℕ
   passed : Passed net w start end
   here : Router
   here_is : router_at net end.router ≡ Some here
-  how : ((is_last_of_path w.segments (place_of end) ≡ true) × (verdict_at here end moment ≡ delivered here.network (packet (turned (standing here.network end moment (spelling end.packet))))))
+  how : ((is_last_of_path w.segments (place_of end) ≡ true) × (verdict_at here end moment ≡ delivered here.network (packet (turned (packet_state here.network end moment (spelling end.packet))))))
       ⊎ IsAsked w end.packet.header.next_header end.packet.payload (verdict_at here end moment)
 
 walks : (net : Net) (w : Route) (moment : ℕ) (start : PacketAt) → Agrees net → IsRoute net w moment
@@ -274,11 +274,11 @@ module _ (net : Net) (ss : List PathSegment) (moment : ℕ) (a : PacketAt) (agre
   walked_by = walks net w moment a agrees route 127 a start_passed (omega arith) (is_last_of_path w.segments (place_of a)) refl
 
   ended : (e : EndsBy net w moment a 127 a)
-      → (verdict_at e.here e.end moment ≡ delivered e.here.network (packet (turned (standing e.here.network e.end moment (spelling e.end.packet)))))
+      → (verdict_at e.here e.end moment ≡ delivered e.here.network (packet (turned (packet_state e.here.network e.end moment (spelling e.end.packet)))))
       → is_last_of_path w.segments (place_of e.end) ≡ true → IsOf e.here (w.home (end_of w)) → IsWalked net moment a
   ended e delivery last home =
       let known : IsKnown e.here a.packet.header.destination = s.to_host e.end.router e.here e.here_is (subst (λ (p : Place). IsOf e.here (w.home p)) (end_is net ss moment a agrees numbered are s) home) in
-      let p : Packet = packet (turned (standing e.here.network e.end moment (spelling e.end.packet))) in
+      let p : Packet = packet (turned (packet_state e.here.network e.end moment (spelling e.end.packet))) in
       let reached : ReachesHost net moment 127 a a.packet.header.destination = record {
         end = e.end;
         walk = plain e.walk;

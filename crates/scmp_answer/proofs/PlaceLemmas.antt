@@ -2,7 +2,7 @@
 use Rattle.std.proofs.Common.{◌≡◌, ◌≤◌, ℕ, ◌+◌, ◌-◌, List, ◌++◌, length, take, drop, sym, subst, ap, ap₂, ◌∙◌, arith, length-drop}
 use Rattle.std.proofs.lemmas.List.{drop-drop, length-take-le, take_all, take-take}
 use Rattle.field_rows.specs.Place.{Puts, StandsAt}
-use Rattle.field_rows.proofs.Rows.{Puts-before, Puts-behind, Puts-length, Puts-stands, StandsAt-back, StandsAt-front, StandsAt-then}
+use Rattle.field_rows.proofs.Rows.{Puts-before, Puts-after, Puts-length, Puts-stands, StandsAt-back, StandsAt-front, StandsAt-then}
 use borrow.Rule.Slice.PartMut.{put_mid}
 
 -- a text that fills a part of a buffer
@@ -19,15 +19,15 @@ puts_part xs ys text a e order inside puts fills =
       room = omega (arith, fills);
     }
 
--- what stands before the place of a write stands there afterwards, and so does what stands behind it
+-- what stands before the place of a write stands there afterwards, and so does what stands after it
 stands_before : (old new : List ℕ) (at n : ℕ) (text : List ℕ) → StandsAt old 0 text → length text ≤ n → take n new ≡ take n old → StandsAt new 0 text
 stands_before old new at n text stands inside same =
     record {
       read = sym (take-take (length text) n new inside) ∙ ap (λ (t : List ℕ). take (length text) t) same ∙ take-take (length text) n old inside ∙ stands.read;
     }
 
-stands_behind : (old new : List ℕ) (at : ℕ) (text : List ℕ) → StandsAt old at text → drop at new ≡ drop at old → StandsAt new at text
-stands_behind old new at text stands same = record { read = ap (λ (t : List ℕ). take (length text) t) same ∙ stands.read }
+stands_after : (old new : List ℕ) (at : ℕ) (text : List ℕ) → StandsAt old at text → drop at new ≡ drop at old → StandsAt new at text
+stands_after old new at text stands same = record { read = ap (λ (t : List ℕ). take (length text) t) same ∙ stands.read }
 
 -- a middle part written over
 pub written_over : (old new a b z c : List ℕ) (at : ℕ) → StandsAt old 0 (a ++ (z ++ c)) → Puts old new at b → at ≡ length a → length z ≡ length b
@@ -36,11 +36,11 @@ written_over old new a b z c at stands puts at-is same-len =
     let front = stands_before old new 0 at a (StandsAt-front old 0 a (z ++ c) stands) (omega (arith, at-is)) (Puts-before old new at b puts) in
     let middle = subst (λ (n : ℕ). StandsAt new n b) at-is (Puts-stands old new at b puts) in
     let zero : 0 + length a ≡ length a = omega arith in
-    let behind : StandsAt old (length a) (z ++ c) = subst (λ (n : ℕ). StandsAt old n (z ++ c)) zero (StandsAt-back old 0 a (z ++ c) stands) in
-    let back : StandsAt old (length a + length z) c = StandsAt-back old (length a) z c behind in
+    let later : StandsAt old (length a) (z ++ c) = subst (λ (n : ℕ). StandsAt old n (z ++ c)) zero (StandsAt-back old 0 a (z ++ c) stands) in
+    let back : StandsAt old (length a + length z) c = StandsAt-back old (length a) z c later in
     let place : length a + length z ≡ at + length b = omega (arith, at-is, same-len) in
     let moved : StandsAt old (at + length b) c = subst (λ (n : ℕ). StandsAt old n c) place back in
-    let kept = stands_behind old new (at + length b) c moved (Puts-behind old new at b puts) in
+    let kept = stands_after old new (at + length b) c moved (Puts-after old new at b puts) in
     let last : length a + length b ≡ at + length b = omega (arith, at-is) in
     let there : StandsAt new (length a + length b) c = subst (λ (n : ℕ). StandsAt new n c) (sym last) kept in
     let rest : StandsAt new (length a) (b ++ c) = StandsAt-then new (length a) b c middle there in

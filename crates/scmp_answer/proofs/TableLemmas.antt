@@ -1,4 +1,4 @@
--- The parts of a message: its type and code, its checksum, and what stands behind them.
+-- The parts of a message: its type and code, its checksum, and what stands after them.
 use Rattle.std.proofs.Common.{◌≡◌, ℕ, Bool, true, false, List, [], ◌∷◌, ◌++◌, length, refl, cond, eqb}
 use Rattle.byteorder.specs.Endian.{big_bytes}
 use Rattle.field_rows.specs.Row.{Field, field, rows}
@@ -41,7 +41,7 @@ two_bytes true y code = refl
 two_bytes false true code = refl
 two_bytes false false code = refl
 
--- The checksum stands behind the first two bytes.
+-- The checksum stands after the first two bytes.
 pub record Parts (here : HostAddress) (n : ℕ × ℕ) (p : Problem) : Type 0 where
   pub first : List ℕ
   pub rest : List ℕ

@@ -27,7 +27,7 @@ use Rattle.scmp_answer.proofs.ReplyLemmas.{unanswered}
 
 -- ---- the message
 
--- Bytes behind a header that names SCMP: an error message, and no request.
+-- Bytes after a header that names SCMP: an error message, and no request.
 record IsError (payload : List ℕ) : Type 0 where
   known : may_be_error (upper_of (upper_layer 202 payload)) ≡ true
   no_request : is_request 202 payload ≡ false

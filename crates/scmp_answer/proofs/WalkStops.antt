@@ -26,7 +26,7 @@ use Rattle.walk_laws.specs.LawfulStart.{LawfulStart, ReachesHost, WalksBy}
 use Rattle.walk_laws.specs.PathSegments.{PathSegment}
 use Rattle.process_packet.specs.Shown.{is_for_us}
 use Rattle.walk_laws.specs.Stands.{PacketAt}
-use Rattle.walk_laws.specs.Stop.{IsCarried, standing, verdict_at}
+use Rattle.walk_laws.specs.Stop.{IsCarried, packet_state, verdict_at}
 use Rattle.walk_laws.proofs.CarryLemmas.{of_one, same_number}
 use Rattle.walk_laws.proofs.LawfulLemmas.{unasked}
 use Rattle.walk_laws.proofs.NetLemmas.{found, joined_ends}
@@ -145,7 +145,7 @@ carried_is net a b x _ (Some to) agrees others (IsCarried.within y there one int
     ∙ ap₂ (λ (l : ℕ) (s : Underlay). Some (record { router = b.router; link = l; source = s; bytes = bytes })) (sym link) (sym source)
 
 goes_next : (net : Net) (moment : ℕ) (a b : PacketAt) (x : Router) (out : ℕ) (to : Option Underlay) → Agrees net → IsPacket a.packet → router_at net a.router ≡ Some x
-    → is_for_us (standing x.network a moment (spelling a.packet)) ≡ false → verdict_at x a moment ≡ Sent out to b.packet → IsCarried net a.router x out to b
+    → is_for_us (packet_state x.network a moment (spelling a.packet)) ≡ false → verdict_at x a moment ≡ Sent out to b.packet → IsCarried net a.router x out to b
     → next_stop net moment (came_of a) ≡ Some (came_of b)
 unfolding next_stop
 goes_next net moment a b x out to agrees lawful here others sends is =
@@ -154,7 +154,7 @@ goes_next net moment a b x out to agrees lawful here others sends is =
     ∙ carried_is net a b x out to agrees (for_host_is x.network a.link a.packet lawful ∙ others) is
 
 ends_delivered : (net : Net) (moment : ℕ) (z : PacketAt) (x : Router) (to : Underlay) (sent : Packet) → IsPacket z.packet → router_at net z.router ≡ Some x
-    → is_for_us (standing x.network z moment (spelling z.packet)) ≡ true → verdict_at x z moment ≡ Sent 0 (Some to) sent → next_stop net moment (came_of z) ≡ None
+    → is_for_us (packet_state x.network z moment (spelling z.packet)) ≡ true → verdict_at x z moment ≡ Sent 0 (Some to) sent → next_stop net moment (came_of z) ≡ None
 unfolding next_stop
 ends_delivered net moment z x to sent lawful here for_us sends =
     ap (next_from net moment (came_of z)) here

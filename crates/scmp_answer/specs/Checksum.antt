@@ -34,7 +34,7 @@ abbrev pub address_text : HeaderFields → List ℕ
 address_text h =
     rows (domain_table h.destination) ++ (rows (domain_table h.source) ++ (h.destination.host ++ h.source.host))
 
--- behind the addresses: the length of the message, 3 zero bytes, and the number of SCMP
+-- after the addresses: the length of the message, 3 zero bytes, and the number of SCMP
 abbrev pub pseudo_table : ℕ → List (List Field)
 pseudo_table len = (field 32 len ∷ []) ∷ (field 24 0 ∷ []) ∷ (field 8 202 ∷ []) ∷ []
 

@@ -54,7 +54,7 @@ fixed_len problem = if problem.kind == 131 then 24 else 8
 abbrev pub message_table : HostAddress → Packet → Problem → ℕ → List (List Field)
 message_table here p problem checksum = table_of here (numbers_of (request p.header.next_header p.payload)) problem checksum
 
--- An error message quotes the datagram: its first bytes, as many as the answer has room for behind its header and its own 8
+-- An error message quotes the datagram: its first bytes, as many as the answer has room for after its header and its own 8
 -- bytes. A traceroute reply quotes nothing.
 abbrev pub quote : ℕ → Problem → List ℕ → List ℕ
 quote header_len problem bytes = if problem.kind == 131 then [] else take (longest - header_len - 8) bytes

@@ -10,7 +10,7 @@ use Rattle.process_packet.specs.Net.{router_of}
 use Rattle.scmp_answer.specs.Reply.{local_address, Sent, is_left_unanswered, reply}
 use Rattle.scmp_answer.specs.WayBack.{is_external, way_back}
 use Rattle.process_packet.specs.declared.decision.Problem.{Problem}
-use Rattle.process_packet.specs.Standing.{is_first_of_path}
+use Rattle.process_packet.specs.PacketState.{is_first_of_path}
 use Rattle.process_packet.specs.Net.{Agrees, Net, Router, router_at}
 use Rattle.walk_laws.specs.Domain.{domain_of}
 use Rattle.walk_laws.specs.LawfulStart.{IsIpHost}

@@ -27,8 +27,8 @@ moved_to (Some at) p = record p { place = at }
 abbrev pub one_hop_on : PathFields → PathFields
 one_hop_on p = moved_to (next p.segments p.place) p
 
--- The current hop is behind an answer to a packet from outside, and so is the first hop of a later segment behind each
--- answer: the other router of this AS that took the packet in has its hop in the segment before.
+-- An answer to a packet from outside starts past the current hop, and each answer past the first hop of a later segment:
+-- the other router of this AS that took the packet in has its hop in the segment before.
 abbrev pub leaves_the_hop : ℕ → PathFields → Bool
 leaves_the_hop link p = is_external link || (is_first_of_segment p && is_in_later_segment p)
 

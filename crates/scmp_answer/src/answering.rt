@@ -11,14 +11,14 @@ ghost use Rattle.scmp_answer.specs.Reply.{answer_packet, is_left_unanswered, loc
 ghost use Rattle.scmp_answer.specs.WayBack.{is_external};
 
 use crate::answer_header::{answer_header, host_len, local_address};
-use crate::arriving::Arriving;
 use crate::message::{fixed_len, quote};
 use crate::outcome::{AnswerLen, Answered};
+use crate::parsed_packet::ParsedPacket;
 use crate::way_back::{has_no_way_back, way_back};
 use crate::writing::{path_len, seal, write_front, write_message};
 use path_fields::Path;
 use process_packet::{Arrival, Cause, Config, NoMemory, Problem, Underlay};
-use scion_header::{Address, Header, Upper, lawful, upper_layer};
+use scion_header::{Address, Header, Upper, header_is_lawful, upper_layer};
 use std::alloc::Global;
 
 /// The most bytes that an answer has.
@@ -65,7 +65,7 @@ fn write_answer(
     let quote = quote(problem, header_len, bytes);
     let len = fixed_len(problem) + quote.len();
     let header = answer_header(*here, arriving, header_len, len);
-    lawful();
+    header_is_lawful();
     write_front(&header, way, out);
     write_message(here, arriving, payload, problem, quote, out, header_len);
     seal(out, front, header_len, len);
@@ -89,7 +89,7 @@ pub fn answer_into(
     ensures good { IfSent (reply (local_address config.now) link source bytes.now problem.now) IsGood }
     ensures len { used result ≤ longest }
 {
-    let arriving = Arriving::read(bytes);
+    let arriving = ParsedPacket::read(bytes);
     let payload = &bytes[arriving.payload..];
     if is_left_unanswered(&arriving.header, payload, problem) {
         return AnswerLen::Drop(Cause::NoAnswer);

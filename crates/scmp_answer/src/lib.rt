@@ -4,12 +4,12 @@
 
 mod answer_header;
 mod answering;
-mod arriving;
 mod carrying;
 mod checksum;
 mod laws;
 mod message;
 mod outcome;
+mod parsed_packet;
 mod stop;
 mod walking;
 mod way_back;

@@ -30,7 +30,7 @@ pub(crate) fn fixed_len(problem: &Problem) -> usize
     }
 }
 
-/// What a message quotes of the datagram, behind a header of this length.
+/// What a message quotes of the datagram, after a header of this length.
 pub(crate) fn quote<'a>(problem: &Problem, header_len: usize, bytes: &'a [u8]) -> &'a [u8]
     requires { header_len + 8 ≤ longest }
     ensures { result.now ≡ quote header_len problem.now bytes.now }
@@ -88,7 +88,7 @@ fn write_traceroute_reply(
     put_u16(out, at + 22, interface);
 }
 
-/// The identifier and the sequence number of the traceroute request behind a header.
+/// The identifier and the sequence number of the traceroute request after a header.
 fn numbers_of(header: &Header, payload: &[u8]) -> (u16, u16)
     ensures { result ≡ numbers_of (request header.now.next_header payload.now) }
 {
@@ -99,7 +99,7 @@ fn numbers_of(header: &Header, payload: &[u8]) -> (u16, u16)
 }
 
 /// Writes a message with checksum 0 and without its quote: an error message, or the reply to the
-/// traceroute request behind the arriving header.
+/// traceroute request after the arriving header.
 pub(crate) fn write_fixed(
     here: &Address,
     arriving: &Header,

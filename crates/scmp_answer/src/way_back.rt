@@ -27,8 +27,8 @@ pub(crate) fn has_no_way_back(link: u16, path: &Path) -> bool
 }
 
 /// The path of the answer to a packet that came by the link: its own path travelled back. The cursor
-/// leaves the current hop behind where the answer leaves the AS, and where the packet had changed its
-/// segment on the way into it.
+/// is past the current hop where the answer leaves the AS, and where the packet had changed its segment
+/// on the way into it.
 pub(crate) fn way_back(link: u16, path: &Path) -> Path
     ensures { fields_of result ≡ way_back link (fields_of path.now) }
 {

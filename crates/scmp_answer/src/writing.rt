@@ -17,7 +17,7 @@ ghost use Rattle.scmp_answer.specs.Message.{fixed_len, numbers_of, table_of};
 use crate::checksum::checksum;
 use crate::message::{fixed_len, write_fixed};
 use field_rows::{put, put_u16};
-use path_fields::{Path, lawful, write_path};
+use path_fields::{Path, path_is_lawful, write_path};
 use process_packet::Problem;
 use scion_header::{Address, Header, write_header};
 
@@ -29,7 +29,7 @@ pub(crate) fn path_len(path: &Path) -> usize
     ensures small { result ≤ 796 }
     ensures lawful { IsPath (fields_of path.now) }
 {
-    lawful();
+    path_is_lawful();
     4 + 8 * path.infos.len() + 12 * path.hops.len()
 }
 
@@ -66,7 +66,7 @@ pub(crate) fn write_message(
     put(out, at + fixed_len(problem), quote);
 }
 
-/// Writes the checksum of the message of `len` bytes that stands at `at`, behind a header whose
+/// Writes the checksum of the message of `len` bytes that stands at `at`, after a header whose
 /// addresses end at `front`.
 pub(crate) fn seal(out: &mut [u8], front: usize, at: usize, len: usize)
     requires begin { 12 ≤ front }

@@ -9,7 +9,7 @@ use Rattle.process_packet.specs.declared.neighbours.Link.{Link}
 use Rattle.process_packet.specs.declared.neighbours.Sibling.{Sibling}
 use Rattle.process_packet.specs.declared.underlay.Underlay.{Underlay}
 use Rattle.process_packet.specs.Network.{is_local, is_owner, is_remote, sibling}
-use Rattle.process_packet.specs.Standing.{Standing, chained_id, entry, entry_place, ingress_of, is_along, is_external, is_first_of_path}
+use Rattle.process_packet.specs.PacketState.{PacketState, chained_id, entry, entry_place, ingress_of, is_along, is_external, is_first_of_path}
 use Rattle.process_packet.specs.Underlay.{same_ip}
 use Rattle.process_packet.specs.Net.{Agrees, AreOfOneAS, Net, Router}
 use Rattle.walk_laws.specs.Domain.{IsOf}
@@ -18,7 +18,7 @@ use Rattle.walk_laws.specs.Route.{IsHopOf, IsOn, IsRoute, Route, way_in}
 use Rattle.process_packet.proofs.Coming.{ComesAsItShould}
 use Rattle.process_packet.specs.Shown.{turned}
 use Rattle.walk_laws.specs.Stands.{PacketAt, IdsStand, IsFromEntry, IsOnItsWay, StandsInside, StandsOutside, place_of}
-use Rattle.walk_laws.specs.Stop.{standing}
+use Rattle.walk_laws.specs.Stop.{packet_state}
 use Rattle.walk_laws.proofs.IdLemmas.{hop_is, ids_turned, size_is}
 use Rattle.walk_laws.proofs.AddressLemmas.{begins, ends}
 use Rattle.walk_laws.proofs.ReadLemmas.{along_read, end_lawful, end_lawful_inside, end_read, ingress_read, is_no_end, mac_read, same_ip_of, same_of, unexpired_read}
@@ -31,20 +31,20 @@ of_one_as x y w at one other = record { isd = one.isd ∙ sym other.isd; autonom
 
 module _ (net : Net) (w : Route) (from : Place) (moment : ℕ) (a : PacketAt) (bytes : List ℕ) (route : IsRoute net w moment) (way : IsOnItsWay net w from a.packet)
     (o : StandsOutside net w from a) where
-  pub external : (x : Router) → is_external (standing x.network a moment bytes) ≡ true
+  pub external : (x : Router) → is_external (packet_state x.network a moment bytes) ≡ true
   external x = let there = o.external in ap not (ne_eqb a.link 0 (λ none. absurd (omega arith)))
 
-  pub ids_in : (x : Router) → IdsStand w false (place_of a) (turned (standing x.network a moment bytes)).path.segments
+  pub ids_in : (x : Router) → IdsStand w false (place_of a) (turned (packet_state x.network a moment bytes)).path.segments
   ids_in x =
-      let s : Standing = standing x.network a moment bytes in
+      let s : PacketState = packet_state x.network a moment bytes in
       let at = place_of a in
       ids_turned w (is_external s && not (is_along s)) at a.packet.path.segments o.ids o.on.segment
       (ap₂ (λ (e b : Bool). e && not b) (external x) (along_read w true at a.packet.path.segments o.ids))
 
-  pub comes_outside : length bytes ≤ 9216 → first_fault bytes ≡ None → ComesAsItShould (standing o.here.network a moment bytes)
+  pub comes_outside : length bytes ≤ 9216 → first_fault bytes ≡ None → ComesAsItShould (packet_state o.here.network a moment bytes)
   comes_outside short sound =
       let x : Router = o.here in
-      let s : Standing = standing x.network a moment bytes in
+      let s : PacketState = packet_state x.network a moment bytes in
       let at = place_of a in
       let ss = a.packet.path.segments in
       let there : IsHopOf net w moment at = route.hop at o.on in
@@ -84,15 +84,15 @@ entry_read false w at ss stands is later = ingress_read w false at ss stands
 
 module _ (net : Net) (w : Route) (from : Place) (moment : ℕ) (a : PacketAt) (bytes : List ℕ) (agrees : Agrees net) (route : IsRoute net w moment)
     (way : IsOnItsWay net w from a.packet) (i : StandsInside net w from a) where
-  pub internal : (x : Router) → is_external (standing x.network a moment bytes) ≡ false
+  pub internal : (x : Router) → is_external (packet_state x.network a moment bytes) ≡ false
   internal x = ap not (eq-eqb a.link 0 i.link)
 
   pub on_it : IsOn w (place_of a)
   on_it = let more = i.more in record { segment = more.segment; position = omega arith }
 
-  pub ids_same_in : (x : Router) → IdsStand w false (place_of a) (turned (standing x.network a moment bytes)).path.segments
+  pub ids_same_in : (x : Router) → IdsStand w false (place_of a) (turned (packet_state x.network a moment bytes)).path.segments
   ids_same_in x =
-      let s : Standing = standing x.network a moment bytes in
+      let s : PacketState = packet_state x.network a moment bytes in
       let ss = a.packet.path.segments in
       let at = place_of a in
       subst (λ (ts : List Segment). IdsStand w false at ts)
@@ -100,7 +100,7 @@ module _ (net : Net) (w : Route) (from : Place) (moment : ℕ) (a : PacketAt) (b
 
   -- the sibling that took it in
   from_entry : IsFromEntry net w (place_of a) a → is_first_of_path (place_of a) ≡ false
-      → is_owner (sibling i.here.network (entry (standing i.here.network a moment bytes))) a.source ≡ true
+      → is_owner (sibling i.here.network (entry (packet_state i.here.network a moment bytes))) a.source ≡ true
   from_entry entered later =
       let at = place_of a in
       let x : Router = i.here in
@@ -113,10 +113,10 @@ module _ (net : Net) (w : Route) (from : Place) (moment : ℕ) (a : PacketAt) (b
       ∙ ap (λ (l : Option Sibling). is_owner l a.source) listed.listed
       ∙ subst (λ ip'. same_ip a.source.ip ip' ≡ true) ip (same_ip_of a.source.ip)
 
-  pub comes_inside : length bytes ≤ 9216 → first_fault bytes ≡ None → ComesAsItShould (standing i.here.network a moment bytes)
+  pub comes_inside : length bytes ≤ 9216 → first_fault bytes ≡ None → ComesAsItShould (packet_state i.here.network a moment bytes)
   comes_inside short sound =
       let x : Router = i.here in
-      let s : Standing = standing x.network a moment bytes in
+      let s : PacketState = packet_state x.network a moment bytes in
       let at = place_of a in
       let ss = a.packet.path.segments in
       let there : IsHopOf net w moment at = route.hop at on_it in

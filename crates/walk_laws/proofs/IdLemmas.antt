@@ -10,7 +10,7 @@ use Rattle.path_fields.specs.InPlace.{with_segment_id}
 use Rattle.scion_packet.specs.Path.{HopField, InfoField, Place, Segment, hops_in, place_at}
 use Rattle.scion_packet.specs.Places.{hop_there, info_there, no_hop}
 use Rattle.scion_packet.proofs.Offsets.{hops_in_is}
-use Rattle.process_packet.specs.Sight.{IsAlike, with_id}
+use Rattle.process_packet.specs.PacketView.{IsAlike, with_id}
 use Rattle.process_packet.proofs.AlikeLemmas.{alike_set, info_set}
 use Rattle.walk_laws.specs.Route.{Route, after, hop_of, id_before, id_after, info_of}
 use Rattle.walk_laws.specs.Stands.{IdsStand, hops_at, id_now, with_id_of}

@@ -13,8 +13,8 @@ use Rattle.process_packet.specs.Neighbours.{sibling_at}
 use Rattle.process_packet.specs.Network.{kind_or, own_link, sibling}
 use Rattle.process_packet.specs.Rows.{Sent, is_pair_lawful, known_pair}
 use Rattle.process_packet.specs.Request.{is_request}
-use Rattle.process_packet.specs.Sight.{with_id}
-use Rattle.process_packet.specs.Standing.{Standing, arrival_kind, chained_id, egress, egress_alert, entry_place, hop, is_along, is_first_of_path, is_last_of_path, next_place, packet}
+use Rattle.process_packet.specs.PacketView.{with_id}
+use Rattle.process_packet.specs.PacketState.{PacketState, arrival_kind, chained_id, egress, egress_alert, entry_place, hop, is_along, is_first_of_path, is_last_of_path, next_place, packet}
 use Rattle.process_packet.specs.Net.{Agrees, Joined, Net, Router, end_at, router_at}
 use Rattle.walk_laws.specs.Domain.{IsOf}
 use Rattle.walk_laws.proofs.NetLemmas.{ListsAt, listed_at}
@@ -22,10 +22,10 @@ use Rattle.walk_laws.specs.Route.{IsBefore, Crosses, IsHopOf, IsOn, IsRoute, Rou
 use Rattle.process_packet.proofs.Coming.{ComesAsItShould}
 use Rattle.process_packet.specs.Shown.{StandsToLeave, asks_entry, asks_exit, is_for_us, packet_at, turned}
 use Rattle.walk_laws.specs.Stands.{PacketAt, IdsStand, IsOnItsWay, Stands}
-use Rattle.walk_laws.specs.Stop.{GoesOn, IsAsked, IsCarried}
+use Rattle.walk_laws.specs.Stop.{IsForwarded, IsAsked, IsCarried}
 use Rattle.process_packet.proofs.RowsPassed.{replies_at_exit, sent_by_link, sent_to_sibling}
 use Rattle.walk_laws.proofs.IdLemmas.{hop_is, ids_left, size_is}
-use Rattle.walk_laws.proofs.ReadLemmas.{along_read, egress_read, end_read, goes_further, is_no_end, other_flag_read}
+use Rattle.walk_laws.proofs.ReadLemmas.{along_read, egress_read, end_read, not_last_of_segment, is_no_end, other_flag_read}
 use Rattle.walk_laws.proofs.ComesLemmas.{of_one_as}
 use Rattle.walk_laws.proofs.IdLemmas as chained_fits
 use Rattle.process_packet.proofs.KeptLemmas.{IsKept, out_kept}
@@ -48,7 +48,7 @@ three_true true false z e = absurd cc
 three_true false y z e = absurd cc
 
 -- What is known of a packet that stands at the hop by which it leaves, at any router of the hop's AS.
-pub record AtItsExit (net : Net) (w : Route) (from : Place) (r : ℕ) (x : Router) (s u : Standing) : Type 0 where
+pub record AtItsExit (net : Net) (w : Route) (from : Place) (r : ℕ) (x : Router) (s u : PacketState) : Type 0 where
   pub comes : ComesAsItShould s
   pub others : is_for_us s ≡ false
   pub leaves : StandsToLeave (turned s) u
@@ -62,7 +62,7 @@ pub record AtItsExit (net : Net) (w : Route) (from : Place) (r : ℕ) (x : Route
   pub quiet : asks_entry s ≡ false
   pub begun : (from ≡ u.path.place) ⊎ IsBefore from u.path.place
 
-module _ (net : Net) (w : Route) (from : Place) (moment : ℕ) (agrees : Agrees net) (route : IsRoute net w moment) (r : ℕ) (x : Router) (s u : Standing)
+module _ (net : Net) (w : Route) (from : Place) (moment : ℕ) (agrees : Agrees net) (route : IsRoute net w moment) (r : ℕ) (x : Router) (s u : PacketState)
     (e : AtItsExit net w from r x s u) where
   out_read : egress u ≡ way_out w u.path.place
   out_read = egress_read w false u.path.place u.path.segments e.ids
@@ -86,7 +86,7 @@ module _ (net : Net) (w : Route) (from : Place) (moment : ℕ) (agrees : Agrees 
       }
 
   -- by its own link
-  goes_by_link : (m : ℕ) → m ≤ 2 * hop_number w.segments u.path.place + 1 → r ≡ w.left_by u.path.place → asks_exit u ≡ false → GoesOn net w r x m (is_for_us s) (ends_as s decision_table) (Stands net w from)
+  goes_by_link : (m : ℕ) → m ≤ 2 * hop_number w.segments u.path.place + 1 → r ≡ w.left_by u.path.place → asks_exit u ≡ false → IsForwarded net w r x m (is_for_us s) (ends_as s decision_table) (Stands net w from)
   goes_by_link m far mine still =
       let at = u.path.place in
       let ss = u.path.segments in
@@ -98,7 +98,7 @@ module _ (net : Net) (w : Route) (from : Place) (moment : ℕ) (agrees : Agrees 
       let own_x : own_link x.network (way_out w at) ≡ Some c.out = ap (λ (y : Router). own_link y.network (way_out w at)) (sym same) ∙ c.out_is in
       let vs = with_id (if is_along u then Some (chained_id u) else None) at.segment ss in
       let pair = pair_right (Some c.out) (sibling u.network (egress u)) own refl (ap (λ (k : LinkKind). Some k) c.out_kind) in
-      let further : next_place ss at ≡ after at = cond-false (is_last_of_segment ss at) _ _ (goes_further ss at (subst (λ (n : ℕ). at.position + 1 < n) (sym (size_is e.ids at.segment)) more.position)) in
+      let further : next_place ss at ≡ after at = cond-false (is_last_of_segment ss at) _ _ (not_last_of_segment ss at (subst (λ (n : ℕ). at.position + 1 < n) (sym (size_is e.ids at.segment)) more.position)) in
       let no_end : is_last_of_path u ≡ false = end_read w false at ss e.ids ∙ is_no_end w.segments at more.position in
       let on : IsOn w at = record { segment = more.segment; position = omega arith } in
       let hop_here : IsHopOf net w moment at = route.hop at on in
@@ -141,7 +141,7 @@ module _ (net : Net) (w : Route) (from : Place) (moment : ℕ) (agrees : Agrees 
       }
 
   pub exits_by_link : (m : ℕ) → m ≤ 2 * hop_number w.segments u.path.place + 1 → r ≡ w.left_by u.path.place
-      → GoesOn net w r x m (is_for_us s) (ends_as s decision_table) (Stands net w from) ⊎ IsAsked w u.header.next_header u.payload (ends_as s decision_table)
+      → IsForwarded net w r x m (is_for_us s) (ends_as s decision_table) (Stands net w from) ⊎ IsAsked w u.header.next_header u.payload (ends_as s decision_table)
   exits_by_link m far mine =
       let at = u.path.place in
       let c : Crosses net w at (after at) = route.crosses at e.more in
@@ -154,7 +154,7 @@ module _ (net : Net) (w : Route) (from : Place) (moment : ℕ) (agrees : Agrees 
   -- to the router of the AS that has the link
   pub exits_to_sibling : (m : ℕ) → m ≤ 2 * hop_number w.segments u.path.place → (r ≡ w.left_by u.path.place → ⊥) → r ≡ w.entered_by (entry_place w.segments u.path.place) → is_first_of_path u.path.place ≡ false
       → (own : Link) → own_link x.network (way_in w (entry_place w.segments u.path.place)) ≡ Some own
-      → GoesOn net w r x m (is_for_us s) (ends_as s decision_table) (Stands net w from)
+      → IsForwarded net w r x m (is_for_us s) (ends_as s decision_table) (Stands net w from)
   exits_to_sibling m far other taken later own own_is =
       let at = u.path.place in
       let ss = u.path.segments in

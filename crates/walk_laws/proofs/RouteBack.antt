@@ -26,7 +26,7 @@ module _ (w : Route) where
       let same = ap (hops_in w.segments) k in
       record { segment = let k' = on.segment in omega arith; position = let i = on.position in omega arith }
 
-  -- the hop before, on the way back, is the one behind
+  -- the hop before, on the way back, is the one after
   pub after_back : (at : Place) → IsOn b (after at) → after (there (after at)) ≡ there at
   after_back at on =
       let i : hops_in (way_back w) at.segment - 1 - (at.position + 1) + 1 ≡ hops_in (way_back w) at.segment - 1 - at.position = let i = on.position in omega arith in

@@ -1,7 +1,7 @@
 -- A packet that sets out on a route stands on it.
 use Rattle.std.proofs.Common.{ℕ, false, sym, ap, subst, ◌∙◌, arith, inl, inr}
 use Rattle.scion_packet.specs.Path.{Place, place_at}
-use Rattle.process_packet.specs.Standing.{is_first_of_path}
+use Rattle.process_packet.specs.PacketState.{is_first_of_path}
 use Rattle.process_packet.specs.Net.{Agrees, Net}
 use Rattle.walk_laws.specs.Domain.{IsOf}
 use Rattle.walk_laws.specs.Route.{IsOn, IsRoute, Route, after, info_of}

@@ -17,19 +17,19 @@ use Rattle.process_packet.specs.Neighbours.{link_kind}
 use Rattle.process_packet.specs.Network.{Network, is_local, own_link}
 use Rattle.process_packet.specs.Rows.{Verdict, delivered, known_pair}
 use Rattle.process_packet.specs.Request.{is_request}
-use Rattle.process_packet.specs.Standing.{hop, ingress, ingress_alert, Standing, arrival_kind, chained_id, changed_over, entry_place, is_along, is_external, is_first_of_path, packet}
+use Rattle.process_packet.specs.PacketState.{hop, ingress, ingress_alert, PacketState, arrival_kind, chained_id, changed_over, entry_place, is_along, is_external, is_first_of_path, packet}
 use Rattle.process_packet.specs.Net.{Agrees, Net, Router, router_at}
 use Rattle.walk_laws.specs.Domain.{IsOf}
 use Rattle.walk_laws.specs.Route.{IsBefore, IsHopOf, IsOn, IsRoute, Joins, Route, after, info_of, last_in, way_in}
 use Rattle.process_packet.proofs.Coming.{ComesAsItShould}
 use Rattle.process_packet.specs.Shown.{StandsToLeave, asks_entry, is_for_us, turned}
 use Rattle.walk_laws.specs.Stands.{PacketAt, IsOnItsWay, Stands, StandsInside, StandsOutside, place_of}
-use Rattle.walk_laws.specs.Stop.{GoesOn, IsAsked, progress, standing, verdict_at}
+use Rattle.walk_laws.specs.Stop.{IsForwarded, IsAsked, progress, packet_state, verdict_at}
 use Rattle.process_packet.proofs.RowsPassed.{delivers, replies_at_entry}
 use Rattle.walk_laws.proofs.IdLemmas.{hop_is, ids_over, not_along, size_is, turned_id}
 use Rattle.process_packet.proofs.KeptLemmas.{IsKept, place_kept, turned_kept}
 use Rattle.walk_laws.proofs.AddressLemmas.{ends as local_end}
-use Rattle.walk_laws.proofs.ReadLemmas.{flag_read, along_read, followed_read, goes_further, is_followed_by, is_no_end, last_read, mac_read, unexpired_read}
+use Rattle.walk_laws.proofs.ReadLemmas.{flag_read, along_read, followed_read, not_last_of_segment, is_followed_by, is_no_end, last_read, mac_read, unexpired_read}
 use Rattle.walk_laws.proofs.ComesLemmas.{comes_inside, comes_outside, external, ids_in, ids_same_in, internal}
 use Rattle.walk_laws.proofs.LeavesLemmas.{AtItsExit, exits_by_link, exits_to_sibling, three_true}
 
@@ -77,19 +77,19 @@ module _ (net : Net) (w : Route) (from : Place) (moment : ℕ) (a : PacketAt) (a
   abbrev bytes : List ℕ
   bytes = spelling a.packet
 
-  came : ComesAsItShould (standing o.here.network a moment bytes)
+  came : ComesAsItShould (packet_state o.here.network a moment bytes)
   came = comes_outside net w from moment a bytes route way o way.short (packet_passes bytes a.packet (record { lawful = way.lawful; text = refl }))
 
-  for_us : is_for_us (standing o.here.network a moment bytes) ≡ is_last_of_path w.segments (place_of a)
+  for_us : is_for_us (packet_state o.here.network a moment bytes) ≡ is_last_of_path w.segments (place_of a)
   for_us =
       ap (λ (b : Bool). b && is_local o.here.network a.packet.header.destination) (external net w from moment a bytes route way o o.here)
       ∙ local_end net w moment route from a.packet.header way.addressed (place_of a) o.here o.on o.home
 
   -- where its hop field asks the router of entry to answer
-  asked_in : asks_entry (standing o.here.network a moment bytes) ≡ true → IsAsked w a.packet.header.next_header a.packet.payload (ends_as (standing o.here.network a moment bytes) decision_table)
+  asked_in : asks_entry (packet_state o.here.network a moment bytes) ≡ true → IsAsked w a.packet.header.next_header a.packet.payload (ends_as (packet_state o.here.network a moment bytes) decision_table)
   asked_in asks =
-      let s : Standing = standing o.here.network a moment bytes in
-      let t : Standing = turned s in
+      let s : PacketState = packet_state o.here.network a moment bytes in
+      let t : PacketState = turned s in
       let within = ids_in net w from moment a bytes route way o o.here in
       let parts = three_true (is_external s) (ingress_alert t) (is_request a.packet.header.next_header a.packet.payload) asks in
       record {
@@ -102,21 +102,21 @@ module _ (net : Net) (w : Route) (from : Place) (moment : ℕ) (a : PacketAt) (a
       }
 
   pub ends_outside : is_last_of_path w.segments (place_of a) ≡ true
-      → (ends_as (standing o.here.network a moment bytes) decision_table ≡ delivered o.here.network (packet (turned (standing o.here.network a moment bytes))))
-      ⊎ IsAsked w a.packet.header.next_header a.packet.payload (ends_as (standing o.here.network a moment bytes) decision_table)
-  ends_outside last = elim (cases_Bool (asks_entry (standing o.here.network a moment bytes))) [
+      → (ends_as (packet_state o.here.network a moment bytes) decision_table ≡ delivered o.here.network (packet (turned (packet_state o.here.network a moment bytes))))
+      ⊎ IsAsked w a.packet.header.next_header a.packet.payload (ends_as (packet_state o.here.network a moment bytes) decision_table)
+  ends_outside last = elim (cases_Bool (asks_entry (packet_state o.here.network a moment bytes))) [
     | inl asks ↦ inr (asked_in asks)
-    | inr quiet ↦ inl (delivers (standing o.here.network a moment bytes) came quiet (for_us ∙ last))
+    | inr quiet ↦ inl (delivers (packet_state o.here.network a moment bytes) came quiet (for_us ∙ last))
   ]
 
-  came_by : arrival_kind (standing o.here.network a moment bytes) ≡ Some (w.kind_in (place_of a))
+  came_by : arrival_kind (packet_state o.here.network a moment bytes) ≡ Some (w.kind_in (place_of a))
   came_by =
-      cond-true (is_external (standing o.here.network a moment bytes)) _ _ (external net w from moment a bytes route way o o.here)
+      cond-true (is_external (packet_state o.here.network a moment bytes)) _ _ (external net w from moment a bytes route way o o.here)
       ∙ ap (λ (l : Option Link). option_map link_kind l) o.own_is ∙ ap (λ (k : LinkKind). Some k) o.kind
 
-  taken_in : IsKept a.packet (packet (turned (standing o.here.network a moment bytes)))
+  taken_in : IsKept a.packet (packet (turned (packet_state o.here.network a moment bytes)))
   taken_in =
-      let s : Standing = standing o.here.network a moment bytes in
+      let s : PacketState = packet_state o.here.network a moment bytes in
       let at = place_of a in
       let hop_here : IsHopOf net w moment at = route.hop at o.on in
       let test : (is_external s && not (is_along s)) ≡ not (info_of w at).along =
@@ -126,17 +126,17 @@ module _ (net : Net) (w : Route) (from : Place) (moment : ℕ) (a : PacketAt) (a
       way.lawful
 
   -- by the hop itself
-  straight_on : asks_entry (standing o.here.network a moment bytes) ≡ false → (place_of a).position + 1 < hops_in w.segments (place_of a).segment
-      → AtItsExit net w from a.router o.here (standing o.here.network a moment bytes) (turned (standing o.here.network a moment bytes))
+  straight_on : asks_entry (packet_state o.here.network a moment bytes) ≡ false → (place_of a).position + 1 < hops_in w.segments (place_of a).segment
+      → AtItsExit net w from a.router o.here (packet_state o.here.network a moment bytes) (turned (packet_state o.here.network a moment bytes))
   straight_on quiet more =
       let x : Router = o.here in
-      let s : Standing = standing x.network a moment bytes in
-      let t : Standing = turned s in
+      let s : PacketState = packet_state x.network a moment bytes in
+      let t : PacketState = turned s in
       let at = place_of a in
       let within = ids_in net w from moment a bytes route way o x in
       let on = o.on in
       let next : IsOn w (after at) = record { segment = on.segment; position = more } in
-      let stays : changes t ≡ false = ap (λ (b : Bool). b && is_followed t.path.segments at) (last_read w false at t.path.segments within ∙ goes_further w.segments at more) in
+      let stays : changes t ≡ false = ap (λ (b : Bool). b && is_followed t.path.segments at) (last_read w false at t.path.segments within ∙ not_last_of_segment w.segments at more) in
       let kept = taken_in in
       record {
         comes = came;
@@ -154,13 +154,13 @@ module _ (net : Net) (w : Route) (from : Place) (moment : ℕ) (a : PacketAt) (a
       }
 
   -- by the first hop of the next segment
-  changed : asks_entry (standing o.here.network a moment bytes) ≡ false → (place_of a).position + 1 ≡ hops_in w.segments (place_of a).segment → (place_of a).segment + 1 < length w.segments
-      → AtItsExit net w from a.router o.here (standing o.here.network a moment bytes) (changed_over (turned (standing o.here.network a moment bytes)))
+  changed : asks_entry (packet_state o.here.network a moment bytes) ≡ false → (place_of a).position + 1 ≡ hops_in w.segments (place_of a).segment → (place_of a).segment + 1 < length w.segments
+      → AtItsExit net w from a.router o.here (packet_state o.here.network a moment bytes) (changed_over (turned (packet_state o.here.network a moment bytes)))
   changed quiet last followed =
       let x : Router = o.here in
-      let s : Standing = standing x.network a moment bytes in
-      let t : Standing = turned s in
-      let u : Standing = changed_over t in
+      let s : PacketState = packet_state x.network a moment bytes in
+      let t : PacketState = turned s in
+      let u : PacketState = changed_over t in
       let at = place_of a in
       let e : Place = place_at (at.segment + 1) 0 in
       let within = ids_in net w from moment a bytes route way o x in
@@ -203,14 +203,14 @@ module _ (net : Net) (w : Route) (from : Place) (moment : ℕ) (a : PacketAt) (a
   own_at : (p : Place) → p ≡ place_of a → own_link o.here.network (way_in w p) ≡ Some o.own
   own_at p same = ap (λ (q : Place). own_link o.here.network (way_in w q)) same ∙ ap (own_link o.here.network) (sym o.link) ∙ o.own_is
 
-  leaves_outside : asks_entry (standing o.here.network a moment bytes) ≡ false → is_last_of_path w.segments (place_of a) ≡ false
-      → GoesOn net w a.router o.here (progress w a) (is_for_us (standing o.here.network a moment bytes)) (ends_as (standing o.here.network a moment bytes) decision_table) (Stands net w from)
-      ⊎ IsAsked w a.packet.header.next_header a.packet.payload (ends_as (standing o.here.network a moment bytes) decision_table)
+  leaves_outside : asks_entry (packet_state o.here.network a moment bytes) ≡ false → is_last_of_path w.segments (place_of a) ≡ false
+      → IsForwarded net w a.router o.here (progress w a) (is_for_us (packet_state o.here.network a moment bytes)) (ends_as (packet_state o.here.network a moment bytes) decision_table) (Stands net w from)
+      ⊎ IsAsked w a.packet.header.next_header a.packet.payload (ends_as (packet_state o.here.network a moment bytes) decision_table)
   leaves_outside quiet more =
       let x : Router = o.here in
-      let s : Standing = standing x.network a moment bytes in
-      let t : Standing = turned s in
-      let u : Standing = changed_over t in
+      let s : PacketState = packet_state x.network a moment bytes in
+      let t : PacketState = turned s in
+      let u : PacketState = changed_over t in
       let at = place_of a in
       let e : Place = place_at (at.segment + 1) 0 in
       let on = o.on in
@@ -250,9 +250,9 @@ module _ (net : Net) (w : Route) (from : Place) (moment : ℕ) (a : PacketAt) (a
       ]
 
   pub goes_on_outside : is_last_of_path w.segments (place_of a) ≡ false
-      → GoesOn net w a.router o.here (progress w a) (is_for_us (standing o.here.network a moment bytes)) (ends_as (standing o.here.network a moment bytes) decision_table) (Stands net w from)
-      ⊎ IsAsked w a.packet.header.next_header a.packet.payload (ends_as (standing o.here.network a moment bytes) decision_table)
-  goes_on_outside more = elim (cases_Bool (asks_entry (standing o.here.network a moment bytes))) [
+      → IsForwarded net w a.router o.here (progress w a) (is_for_us (packet_state o.here.network a moment bytes)) (ends_as (packet_state o.here.network a moment bytes) decision_table) (Stands net w from)
+      ⊎ IsAsked w a.packet.header.next_header a.packet.payload (ends_as (packet_state o.here.network a moment bytes) decision_table)
+  goes_on_outside more = elim (cases_Bool (asks_entry (packet_state o.here.network a moment bytes))) [
     | inl asks ↦ inr (asked_in asks)
     | inr quiet ↦ leaves_outside quiet more
   ]
@@ -264,17 +264,17 @@ module _ (net : Net) (w : Route) (from : Place) (moment : ℕ) (a : PacketAt) (a
   abbrev text : List ℕ
   text = spelling a.packet
 
-  pub goes_on_inside : GoesOn net w a.router i.here (progress w a) (is_for_us (standing i.here.network a moment text)) (ends_as (standing i.here.network a moment text) decision_table) (Stands net w from)
-      ⊎ IsAsked w a.packet.header.next_header a.packet.payload (ends_as (standing i.here.network a moment text) decision_table)
+  pub goes_on_inside : IsForwarded net w a.router i.here (progress w a) (is_for_us (packet_state i.here.network a moment text)) (ends_as (packet_state i.here.network a moment text) decision_table) (Stands net w from)
+      ⊎ IsAsked w a.packet.header.next_header a.packet.payload (ends_as (packet_state i.here.network a moment text) decision_table)
   goes_on_inside =
       let x : Router = i.here in
-      let s : Standing = standing x.network a moment text in
-      let t : Standing = turned s in
+      let s : PacketState = packet_state x.network a moment text in
+      let t : PacketState = turned s in
       let at = place_of a in
       let inner = internal net w from moment a text agrees route way i x in
       let within = ids_same_in net w from moment a text agrees route way i x in
       let next = i.more in
-      let stays : changes t ≡ false = ap (λ (b : Bool). b && is_followed t.path.segments at) (last_read w false at t.path.segments within ∙ goes_further w.segments at next.position) in
+      let stays : changes t ≡ false = ap (λ (b : Bool). b && is_followed t.path.segments at) (last_read w false at t.path.segments within ∙ not_last_of_segment w.segments at next.position) in
       let kept : IsKept a.packet (packet t) =
       turned_kept a.packet (is_external s && not (is_along s)) (chained_id s)
       (λ against. let never : true ≡ false = sym against ∙ ap (λ (b : Bool). b && not (is_along s)) inner in absurd cc) way.lawful in
@@ -303,7 +303,7 @@ same_here net r x y one other = let is : Some x ≡ Some y = sym one ∙ other i
 
 -- what the decision reads of a packet's text is the packet
 pub decides : (n : Network) (a : PacketAt) (moment : ℕ) → IsPacket a.packet
-    → verdict n a.link a.source moment (spelling a.packet) ≡ ends_as (standing n a moment (spelling a.packet)) decision_table
+    → verdict n a.link a.source moment (spelling a.packet) ≡ ends_as (packet_state n a moment (spelling a.packet)) decision_table
 unfolding verdict
 decides n a moment lawful =
     let bytes = spelling a.packet in
@@ -312,27 +312,27 @@ decides n a moment lawful =
 
 pub ends : (net : Net) (w : Route) (from : Place) (moment : ℕ) (a : PacketAt) (x : Router)
     → Agrees net → IsRoute net w moment → Stands net w from a → router_at net a.router ≡ Some x → is_last_of_path w.segments (place_of a) ≡ true
-    → (verdict_at x a moment ≡ delivered x.network (packet (turned (standing x.network a moment (spelling a.packet)))))
+    → (verdict_at x a moment ≡ delivered x.network (packet (turned (packet_state x.network a moment (spelling a.packet)))))
     ⊎ IsAsked w a.packet.header.next_header a.packet.payload (verdict_at x a moment)
 ends net w from moment a x agrees route stands here last =
     let bytes = spelling a.packet in
-    let told = λ (v : Verdict) (y : Router). (v ≡ delivered y.network (packet (turned (standing y.network a moment bytes)))) ⊎ IsAsked w a.packet.header.next_header a.packet.payload v in
+    let told = λ (v : Verdict) (y : Router). (v ≡ delivered y.network (packet (turned (packet_state y.network a moment bytes)))) ⊎ IsAsked w a.packet.header.next_header a.packet.payload v in
     elim stands.there [
       | inl o ↦
           subst (λ (v : Verdict). told v x) (sym (decides x.network a moment stands.way.lawful))
-          (subst (λ (y : Router). told (ends_as (standing y.network a moment bytes) decision_table) y) (same_here net a.router o.here x o.here_is here)
+          (subst (λ (y : Router). told (ends_as (packet_state y.network a moment bytes) decision_table) y) (same_here net a.router o.here x o.here_is here)
           (ends_outside net w from moment a agrees route stands.way o last))
       | inr i ↦ let more = i.more in let never : true ≡ false = sym last ∙ is_no_end w.segments (place_of a) more.position in absurd cc
     ]
 
 pub goes_on : (net : Net) (w : Route) (from : Place) (moment : ℕ) (a : PacketAt) (x : Router)
     → Agrees net → IsRoute net w moment → Stands net w from a → router_at net a.router ≡ Some x → is_last_of_path w.segments (place_of a) ≡ false
-    → GoesOn net w a.router x (progress w a) (is_for_us (standing x.network a moment (spelling a.packet))) (verdict_at x a moment) (Stands net w from)
+    → IsForwarded net w a.router x (progress w a) (is_for_us (packet_state x.network a moment (spelling a.packet))) (verdict_at x a moment) (Stands net w from)
     ⊎ IsAsked w a.packet.header.next_header a.packet.payload (verdict_at x a moment)
 goes_on net w from moment a x agrees route stands here more =
     let bytes = spelling a.packet in
-    let told = λ (v : Verdict) (y : Router). GoesOn net w a.router y (progress w a) (is_for_us (standing y.network a moment (spelling a.packet))) v (Stands net w from) ⊎ IsAsked w a.packet.header.next_header a.packet.payload v in
+    let told = λ (v : Verdict) (y : Router). IsForwarded net w a.router y (progress w a) (is_for_us (packet_state y.network a moment (spelling a.packet))) v (Stands net w from) ⊎ IsAsked w a.packet.header.next_header a.packet.payload v in
     subst (λ (v : Verdict). told v x) (sym (decides x.network a moment stands.way.lawful)) (elim stands.there [
-      | inl o ↦ subst (λ (y : Router). told (ends_as (standing y.network a moment bytes) decision_table) y) (same_here net a.router o.here x o.here_is here) (goes_on_outside net w from moment a agrees route stands.way o more)
-      | inr i ↦ subst (λ (y : Router). told (ends_as (standing y.network a moment bytes) decision_table) y) (same_here net a.router i.here x i.here_is here) (goes_on_inside net w from moment a agrees route stands.way i)
+      | inl o ↦ subst (λ (y : Router). told (ends_as (packet_state y.network a moment bytes) decision_table) y) (same_here net a.router o.here x o.here_is here) (goes_on_outside net w from moment a agrees route stands.way o more)
+      | inr i ↦ subst (λ (y : Router). told (ends_as (packet_state y.network a moment bytes) decision_table) y) (same_here net a.router i.here x i.here_is here) (goes_on_inside net w from moment a agrees route stands.way i)
     ])

@@ -9,7 +9,7 @@ use Rattle.process_packet.specs.Request.{is_request}
 use Rattle.process_packet.specs.Laws.{IsMoved}
 use Rattle.process_packet.specs.Rows.{Sent}
 use Rattle.process_packet.specs.declared.underlay.Underlay.{Underlay}
-use Rattle.process_packet.specs.Standing.{arrives}
+use Rattle.process_packet.specs.PacketState.{arrives}
 use Rattle.process_packet.proofs.LawLemmas.{is_moved, told}
 use Rattle.scion_packet.specs.Path.{Place, Segment, count_hops, hop_number}
 use Rattle.scion_packet.specs.Places.{is_last_of_path, no_segment}

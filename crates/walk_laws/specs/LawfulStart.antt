@@ -17,7 +17,7 @@ use Rattle.walk_laws.specs.Route.{IsRoute}
 use Rattle.walk_laws.specs.Start.{outset}
 use Rattle.walk_laws.specs.Stands.{PacketAt, IsHostOf}
 use Rattle.process_packet.specs.Shown.{is_for_us}
-use Rattle.walk_laws.specs.Stop.{IsCarried, standing, verdict_at}
+use Rattle.walk_laws.specs.Stop.{IsCarried, packet_state, verdict_at}
 use Rattle.walk_laws.specs.Walk.{Walks}
 
 -- ---- the hosts
@@ -78,7 +78,7 @@ pub record ReachesHost (net : Net) (moment n : ℕ) (a : PacketAt) (host : HostA
   pub here_is : router_at net end.router ≡ Some here
   pub home : IsHostOf host (domain_of here)
   pub lawful : IsPacket end.packet
-  pub for_us : is_for_us (standing here.network end moment (spelling end.packet)) ≡ true
+  pub for_us : is_for_us (packet_state here.network end moment (spelling end.packet)) ≡ true
   pub to : Underlay
   pub address : IsReachedAt here.network host to
   pub sent : Packet
@@ -90,7 +90,7 @@ pub record ReachesHost (net : Net) (moment n : ℕ) (a : PacketAt) (host : HostA
 pub data WalksBy (net : Net) (moment : ℕ) (such : PacketAt → Type 0) : ℕ → PacketAt → PacketAt → Type 0 where
   is_there : {n : ℕ} {a : PacketAt} → such a → WalksBy net moment such n a a
   goes : {n : ℕ} {a b z : PacketAt} (x : Router) (out : ℕ) (to : Option Underlay) → such a → router_at net a.router ≡ Some x
-      → is_for_us (standing x.network a moment (spelling a.packet)) ≡ false → verdict_at x a moment ≡ Sent out to b.packet → IsCarried net a.router x out to b → WalksBy net moment such n b z → WalksBy net moment such (suc n) a z
+      → is_for_us (packet_state x.network a moment (spelling a.packet)) ≡ false → verdict_at x a moment ≡ Sent out to b.packet → IsCarried net a.router x out to b → WalksBy net moment such n b z → WalksBy net moment such (suc n) a z
 
 -- ---- the laws
 

@@ -9,15 +9,15 @@ use Rattle.process_packet.specs.Decide.{verdict}
 use Rattle.process_packet.specs.Network.{Network, own_link}
 use Rattle.process_packet.specs.Rows.{Sent, Verdict, delivered, traceroute_reply}
 use Rattle.process_packet.specs.Request.{is_request}
-use Rattle.process_packet.specs.Standing.{Standing, packet}
+use Rattle.process_packet.specs.PacketState.{PacketState, packet}
 use Rattle.process_packet.specs.Net.{Agrees, AreOfOneAS, Joined, Net, Router, end_at, router_at}
 use Rattle.walk_laws.specs.Route.{IsOn, IsRoute, Route, hop_of}
 use Rattle.process_packet.specs.Shown.{is_for_us, turned}
 use Rattle.walk_laws.specs.Stands.{PacketAt, Stands, place_of}
 
 -- a packet that comes so, as the rows of the decision see it
-abbrev pub standing : Network → PacketAt → ℕ → List ℕ → Standing
-standing n a moment bytes = record {
+abbrev pub packet_state : Network → PacketAt → ℕ → List ℕ → PacketState
+packet_state n a moment bytes = record {
   network = n;
   link = a.link;
   source = a.source;
@@ -42,7 +42,7 @@ abbrev pub progress : Route → PacketAt → ℕ
 progress w a = 2 * hop_number w.segments (place_of a) + (if a.link == 0 then 1 else 0)
 
 -- It isn't for this router's AS, is sent on, farther than it came so far, and stands on the route where it comes to.
-pub record GoesOn (net : Net) (w : Route) (r : ℕ) (x : Router) (so_far : ℕ) (for_us : Bool) (v : Verdict) (next : PacketAt → Type 0) : Type 0 where
+pub record IsForwarded (net : Net) (w : Route) (r : ℕ) (x : Router) (so_far : ℕ) (for_us : Bool) (v : Verdict) (next : PacketAt → Type 0) : Type 0 where
   pub others : for_us ≡ false
   pub out : ℕ
   pub to : Option Underlay
@@ -73,11 +73,11 @@ verdict_at x a moment = verdict x.network a.link a.source moment (spelling a.pac
 pub record OneStop : Type 0 where
   pub ends : (net : Net) (w : Route) (from : Place) (moment : ℕ) (a : PacketAt) (x : Router)
       → Agrees net → IsRoute net w moment → Stands net w from a → router_at net a.router ≡ Some x → is_last_of_path w.segments (place_of a) ≡ true
-      → (verdict_at x a moment ≡ delivered x.network (packet (turned (standing x.network a moment (spelling a.packet)))))
+      → (verdict_at x a moment ≡ delivered x.network (packet (turned (packet_state x.network a moment (spelling a.packet)))))
       ⊎ IsAsked w a.packet.header.next_header a.packet.payload (verdict_at x a moment)
   pub goes_on : (net : Net) (w : Route) (from : Place) (moment : ℕ) (a : PacketAt) (x : Router)
       → Agrees net → IsRoute net w moment → Stands net w from a → router_at net a.router ≡ Some x → is_last_of_path w.segments (place_of a) ≡ false
-      → GoesOn net w a.router x (progress w a) (is_for_us (standing x.network a moment (spelling a.packet))) (verdict_at x a moment) (Stands net w from)
+      → IsForwarded net w a.router x (progress w a) (is_for_us (packet_state x.network a moment (spelling a.packet))) (verdict_at x a moment) (Stands net w from)
       ⊎ IsAsked w a.packet.header.next_header a.packet.payload (verdict_at x a moment)
 
 -- In a net that agrees a packet that is sent comes to one router only, the same way.

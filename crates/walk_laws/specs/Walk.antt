@@ -5,12 +5,12 @@ use Rattle.scion_packet.specs.Path.{Place}
 use Rattle.scion_packet.specs.Places.{is_last_of_path}
 use Rattle.process_packet.specs.declared.underlay.Underlay.{Underlay}
 use Rattle.process_packet.specs.Rows.{Sent, delivered}
-use Rattle.process_packet.specs.Standing.{packet}
+use Rattle.process_packet.specs.PacketState.{packet}
 use Rattle.process_packet.specs.Net.{Agrees, Net, Router, router_at}
 use Rattle.walk_laws.specs.Route.{IsRoute, Route}
 use Rattle.process_packet.specs.Shown.{turned}
 use Rattle.walk_laws.specs.Stands.{PacketAt, IsUnasked, Stands, place_of}
-use Rattle.walk_laws.specs.Stop.{IsAsked, IsCarried, standing, verdict_at}
+use Rattle.walk_laws.specs.Stop.{IsAsked, IsCarried, packet_state, verdict_at}
 
 -- from one stop to another one, over at most so many others
 pub data Walks (net : Net) (moment : ℕ) : ℕ → PacketAt → PacketAt → Type 0 where
@@ -28,7 +28,7 @@ pub record IsDelivered (net : Net) (w : Route) (from : Place) (moment n : ℕ) (
   pub last : is_last_of_path w.segments (place_of end) ≡ true
   pub here : Router
   pub here_is : router_at net end.router ≡ Some here
-  pub delivery : verdict_at here end moment ≡ delivered here.network (packet (turned (standing here.network end moment (spelling end.packet))))
+  pub delivery : verdict_at here end moment ≡ delivered here.network (packet (turned (packet_state here.network end moment (spelling end.packet))))
 
 -- The walk ends where a router is asked to answer a request, and answers it.
 pub record EndsAsked (net : Net) (w : Route) (from : Place) (moment n : ℕ) (a : PacketAt) : Type 0 where

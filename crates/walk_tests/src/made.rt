@@ -101,7 +101,7 @@ fn push(rt: &(impl AllocGlobal + Abort), text: &mut String, more: &str) {
     text.push_str(more).expect(rt, "text");
 }
 
-/// The link by which the segment enters an AS, or leaves it. The wire behind AS k is number k.
+/// The link by which the segment enters an AS, or leaves it. The wire after AS k is number k.
 fn push_link(
     rt: &(impl AllocGlobal + Abort),
     text: &mut String,

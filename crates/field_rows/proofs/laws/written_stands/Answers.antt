@@ -1,5 +1,5 @@
-use Rattle.field_rows.proofs.Rows.{Puts-before, Puts-behind, Puts-length, Puts-stands}
+use Rattle.field_rows.proofs.Rows.{Puts-before, Puts-after, Puts-length, Puts-stands}
 use Rattle.field_rows.proofs.laws.written_stands.Goals as goal
 
 pub returns : goal.returns
-returns c = record { there = Puts-stands; before = Puts-before; behind = Puts-behind; len = Puts-length }
+returns c = record { there = Puts-stands; before = Puts-before; after = Puts-after; len = Puts-length }

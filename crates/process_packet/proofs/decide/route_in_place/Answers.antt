@@ -2,8 +2,8 @@ use Rattle.std.proofs.Common.{refl, sym, ap, ◌∙◌}
 use Rattle.process_packet.specs.Decide.{decision_of, moved_by}
 use Rattle.process_packet.specs.Network.{network}
 use Rattle.process_packet.specs.Rows.{Verdict}
-use Rattle.process_packet.specs.Standing.{arrives}
-use Rattle.process_packet.proofs.FrontLemmas.{datagram_passed, datagram_refused, leaves, refusal_keeps, room_for}
+use Rattle.process_packet.specs.PacketState.{arrives}
+use Rattle.process_packet.proofs.ParsedHeadersLemmas.{datagram_passed, datagram_refused, leaves, refusal_keeps, room_for}
 use Rattle.process_packet.proofs.decide.route_in_place.Goals as goal
 
 pub returns-in-Err-clause-decision : goal.returns-in-Err-clause-decision
@@ -20,13 +20,13 @@ returns-in-Err-clause-bytes c =
 
 pub write-requires-clause-entered : goal.write-requires-clause-entered
 write-requires-clause-entered c =
-    let front = c.in-Ok.ensures.front in
-    room_for c.args.bytes.now _ _ c.in-Ok-depart.departure.entered c.in-Ok.front.meta front.begin front.end front.meta c.in-Ok-depart.ensures.entered
+    let headers = c.in-Ok.ensures.headers in
+    room_for c.args.bytes.now _ _ c.in-Ok-depart.departure.entered c.in-Ok.headers.meta headers.begin headers.end headers.meta c.in-Ok-depart.ensures.entered
 
 pub write-requires-clause-left : goal.write-requires-clause-left
 write-requires-clause-left c =
-    let front = c.in-Ok.ensures.front in
-    room_for c.args.bytes.now _ _ c.in-Ok-depart.departure.left c.in-Ok.front.meta front.begin front.end front.meta c.in-Ok-depart.ensures.left
+    let headers = c.in-Ok.ensures.headers in
+    room_for c.args.bytes.now _ _ c.in-Ok-depart.departure.left c.in-Ok.headers.meta headers.begin headers.end headers.meta c.in-Ok-depart.ensures.left
 
 pub returns-in-Ok-depart-clause-decision : goal.returns-in-Ok-depart-clause-decision
 returns-in-Ok-depart-clause-decision c =
@@ -39,10 +39,10 @@ pub returns-in-Ok-depart-clause-bytes : goal.returns-in-Ok-depart-clause-bytes
 returns-in-Ok-depart-clause-bytes c =
     let n = network c.args.config.now in
     let s = arrives n c.args.link c.args.source c.args.now c.args.bytes.now in
-    let front = c.in-Ok.ensures.front in
+    let headers = c.in-Ok.ensures.headers in
     let verdict = datagram_passed n c.args.link c.args.source c.args.now c.args.bytes.now (c.in-Ok.ensures.says s refl) in
-    leaves c.args.bytes.now c.write.new.path c.in-Ok.front.path_begin c.in-Ok.front.path_end c.in-Ok-depart.departure _ front.are front.sound front.meta.lawful
-    front.begin front.end front.order c.in-Ok-depart.ensures c.write.ensures
+    leaves c.args.bytes.now c.write.new.path c.in-Ok.headers.path_begin c.in-Ok.headers.path_end c.in-Ok-depart.departure _ headers.are headers.sound headers.meta.lawful
+    headers.begin headers.end headers.order c.in-Ok-depart.ensures c.write.ensures
     ∙ sym (ap (λ (v : Verdict). moved_by v c.args.bytes.now) verdict)
 
 pub returns-in-Err-depart-clause-decision : goal.returns-in-Err-depart-clause-decision

@@ -1,6 +1,6 @@
 use Rattle.std.proofs.Common.{refl}
 use Rattle.scion_packet.specs.Packet.{packet_of}
-use Rattle.process_packet.specs.Standing.{arrives}
+use Rattle.process_packet.specs.PacketState.{arrives}
 use Rattle.process_packet.proofs.LawLemmas.{is_moved, told}
 use Rattle.process_packet.proofs.laws.nothing_else_changes.Goals as goal
 

@@ -1,4 +1,4 @@
-use Rattle.process_packet.specs.Standing.{arrives}
+use Rattle.process_packet.specs.PacketState.{arrives}
 use Rattle.process_packet.proofs.LawLemmas.{came_in, told}
 use Rattle.process_packet.proofs.laws.only_authorised.Goals as goal
 

@@ -1,4 +1,4 @@
-use Rattle.process_packet.specs.Standing.{arrives}
+use Rattle.process_packet.specs.PacketState.{arrives}
 use Rattle.process_packet.proofs.LawLemmas.{left_lawfully, told}
 use Rattle.process_packet.proofs.laws.only_lawful_ways.Goals as goal
 

@@ -1,7 +1,7 @@
 use Rattle.std.proofs.Common.{ap, arith}
 use Rattle.process_packet.specs.Decide.{decision_of}
 use Rattle.process_packet.specs.Network.{network}
-use Rattle.process_packet.proofs.FrontLemmas.{too_long_dropped}
+use Rattle.process_packet.proofs.ParsedHeadersLemmas.{too_long_dropped}
 use Rattle.process_packet.proofs.routed.route.Goals as goal
 
 pub returns-then-len-gt-LONGEST_DATAGRAM : goal.returns-then-len-gt-LONGEST_DATAGRAM

@@ -52,4 +52,4 @@ returns c p header-is payload-is =
     let room : at + 24 ≤ 1232 = omega (arith, c.host_len.ensures.small, c.host_len-2.ensures.small, c.path_len.ensures.small) in
     is_written here p w bytes problem h q c.args.out.now c.write_front.new.out c.write_message.new.out c.seal.new.out front at len
     at-is len-is q-is h-is c.write_front.ensures second c.seal.ensures.text front-is path-is
-    c.write_message.ensures.are c.seal.ensures.are (c.lawful.ensures c.answer_header-header.result) c.path_len.ensures.lawful fours even room
+    c.write_message.ensures.are c.seal.ensures.are (c.header_is_lawful.ensures c.answer_header-header.result) c.path_len.ensures.lawful fours even room

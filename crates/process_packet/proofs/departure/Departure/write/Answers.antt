@@ -1,5 +1,5 @@
 use Rattle.std.proofs.Common.{arith}
-use Rattle.process_packet.specs.Sight.{with_id}
+use Rattle.process_packet.specs.PacketView.{with_id}
 use Rattle.process_packet.proofs.AlikeLemmas.{alike_with}
 use Rattle.process_packet.proofs.departure.Departure.write.Goals as goal
 

@@ -1,8 +1,0 @@
-use Rattle.path_fields.proofs.SegmentLemmas as lemmas
-use Rattle.path_fields.proofs.laws.lawful.Goals as goal
-
-pub returns-clause-path : goal.returns-clause-path
-returns-clause-path c = lemmas.lawful
-
-pub returns-clause-len : goal.returns-clause-len
-returns-clause-len c = lemmas.text_len
