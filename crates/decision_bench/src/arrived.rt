@@ -7,16 +7,21 @@ use process_packet::{Ip, Underlay};
 #[repr(C)]
 #[derive(Clone, Copy)]
 pub struct Arrived {
+    /// Where it begins among the bytes.
     pub begin: usize,
+    /// Where it ends, exclusive.
     pub end: usize,
     /// When it arrived, in seconds of Unix time.
     pub moment: u64,
-    /// The underlay's source, an IPv4 address and a port.
+    /// The IPv4 address of the underlay's source.
     pub address: u32,
+    /// Its port.
     pub port: u16,
     /// The link by which it came; 0 is the internal network.
     pub link: u16,
+    /// The places of the five bytes in the datagram.
     pub places: [u16; 5],
+    /// What they were when it arrived.
     pub values: [u8; 5],
 }
 

@@ -15,8 +15,9 @@ pub struct Told {
     pub what: u64,
     /// The port; of an answer the pointer.
     pub place: u64,
-    /// The address.
+    /// The upper half of the IP address; 0 for IPv4.
     pub high: u64,
+    /// Its lower half.
     pub low: u64,
 }
 

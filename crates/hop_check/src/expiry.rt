@@ -6,7 +6,8 @@ ghost use Rattle.path_fields.specs.Fields.{hop_field, info_field};
 
 use path_fields::{Hop, Info};
 
-/// Whether the hop field is good no more at `now`, in seconds of Unix time. It is good for 337.5
+/// Whether the hop field is good no more at `now`, in seconds of Unix time (draft-dekater-scion-dataplane,
+/// "Hop Field"). It is good for 337.5
 /// seconds for each unit of its expiry and one more, from the segment's timestamp on; at the moment at
 /// which that time is over it still is.
 pub fn expired(info: &Info, hop: &Hop, now: u64) -> bool

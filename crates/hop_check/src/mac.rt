@@ -10,7 +10,8 @@ use field_rows::{put_u8, put_u16, put_u32, u16_at};
 use path_fields::{Hop, Info};
 
 /// What the MAC of a hop field is made over: the segment's identifier (SegID) and timestamp, the hop's
-/// expiry and its two interfaces, in sixteen bytes.
+/// expiry and its two interfaces, in sixteen bytes (draft-dekater-scion-dataplane, "Hop Field MAC
+/// Computation").
 pub fn mac_input(info: &Info, hop: &Hop) -> [u8; 16]
     ensures { result ≡ mac_input info.now.segment_id (info_field info.now) (hop_field hop.now) }
 {

@@ -1,6 +1,7 @@
 ghost use Rattle.std.specs.Prelude.{◌≡◌, ◌<◌, ◌^◌, length};
 
-/// An info field. The peering flag is clear in each, and not kept.
+/// An info field (draft-dekater-scion-dataplane, "SCION Path Type"). The peering flag is clear in each, and
+/// not kept.
 #[derive(Clone, Copy, Debug, PartialEq, Eq)]
 pub struct Info {
     /// The six flags that no standard names, kept as they came.
@@ -19,23 +20,25 @@ pub struct Info {
     pub ghost timestamp_fits: { timestamp < 2 ^ 32 },
 }
 
-/// A hop field.
+/// A hop field (draft-dekater-scion-dataplane, "Hop Field").
 #[derive(Clone, Copy, Debug, PartialEq, Eq)]
 pub struct Hop {
     /// The six flags that no standard names, kept as they came.
     pub reserved_flags: u8,
-    /// Whether the router of the construction ingress is asked to look at the payload (I).
+    /// The ingress router alert (I): whether the router of the construction ingress is asked to look at the
+    /// payload.
     pub ingress_alert: bool,
-    /// The same for the router of the construction egress (E).
+    /// The egress router alert (E): the same for the router of the construction egress.
     pub egress_alert: bool,
     /// How long the hop is good for after the segment's timestamp, in units of 337.5 seconds, less
     /// one (ExpTime).
     pub expiry: u8,
-    /// The interface by which the segment enters the AS in the direction of construction, or 0.
+    /// The interface by which the segment enters the AS in the direction of construction (ConsIngress), or 0
+    /// where the segment begins.
     pub construction_ingress: u16,
-    /// The interface by which the segment leaves it in that direction, or 0.
+    /// The interface by which the segment leaves it in that direction (ConsEgress), or 0 where it ends.
     pub construction_egress: u16,
-    /// The hop's message authentication code.
+    /// The hop's message authentication code (MAC), six bytes.
     pub mac: [u8; 6],
     pub ghost reserved_flags_fit: { reserved_flags < 2 ^ 6 },
     pub ghost expiry_fits: { expiry < 2 ^ 8 },

@@ -10,7 +10,7 @@ ghost use Rattle.path_fields.specs.InPlace.{with_segment_id};
 use field_rows::{put_u8, put_u16};
 
 /// Sets the cursor of the path that the bytes spell: the segment of the current hop (CurrINF), and the
-/// number of the current hop (CurrHF).
+/// number of the current hop (CurrHF). One byte changes.
 pub fn set_cursor(path: &mut [u8], current_info: u8, current_hop: u8)
     requires room { 1 ≤ length path.old }
     requires info { current_info < 4 }
@@ -22,7 +22,8 @@ pub fn set_cursor(path: &mut [u8], current_info: u8, current_hop: u8)
     put_u8(path, 0, current_info * 64 + current_hop);
 }
 
-/// Sets the identifier of a segment (SegID) of the path that the bytes spell.
+/// Sets the identifier of a segment (SegID), counted from 0, of the path that the bytes spell. Two bytes
+/// change.
 pub fn set_seg_id(path: &mut [u8], segment: usize, segment_id: u16)
     requires few { segment < 3 }
     requires room { info_place segment + 8 ≤ length path.old }

@@ -7,7 +7,8 @@ use crate::fault::PathFault;
 use crate::lengths;
 use field_rows::u32_at;
 
-/// The path meta header: the cursor and the segment lengths.
+/// The path meta header: the cursor and the segment lengths (draft-dekater-scion-dataplane, "Path Meta
+/// Header").
 #[derive(Clone, Copy, Debug, PartialEq, Eq)]
 pub struct Meta {
     /// The segment of the current hop (CurrINF), two bits.
@@ -16,7 +17,7 @@ pub struct Meta {
     pub current_hop: u8,
     /// The reserved bits, six of them.
     pub reserved: u8,
-    /// How many hops each segment has, six bits each.
+    /// How many hops each segment has (SegLen), six bits each; 0 for a segment that isn't used.
     pub lengths: [u8; 3],
     pub ghost current_info_fits: { current_info < 2 ^ 2 },
     pub ghost current_hop_fits: { current_hop < 2 ^ 6 },
@@ -43,7 +44,7 @@ impl Meta {
         lengths::hop_count(&self.lengths)
     }
 
-    /// The segment in which a hop lies.
+    /// The segment in which a hop lies, by the hop's number: 2 for any number past the first two segments.
     pub fn segment_of(&self, hop: usize) -> u8
         ensures segment { result ≡ segment_of self.now.lengths hop }
         ensures few { result < 3 }
@@ -80,7 +81,7 @@ impl Meta {
     }
 }
 
-/// The meta header of a path.
+/// The meta header of a path, from its first four bytes. Nothing is tested: `check_path` does that.
 pub fn read_meta(path: &[u8]) -> Meta
     requires { 4 ≤ length path.now }
     ensures info { result.current_info ≡ current_info path.now }

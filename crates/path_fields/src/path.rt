@@ -6,7 +6,8 @@ use crate::fields::{Hop, Info};
 use crate::lengths;
 use arrayvec::ArrayVec;
 
-/// A path of one to three segments and at most 64 hops, and the cursor's place on it.
+/// A path of one to three segments and at most 64 hops, and the cursor's place on it
+/// (draft-dekater-scion-dataplane, "SCION Path Type"). Its type keeps what the tests of `read_path` show.
 #[derive(Debug, PartialEq, Eq, Drop)]
 pub struct Path {
     /// The segment of the current hop (CurrINF).
@@ -17,7 +18,9 @@ pub struct Path {
     pub reserved: u8,
     /// How many hops each segment has, 0 after the last segment.
     pub lengths: [u8; 3],
+    /// The info fields, one for each segment, in the order of travel.
     pub infos: ArrayVec<Info, 3>,
+    /// The hop fields of all segments, in the order of travel.
     pub hops: ArrayVec<Hop, 64>,
     pub ghost reserved_fits: { reserved < 2 ^ 6 },
     pub ghost lengths_are_lawful: { IsTrue (are_lengths lengths) },

@@ -14,7 +14,8 @@ use crate::path::Path;
 use arrayvec::ArrayVec;
 use field_rows::{array_at, u16_at, u32_at};
 
-/// The info field of a segment, where it lies in the bytes of a path.
+/// The info field of a segment, counted from 0, read from the bytes of a path. The peering flag isn't looked
+/// at.
 pub fn read_info(path: &[u8], segment: usize) -> Info
     requires { info_place segment + 8 ≤ length path.now }
     ensures { info_field result ≡ info_at path.now (info_place segment) }
@@ -30,7 +31,7 @@ pub fn read_info(path: &[u8], segment: usize) -> Info
     }
 }
 
-/// The hop field that begins at `at` in the bytes of a path (`Meta::hop_place`).
+/// The hop field that begins at byte `at` of a path (`Meta::hop_place`).
 pub fn read_hop(path: &[u8], at: usize) -> Hop
     requires { at + 12 ≤ length path.now }
     ensures { hop_field result ≡ hop_at path.now at }

@@ -91,7 +91,7 @@ fn write_hops(hops: &[Hop], out: &mut [u8], at: usize)
 }
 
 /// Writes the path at the front, and says how many bytes it is; what lies after it is as it was.
-/// Where there is no room for it nothing is written.
+/// Where there is no room for it `NoRoom` is answered, and nothing is written.
 pub fn write_path(path: &Path, out: &mut [u8]) -> Result<usize, NoRoom>
     ensures written { OnOk result (Puts out.old out.new 0 (path_text (fields_of path.now))) }
     ensures len { IfOk result (λ n. n ≡ path_len path.now.lengths) }

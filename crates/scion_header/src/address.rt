@@ -14,6 +14,7 @@ pub struct Address {
     /// What kind of address the host has (DT, ST), two bits: with four bytes 0 is IPv4 and 1 a
     /// service, with sixteen bytes 0 is IPv6.
     pub kind: u8,
+    /// The address of the host within its AS.
     pub host: Host,
     pub ghost isd_fits: { isd < 2 ^ 16 },
     pub ghost autonomous_system_fits: { autonomous_system < 2 ^ 48 },

@@ -80,7 +80,7 @@ pub fn source_domain(bytes: &[u8]) -> Domain
     }
 }
 
-/// The destination with its host.
+/// The destination with its host (DstISD, DstAS, DstHostAddr, by DT and DL).
 pub fn destination_address(bytes: &[u8]) -> Address
     requires sound { header_fault bytes.now ≡ None }
     ensures { host_address result ≡ (header_of bytes.now).destination }

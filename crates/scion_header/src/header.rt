@@ -4,22 +4,26 @@ ghost use Rattle.scion_header.specs.Host.{length_code};
 
 use crate::address::Address;
 
-/// The common header and the address header. The version is 0 and the path type that of a SCION path
-/// in each.
+/// The common header and the address header (draft-dekater-scion-dataplane, "SCION Header Specification").
+/// The version is 0 and the path type that of a SCION path in each.
 #[derive(Clone, Copy, Debug, PartialEq, Eq)]
 pub struct Header {
+    /// The traffic class (TrafficClass): six bits of differentiated services, then two bits of congestion
+    /// notification.
     pub traffic_class: u8,
-    /// The flow, 20 bits.
+    /// The flow that the source has chosen (FlowID), 20 bits.
     pub flow_id: u32,
-    /// The protocol of what follows the header: 17 is UDP, 202 SCMP.
+    /// The protocol of what follows the header (NextHdr): 17 is UDP, 202 SCMP.
     pub next_header: u8,
-    /// The length of the whole header, path included, in units of four bytes.
+    /// The length of the whole header, path included, in units of four bytes (HdrLen).
     pub header_length: u8,
-    /// The length in bytes of what follows the header.
+    /// The length in bytes of what follows the header (PayloadLen).
     pub payload_length: u16,
     /// The reserved bits, kept as they came.
     pub reserved: u16,
+    /// The end host for which the packet is.
     pub destination: Address,
+    /// The end host from which it is.
     pub source: Address,
     pub ghost traffic_class_fits: { traffic_class < 2 ^ 8 },
     pub ghost flow_id_fits: { flow_id < 2 ^ 20 },

@@ -9,9 +9,13 @@ use field_rows::array_at;
 /// four, an IPv6 address sixteen.
 #[derive(Clone, Copy, Debug, PartialEq, Eq)]
 pub enum Host {
+    /// An IPv4 address or a service, by the address's kind.
     Four([u8; 4]),
+    /// Of no kind that the standard names.
     Eight([u8; 8]),
+    /// Of no kind that the standard names.
     Twelve([u8; 12]),
+    /// An IPv6 address, by the address's kind.
     Sixteen([u8; 16]),
 }
 

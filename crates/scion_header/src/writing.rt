@@ -42,7 +42,8 @@ fn write_domain(address: &Address, out: &mut [u8], at: usize)
 }
 
 /// Writes the common header and the address header at the front, and says how many bytes they are;
-/// what lies after them is as it was. Where there is no room for both nothing is written.
+/// what lies after them is as it was. Where there is no room for both `NoRoom` is answered, and
+/// nothing is written.
 pub fn write_header(header: &Header, out: &mut [u8]) -> Result<usize, NoRoom>
     ensures written { OnOk result (Puts out.old out.new 0 (header_text (header_fields header.now))) }
     ensures len { IfOk result (λ n. n ≡ front_len (header_fields header.now)) }

@@ -21,7 +21,7 @@ use process_packet::{Arrival, Cause, Config, NoMemory, Problem, Underlay};
 use scion_header::{Address, Header, Upper, header_is_lawful, upper_layer};
 use std::alloc::Global;
 
-/// The most bytes that an answer has.
+/// The most bytes that an answer has, its headers included.
 pub const LONGEST_ANSWER: usize = 1232;
 
 /// Whether the packet is an SCMP error message, or can't be told from one, and the answer would be
@@ -74,7 +74,7 @@ fn write_answer(
 
 /// Answers a datagram without a fault that came by the link (0 is the internal network) from the
 /// underlay's source: tells its sender of a problem, or replies to its traceroute request. The answer
-/// stands at the front of the buffer; it takes no memory.
+/// stands at the front of the buffer, and what follows it there may have changed too. It takes no memory.
 pub fn answer_into(
     config: &Config,
     link: u16,
@@ -107,7 +107,8 @@ pub fn answer_into(
     }
 }
 
-/// The same with the answer's bytes in memory of their own.
+/// The same with the answer's bytes in memory of their own. `NoMemory` is answered only where there is an
+/// answer to be sent.
 pub fn answer(
     alloc: Global,
     config: &Config,

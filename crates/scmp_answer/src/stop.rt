@@ -7,6 +7,8 @@ use process_packet::{Arrival, Routed};
 pub struct Stop {
     /// The router, by its place among the net's configurations.
     pub router: usize,
+    /// The packet as it came there.
     pub arrival: Arrival,
+    /// What the router does with it.
     pub routed: Routed,
 }

@@ -118,7 +118,8 @@ fn first(alloc: Global, router: usize, arrival: &Arrival) -> Result<Coming, NoMe
     })
 }
 
-/// Makes the stop at which the datagram comes, and says where it comes to next.
+/// Makes the stop at which the datagram comes, adds it to the stops, and says where it comes to next. On
+/// `NoMemory` the stops made before remain.
 fn go_on(
     alloc: Global,
     net: &Net,
@@ -144,7 +145,8 @@ fn go_on(
 /// first. Each is what the router does with it there; the next one is where the wire of the link leads by
 /// which it leaves, or within the AS the router that has the address to which it is sent. So it ends where
 /// it is delivered, answered or dropped, where no wire or router is, and after 128 stops at the latest.
-/// The moment stays that of the arrival.
+/// The moment stays that of the arrival. It makes the stops in memory of their own: on `NoMemory` they are
+/// dropped, and the arrival stays as it is.
 pub fn walk(
     alloc: Global,
     net: &Net,
