@@ -10,9 +10,12 @@ pub record Flow : Type 0 where
   pub addresses : List ℕ  -- the bytes of the address header
   pub high : Bool  -- of the high band, where the router has links of two bands
 
--- expedited forwarding
+-- the differentiated services code point of expedited forwarding (RFC 3246)
+abbrev pub expedited_forwarding : ℕ
+expedited_forwarding = 46
+
 abbrev pub is_high : ℕ → Bool
-is_high traffic_class = traffic_class / 4 == 46
+is_high traffic_class = traffic_class / 4 == expedited_forwarding
 
 abbrev pub flow_at : Bool → List ℕ → Flow
 flow_at banded bytes = record {

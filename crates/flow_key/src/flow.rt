@@ -8,12 +8,15 @@ ghost use Rattle.scion_packet.specs.Header.{header_fault};
 use crate::key::FlowKey;
 use scion_header::{check_header, flow_id, front_end, traffic_class};
 
-/// Whether a datagram with this traffic class is of the high band: it asks for expedited forwarding
-/// (RFC 3246), which is 46 in the six bits of the differentiated services field (RFC 2474).
+/// The differentiated services code point of expedited forwarding (RFC 3246).
+const EXPEDITED_FORWARDING: u8 = 46;
+
+/// Whether a datagram with this traffic class is of the high band: the six bits of its differentiated
+/// services field (RFC 2474) ask for expedited forwarding.
 pub fn is_high(traffic_class: u8) -> bool
     ensures { result ≡ is_high traffic_class }
 {
-    traffic_class / 4 == 46
+    traffic_class / 4 == EXPEDITED_FORWARDING
 }
 
 /// The flow of a datagram whose header has no fault: its FlowID, the kinds of its hosts and its
