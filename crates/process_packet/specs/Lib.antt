@@ -5,6 +5,7 @@ pub mod Neighbours
 pub mod Network
 pub mod Request
 pub mod PacketState
+pub mod Scmp
 pub mod Rows
 pub mod Decide
 pub mod PathHop

@@ -19,6 +19,10 @@ use crate::packet_view::PacketView;
 use crate::parsed_headers::ParsedHeaders;
 use crate::path_hop::PathHop;
 use crate::refusal::{Refusal, parameter_problem};
+use crate::scmp::{
+    INVALID_DESTINATION_ADDRESS, INVALID_PACKET_SIZE, INVALID_SOURCE_ADDRESS, PATH_EXPIRED,
+    UNKNOWN_CONS_EGRESS, UNKNOWN_CONS_INGRESS,
+};
 use crate::underlay::Underlay;
 use path_fields::Meta;
 use scion_header::payload_length;
@@ -59,7 +63,7 @@ impl PacketView {
         ensures { (s : PacketState) → Shows self.now s → TellsRow (row.expired s) s result }
     {
         if hop_check::expired(&self.current.info, &self.current.hop, self.moment) {
-            return Err(parameter_problem(52, self.hop_pointer()));
+            return Err(parameter_problem(PATH_EXPIRED, self.hop_pointer()));
         }
         Ok(())
     }
@@ -69,7 +73,11 @@ impl PacketView {
         ensures { (s : PacketState) → Shows self.now s → TellsRow (row.wrong_ingress s) s result }
     {
         if self.is_external() && self.ingress() != self.link {
-            let code = if self.current.info.along { 49 } else { 50 };
+            let code = if self.current.info.along {
+                UNKNOWN_CONS_INGRESS
+            } else {
+                UNKNOWN_CONS_EGRESS
+            };
             return Err(parameter_problem(code, self.hop_pointer()));
         }
         Ok(())
@@ -81,7 +89,7 @@ impl PacketView {
         ensures { (s : PacketState) → Shows self.now s → header_of bytes.now ≡ s.header → TellsRow (row.wrong_payload_length s) s result }
     {
         if usize::from(payload_length(bytes)) != self.payload {
-            return Err(parameter_problem(19, 0));
+            return Err(parameter_problem(INVALID_PACKET_SIZE, 0));
         }
         Ok(())
     }
@@ -155,7 +163,7 @@ impl PacketView {
         ensures { (s : PacketState) → Shows self.now s → network config.now ≡ s.network → header_of bytes.now ≡ s.header → TellsRow (row.wrong_source s) s result }
     {
         if !self.is_source_lawful(config, bytes) {
-            return Err(parameter_problem(33, 20));
+            return Err(parameter_problem(INVALID_SOURCE_ADDRESS, 20));
         }
         Ok(())
     }
@@ -180,7 +188,7 @@ impl PacketView {
         ensures { (s : PacketState) → Shows self.now s → network config.now ≡ s.network → header_of bytes.now ≡ s.header → TellsRow (row.wrong_destination s) s result }
     {
         if !self.is_destination_lawful(config, bytes) {
-            return Err(parameter_problem(34, 12));
+            return Err(parameter_problem(INVALID_DESTINATION_ADDRESS, 12));
         }
         Ok(())
     }

@@ -12,6 +12,7 @@ use crate::config::Config;
 use crate::packet_view::PacketView;
 use crate::refusal::{Refusal, parameter_problem, traceroute_reply};
 use crate::request::carries_request;
+use crate::scmp::INVALID_HOP_FIELD_MAC;
 use hop_check::{chain, verify};
 
 impl PacketView {
@@ -46,7 +47,7 @@ impl PacketView {
         ensures { (s : PacketState) → Shows self.now s → network config.now ≡ s.network → TellsRow (row.wrong_mac s) s result }
     {
         if !verify(&config.key, &self.current.info, &self.current.hop) {
-            return Err(parameter_problem(51, self.hop_pointer()));
+            return Err(parameter_problem(INVALID_HOP_FIELD_MAC, self.hop_pointer()));
         }
         Ok(())
     }

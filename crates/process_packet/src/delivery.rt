@@ -13,6 +13,7 @@ use crate::config::Config;
 use crate::decision::Problem;
 use crate::packet_view::PacketView;
 use crate::refusal::{Refusal, parameter_problem};
+use crate::scmp::{DESTINATION_UNREACHABLE, NO_ROUTE, UNKNOWN_ADDRESS_FORMAT};
 use crate::underlay::{Ip, Underlay};
 use field_rows::u16_at;
 use scion_header::{Host, destination_address};
@@ -36,12 +37,12 @@ fn deliver(config: &Config, bytes: &[u8]) -> Result<Underlay, Refusal>
         (1, Host::Four(service)) => match config.service_at(u16_at(&service, 0)) {
             Some(at) => Ok(at),
             None => Err(Refusal::Answer(Problem {
-                kind: 1,
-                code: 0,
+                kind: DESTINATION_UNREACHABLE,
+                code: NO_ROUTE,
                 pointer: 0,
             })),
         },
-        _ => Err(parameter_problem(21, 9)),
+        _ => Err(parameter_problem(UNKNOWN_ADDRESS_FORMAT, 9)),
     }
 }
 

@@ -22,6 +22,9 @@ use crate::packet_view::PacketView;
 use crate::path_hop::PathHop;
 use crate::refusal::{Refusal, parameter_problem, traceroute_reply};
 use crate::request::carries_request;
+use crate::scmp::{
+    INVALID_PATH, INVALID_SEGMENT_CHANGE, UNKNOWN_CONS_EGRESS, UNKNOWN_CONS_INGRESS,
+};
 use crate::underlay::Underlay;
 use hop_check::chain;
 use path_fields::Meta;
@@ -60,8 +63,9 @@ impl PacketView {
         self.wrong_mac(config)
     }
 
-    /// At a segment's last hop, where another segment follows, the packet changes to its first hop,
-    /// which must be within its time and authorised as the one before.
+    /// At a segment's last hop, where another segment follows, the packet changes to its first hop, which
+    /// must be within its time and carry its MAC as the one before. On `Err` the view has changed all the
+    /// same.
     pub(crate) fn switch(
         &mut self,
         config: &Config,
@@ -87,7 +91,7 @@ impl PacketView {
         Ok(())
     }
 
-    /// There is no way out by its egress interface; else that way out.
+    /// Refused if no router of this AS has its egress interface; otherwise the exit by it.
     pub(crate) fn unknown_egress(&self, config: &Config) -> Result<Exit, Refusal>
         ensures says { (s : PacketState) → Shows self.now s → network config.now ≡ s.network → TellsRow (row.unknown_egress s) s result }
         ensures exit { IfOk result (λ e. (s : PacketState) → Shows self.now s → network config.now ≡ s.network
@@ -96,12 +100,17 @@ impl PacketView {
         match config.exit(self.egress()) {
             Some(exit) => Ok(exit),
             None => {
-                let code = if self.current.info.along { 50 } else { 49 };
+                let code = if self.current.info.along {
+                    UNKNOWN_CONS_EGRESS
+                } else {
+                    UNKNOWN_CONS_INGRESS
+                };
                 Err(parameter_problem(code, self.hop_pointer()))
             }
         }
     }
 
+    /// Whether the links by which it came and leaves may follow one another.
     fn is_pair_lawful(&self, config: &Config, exit: &Exit) -> bool
         ensures { (s : PacketState) → Shows self.now s → network config.now ≡ s.network
             → Some exit.now ≡ exit_of s.network (egress s) → result ≡ is_pair_lawful s }
@@ -123,9 +132,9 @@ impl PacketView {
             return Ok(());
         }
         if self.switched {
-            Err(parameter_problem(53, self.info_pointer()))
+            Err(parameter_problem(INVALID_SEGMENT_CHANGE, self.info_pointer()))
         } else {
-            Err(parameter_problem(48, self.hop_pointer()))
+            Err(parameter_problem(INVALID_PATH, self.hop_pointer()))
         }
     }
 
@@ -155,7 +164,7 @@ impl PacketView {
         Ok(())
     }
 
-    /// As it stands.
+    /// How it leaves with its path as it stands: no cursor moves, and no identifier is chained.
     pub(crate) fn unchanged(&self, link: u16, to: Option<Underlay>) -> Departure
         requires on { IsOnPath self.now }
         ensures { (s : PacketState) (p : Packet) → Shows self.now s → Keeps self.now s p → Departs result (row.Sent link to (packet s)) p }
@@ -198,7 +207,8 @@ impl PacketView {
         }
     }
 
-    /// Out by an own link, at the next hop.
+    /// How it leaves by a link of this router: with the cursor at the next hop, and in the direction of
+    /// construction with SegID chained. A path that ends here has no next hop.
     #[inline(always)]
     fn sent_out(&self) -> Result<Departure, Refusal>
         requires on { IsOnPath self.now }
@@ -221,7 +231,7 @@ impl PacketView {
         })
     }
 
-    /// Out by the way out.
+    /// How it leaves the AS by this exit: by the link, or unchanged to the sibling that has the interface.
     #[inline(always)]
     pub(crate) fn leave(&self, exit: &Exit) -> Result<Departure, Refusal>
         requires on { IsOnPath self.now }

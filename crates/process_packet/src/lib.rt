@@ -24,6 +24,7 @@ mod path_hop;
 mod refusal;
 mod request;
 mod routed;
+mod scmp;
 mod totals;
 mod underlay;
 

@@ -7,13 +7,16 @@ ghost use Rattle.scion_header.specs.Fault as header;
 
 use crate::cause::Cause;
 use crate::decision::{Decision, Problem};
+use crate::scmp::{PARAMETER_PROBLEM, TRACEROUTE_REPLY};
 use path_fields::PathFault;
 use scion_header::HeaderFault;
 
-/// A row's end that sends nothing.
+/// How a row ends the decision if the packet isn't sent.
 #[derive(Clone, Copy, Debug, PartialEq, Eq)]
 pub(crate) enum Refusal {
+    /// The sender is told.
     Answer(Problem),
+    /// The packet is dropped.
     Drop(Cause),
 }
 
@@ -45,7 +48,7 @@ pub fn header_cause(fault: HeaderFault) -> Cause
     }
 }
 
-/// The same for a fault of its path.
+/// The cause for which a datagram with this fault of its path is dropped.
 pub(crate) fn path_cause(fault: PathFault) -> Cause
     ensures { result ≡ cause_of (path.fault_of fault) }
 {
@@ -56,23 +59,25 @@ pub(crate) fn path_cause(fault: PathFault) -> Cause
     }
 }
 
-/// A problem of SCMP type 4: a field of the packet is wrong.
+/// A problem of SCMP type 4: a field of the packet is wrong. The pointer is where it begins, in bytes from the
+/// datagram's start (SCMP specification, "Parameter Problem").
 pub(crate) fn parameter_problem(code: u8, pointer: u16) -> Refusal
     ensures { result ≡ Refusal.Answer (record { kind = 4; code = code; pointer = pointer }) }
 {
     Refusal::Answer(Problem {
-        kind: 4,
+        kind: PARAMETER_PROBLEM,
         code,
         pointer,
     })
 }
 
-/// The reply to a traceroute request, SCMP type 131.
+/// The reply to a traceroute request, SCMP type 131, by the router that has the interface (SCMP specification,
+/// "Traceroute Reply").
 pub(crate) fn traceroute_reply(interface: u16) -> Refusal
     ensures { result ≡ Refusal.Answer (record { kind = 131; code = 0; pointer = interface }) }
 {
     Refusal::Answer(Problem {
-        kind: 131,
+        kind: TRACEROUTE_REPLY,
         code: 0,
         pointer: interface,
     })
