@@ -16,6 +16,7 @@ pub struct Arrival {
     pub source: Underlay,
     /// When it came, in seconds of Unix time.
     pub now: u64,
+    /// The datagram, from its common header on.
     pub bytes: Vec<u8>,
 }
 

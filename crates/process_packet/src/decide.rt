@@ -24,7 +24,7 @@ use crate::underlay::Underlay;
 use path_fields::Meta;
 
 impl ParsedHeaders {
-    /// The rows that look at the datagram as bytes.
+    /// The rows that look at the datagram as bytes: its length, its header and its path.
     fn read(bytes: &[u8]) -> Result<ParsedHeaders, Refusal>
         ensures headers { IfOk result (λ f. AreHeadersOf f bytes.now) }
         ensures says { (s : PacketState) → bytes.now ≡ s.bytes
@@ -37,7 +37,8 @@ impl ParsedHeaders {
 }
 
 impl PacketView {
-    /// The rows that look at how the packet came.
+    /// The rows that look at how the packet came: expiry, ingress, payload length, underlay source, source
+    /// and destination.
     fn check_arrival(
         &self,
         config: &Config,
@@ -73,7 +74,9 @@ impl PacketView {
         self.ingress_request(bytes, payload)
     }
 
-    /// The rows by which it is delivered in this AS, or leaves.
+    /// The last rows: the packet is delivered to its host if it is for this AS; otherwise it may change its
+    /// segment, and its egress and its pair of links are checked, before it leaves. The view moves to the
+    /// next segment on the way, also where a later row refuses the packet.
     fn deliver_or_forward(
         &mut self,
         config: &Config,

@@ -3,12 +3,15 @@
 use crate::cause::Cause;
 use crate::underlay::Underlay;
 
-/// What the sender of a packet is told: an SCMP message's type and code, and the pointer into the
-/// packet (of a traceroute reply, the interface).
+/// What the sender of a packet is told by SCMP (SCMP specification, "Message Format").
 #[derive(Clone, Copy, Debug, PartialEq, Eq)]
 pub struct Problem {
+    /// The type: 1 destination unreachable, 4 parameter problem, 131 traceroute reply.
     pub kind: u8,
+    /// The code, whose meaning depends on the type.
     pub code: u8,
+    /// Of a parameter problem, where the wrong field begins, in bytes from the datagram's start; of a
+    /// traceroute reply, the interface; else 0.
     pub pointer: u16,
 }
 

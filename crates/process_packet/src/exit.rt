@@ -3,7 +3,7 @@
 use crate::underlay::Underlay;
 use segment_switch::LinkKind;
 
-/// The way out of the AS by an interface, and what the AS at its other end is.
+/// The way out of the AS by an interface, with the kind of its link.
 #[derive(Clone, Copy, Debug, PartialEq, Eq)]
 pub(crate) enum Exit {
     /// A link of this router.
@@ -16,6 +16,7 @@ impl Exit {
     ghost use Rattle.std.specs.Prelude.{◌≡◌};
     ghost use Rattle.process_packet.specs.Exit.{exit_kind, is_own};
 
+    /// What the AS at the other end of the link is.
     pub(crate) fn kind(&self) -> LinkKind
         ensures { result ≡ exit_kind self.now }
     {
@@ -25,6 +26,7 @@ impl Exit {
         }
     }
 
+    /// Whether the link is this router's own.
     pub(crate) fn is_own(&self) -> bool
         ensures { result ≡ is_own self.now }
     {

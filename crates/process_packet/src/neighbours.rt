@@ -6,7 +6,9 @@ use segment_switch::LinkKind;
 /// How many bands a link has: packets of the high band overtake those of the other one.
 #[derive(Clone, Copy, Debug, PartialEq, Eq)]
 pub enum Bands {
+    /// All packets leave in one order.
     One,
+    /// A high band, for expedited forwarding, and a low one.
     Two,
 }
 
@@ -36,6 +38,7 @@ pub struct Link {
     pub local: Underlay,
     /// The address and port of the neighbour.
     pub remote: Underlay,
+    /// How many bands it has.
     pub bands: Bands,
 }
 
@@ -55,5 +58,6 @@ pub struct Sibling {
 pub struct Service {
     /// Its number, at most 32767.
     pub number: u16,
+    /// The address and port within the AS.
     pub at: Underlay,
 }

@@ -14,13 +14,17 @@ pub struct End {
 /// A wire between two links.
 #[derive(Clone, Copy, Debug, PartialEq, Eq)]
 pub struct Wire {
+    /// Either of its ends.
     pub one: End,
+    /// The end opposite to that one.
     pub other: End,
 }
 
 /// Border routers of any number of ASes, and the wires between their links. A link may have no wire.
 #[derive(Drop)]
 pub struct Net {
+    /// A configuration for each router.
     pub configs: Vec<Config>,
+    /// The wires, in any order.
     pub wires: Vec<Wire>,
 }

@@ -1,17 +1,19 @@
-//! A datagram before its decision: what must be sound, and where its path lies.
+//! A datagram before its decision: its headers are parsed, and faulty ones end the decision.
 
 use crate::cause::Cause;
 use crate::refusal::{Refusal, header_cause, path_cause};
 use path_fields::{Meta, check_path};
 use scion_header::{HeaderEnds, check_header};
 
-/// The most bytes that a datagram has.
+/// The most bytes that a datagram may have; a longer one is dropped.
 pub const LONGEST_DATAGRAM: usize = 9216;
 
-/// Where the path of a datagram lies, and its meta header.
+/// What is kept of a datagram's headers, which have no fault: where its path lies, and the path meta header.
 #[derive(Clone, Copy)]
 pub(crate) struct ParsedHeaders {
+    /// Where the path begins, in bytes from the datagram's start: after the address header.
     pub path_begin: usize,
+    /// Where the path and the whole header end: the payload begins there.
     pub path_end: usize,
     pub meta: Meta,
 }

@@ -1,15 +1,15 @@
-//! A hop of a path, and what stands there: the cost is the same for every path.
+//! A hop of a path with its fields, read where it lies: the cost is the same for every path.
 
 ghost use Rattle.std.specs.Prelude.{◌≡◌, ◌<◌, ◌≤◌, slice_index};
 
 use path_fields::{Hop, Info, Meta, read_hop, read_info};
 
-/// A hop of a path, and what stands there.
+/// A hop of a path: its place, its hop field and the info field of its segment.
 #[derive(Clone, Copy, Debug, PartialEq, Eq)]
 pub(crate) struct PathHop {
     /// Its segment.
     pub segment: usize,
-    /// Its position there.
+    /// Its position in the segment, from 0 on.
     pub position: usize,
     /// How many hops the segment has.
     pub hops: usize,
@@ -17,6 +17,7 @@ pub(crate) struct PathHop {
     pub number: usize,
     /// The segment's info field.
     pub info: Info,
+    /// Its hop field.
     pub hop: Hop,
     pub ghost inside: { position < hops },
     pub ghost few_hops: { hops ≤ 64 },

@@ -24,7 +24,7 @@ fn copy_of(alloc: Global, bytes: &[u8]) -> Result<Vec<u8>, NoMemory>
 }
 
 /// What is done with a datagram that arrived, and the bytes that leave where it is sent. Memory is taken
-/// for these alone.
+/// for these alone: `NoMemory` is answered only for a packet that would be sent. The arrival stays as it is.
 pub fn route(alloc: Global, config: &Config, arrival: &Arrival) -> Result<Routed, NoMemory>
     ensures { MatchResult result (IsRouted (decision_for (network config.now) arrival.entry.now) (bytes_for (network config.now) arrival.entry.now))
         (λ _. IsSend (decision_for (network config.now) arrival.entry.now)) }

@@ -6,6 +6,7 @@ use crate::cause::Cause;
 /// How many datagrams were received, and what became of them.
 #[derive(Clone, Copy, Debug, PartialEq, Eq)]
 pub struct Totals {
+    /// Taken from their link.
     pub received: u128,
     /// Handed on to their link.
     pub sent: u128,

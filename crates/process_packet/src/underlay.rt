@@ -3,7 +3,9 @@
 /// An IP address, version 4 or 6.
 #[derive(Clone, Copy, Debug, PartialEq, Eq)]
 pub enum Ip {
+    /// Its bytes in network order.
     V4([u8; 4]),
+    /// The same.
     V6([u8; 16]),
 }
 
