@@ -17,6 +17,7 @@ use Rattle.process_packet.specs.Neighbours.{service_at, sibling_at}
 use Rattle.process_packet.specs.Network.{Network, own_link, sibling, service, interface_kind, is_local, is_owner, is_remote}
 use Rattle.process_packet.specs.PacketState.{PacketState, packet, arrival_kind, is_external, is_expired, is_authentic, is_along, ingress, egress, entry, ingress_alert, egress_alert, is_first_of_path, is_last_of_segment, is_last_of_path, is_followed, next_place, hop_pointer, info_pointer, chained, turned_back, changed_over, with_place}
 use Rattle.process_packet.specs.Request.{is_request}
+use Rattle.process_packet.specs.Underlay.{longest_datagram}
 use Rattle.process_packet.specs.Scmp.{destination_unreachable_type, invalid_destination_address, invalid_hop_field_mac, invalid_packet_size, invalid_path, invalid_segment_change, invalid_source_address, no_route, parameter_problem_type, path_expired, traceroute_reply_type, unknown_address_format, unknown_cons_egress, unknown_cons_ingress}
 
 -- what becomes of a packet; a packet that is sent stands as it leaves
@@ -59,7 +60,7 @@ traceroute_reply interface = problem traceroute_reply_type 0 interface
 
 -- more bytes than any link carries: this router's own limit
 abbrev pub too_long : Row
-too_long s = ends_where (nat_lt 9216 (length s.bytes)) (Dropped cause.TooLong) s
+too_long s = ends_where (nat_lt longest_datagram (length s.bytes)) (Dropped cause.TooLong) s
 
 abbrev pub cause_of : Fault → Cause
 cause_of TooShort = cause.Short

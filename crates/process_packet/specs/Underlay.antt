@@ -1,9 +1,13 @@
--- Addresses of the underlay that are the same.
-use Rattle.std.specs.Prelude.{Bool, false, ◌&&◌, ◌==◌}
+-- The underlay: the longest datagram that it carries, and addresses that are the same.
+use Rattle.std.specs.Prelude.{ℕ, Bool, false, ◌&&◌, ◌==◌}
 use Rattle.std.specs.Str.{bytes_eq}
 use Rattle.process_packet.specs.declared.underlay.Ip.{Ip}
 use Rattle.process_packet.specs.declared.underlay.Ip.TheVariants.{V4, V6}
 use Rattle.process_packet.specs.declared.underlay.Underlay.{Underlay}
+
+-- in bytes, of any link and of the internal network
+abbrev pub longest_datagram : ℕ
+longest_datagram = 9216
 
 abbrev pub same_ip : Ip → Ip → Bool
 same_ip (V4 a) (V4 b) = bytes_eq a b

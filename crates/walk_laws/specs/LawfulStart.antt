@@ -5,6 +5,7 @@ use Rattle.scion_packet.specs.Packet.{IsPacket, Packet, spelling}
 use Rattle.scion_packet.specs.Path.{Place, count_hops, place_at}
 use Rattle.process_packet.specs.declared.underlay.Underlay.{Underlay}
 use Rattle.process_packet.specs.Request.{is_request}
+use Rattle.process_packet.specs.Underlay.{longest_datagram}
 use Rattle.process_packet.specs.Rows.{Sent}
 use Rattle.walk_laws.specs.Stretch.{beta_met}
 use Rattle.walk_laws.specs.PathSegments.{AreUnexpired, HaveByteMacs, PathSegment, IsMet, IsPathOver, met, part, route_over, segments_of, stretch_of}
@@ -49,7 +50,7 @@ pub record SetsOutOn (net : Net) (ss : List PathSegment) (moment : ℕ) (a : Pac
   pub cursor : a.packet.path.place ≡ outset
   pub lawful : IsPacket a.packet
   pub whole : a.packet.header.payload_length ≡ length a.packet.payload
-  pub short : length (spelling a.packet) ≤ 9216
+  pub short : length (spelling a.packet) ≤ longest_datagram
   pub source : IsHostOf a.packet.header.source (met ss outset).home
   pub destination : IsHostOf a.packet.header.destination (met ss (last_met ss)).home
   pub from_host : IsIpHost a.packet.header.source

@@ -9,6 +9,7 @@ use Rattle.process_packet.specs.declared.neighbours.Link.{Link}
 use Rattle.process_packet.specs.declared.underlay.Underlay.{Underlay}
 use Rattle.process_packet.specs.Network.{is_local, own_link}
 use Rattle.process_packet.specs.Request.{is_request}
+use Rattle.process_packet.specs.Underlay.{longest_datagram}
 use Rattle.process_packet.specs.PacketState.{entry_place, is_first_of_path}
 use Rattle.process_packet.specs.Net.{Net, Router, router_at}
 use Rattle.walk_laws.specs.Domain.{Domain, IsOf}
@@ -52,7 +53,7 @@ pub record IsAddressed (w : Route) (from : Place) (h : HeaderFields) : Type 0 wh
 -- what the packet is, wherever it stands
 pub record IsOnItsWay (net : Net) (w : Route) (from : Place) (p : Packet) : Type 0 where
   pub lawful : IsPacket p
-  pub short : length (spelling p) ≤ 9216
+  pub short : length (spelling p) ≤ longest_datagram
   pub whole : p.header.payload_length ≡ length p.payload
   pub addressed : IsAddressed w from p.header
 
