@@ -61,12 +61,12 @@ clean:
 
 FORCE:
 
-.PHONY: bench-joints
+.PHONY: bench-pipe
 
 # Nanoseconds of an item through a pipe between threads, beside plain Rust; it needs rustc too.
-bench-joints:
-	cd crates/joints_bench && $(RT) run
-	bench/joints.sh
+bench-pipe:
+	cd crates/pipe_bench && $(RT) run
+	bench/pipe.sh
 
 .PHONY: bench-stages
 

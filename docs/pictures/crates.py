@@ -17,7 +17,7 @@ LAYERS = [
     ("ciphers", "#dbe9f6", "aes128_core cmac_core"),
     ("rules of a hop, a pair, a flow", "#dbe9f6", "hop_check segment_switch flow_key"),
     ("decision and answers", "#d5ecd4", "process_packet walk_laws scmp_answer"),
-    ("model of the pipeline", "#fdeec9", "pipe_order router_rules pipe_parts pipe_model"),
+    ("model of the pipeline", "#fdeec9", "pipeline_laws router_rules pipe_parts pipe_model"),
     ("between threads", "#f8dcd3", "ruled_pipe packet_ledger"),
     ("laws of workers", "#fdeec9", "stage_laws router_laws"),
     ("workers", "#f8dcd3", "stage_parts router_stages"),

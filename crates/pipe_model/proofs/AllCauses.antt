@@ -3,11 +3,11 @@ use Rattle.std.proofs.Common.{◌≡◌, ℕ, ◌+◌, Bool, true, false, cond, 
 use Rattle.std.specs.Prelude.{◌==◌}
 use Rattle.std.specs.List.{filter, sum, sum_by}
 use Rattle.std.proofs.lemmas.List.Sums.{sum-map, sum_by-cons}
-use Rattle.pipe_order.specs.Counts.{count, total}
-use Rattle.pipe_order.specs.World.{Cause, Fate}
-use Rattle.pipe_order.proofs.Sums.{total-agree, total-plus}
+use Rattle.pipeline_laws.specs.Counts.{count, total}
+use Rattle.pipeline_laws.specs.World.{Cause, Fate}
+use Rattle.pipeline_laws.proofs.Sums.{total-agree, total-plus}
 use Rattle.process_packet.specs.Cause.{number_of}
-use Rattle.process_packet.specs.declared.cause.Cause.{Cause as Why}
+use Rattle.process_packet.specs.declared.cause.Cause.{Cause as RouterCause}
 use Rattle.process_packet.specs.declared.cause.Cause.TheVariants as why
 use Rattle.router_rules.specs.Rules.{kinds}
 use Rattle.pipe_model.specs.Shown.{causes, is_number}
@@ -20,7 +20,7 @@ count-cons p x xs = go (p x)
     go false = omega arith
 
 -- a cause has one of the numbers
-one_number : (w : Why) → total (λ n. cond (number_of w == n) 1 0) causes ≡ 1
+one_number : (w : RouterCause) → total (λ n. cond (number_of w == n) 1 0) causes ≡ 1
 one_number why.Short = refl
 one_number why.Version = refl
 one_number why.PathType = refl

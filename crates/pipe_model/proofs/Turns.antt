@@ -3,14 +3,14 @@ use Rattle.std.proofs.Common.{◌≡◌, ℕ, zero, suc, ◌+◌, ◌<◌, List,
 use Rattle.std.specs.Prelude.{Option, Some, None}
 use Rattle.std.proofs.lemmas.List.{append-nil, drop_more, map-append, take_more}
 use Rattle.std.specs.List.{range_with_len}
-use Rattle.pipe_order.specs.Item.{Item}
-use Rattle.pipe_order.specs.Next.{next}
-use Rattle.pipe_order.specs.Run.{or_same, run, skip_if, skipped_from}
-use Rattle.pipe_order.specs.Start.{HasArrival, arrivals, first_world}
-use Rattle.pipe_order.specs.Step.{Step}
-use Rattle.pipe_order.specs.World.{World}
-use Rattle.pipe_order.proofs.Reach.{reaches_on, run-append}
-use Rattle.pipe_order.proofs.Runs.{keeps_arrivals, run_keeps}
+use Rattle.pipeline_laws.specs.Item.{Item}
+use Rattle.pipeline_laws.specs.Next.{next}
+use Rattle.pipeline_laws.specs.Run.{or_same, run, skip_if, skipped_from}
+use Rattle.pipeline_laws.specs.Start.{HasArrival, arrivals, first_world}
+use Rattle.pipeline_laws.specs.Step.{Step}
+use Rattle.pipeline_laws.specs.World.{World}
+use Rattle.pipeline_laws.proofs.Reach.{reaches_on, run-append}
+use Rattle.pipeline_laws.proofs.Runs.{keeps_arrivals, run_keeps}
 use Rattle.process_packet.specs.declared.config.Config.{Config}
 use Rattle.router_rules.specs.Links.{link_count}
 use Rattle.router_rules.specs.Rules.{kinds, rules}

@@ -1,21 +1,21 @@
 -- What some steps led to keeps what the headline says.
 use Rattle.std.proofs.Common.{◌≡◌, inl, inr, Bool, true, false, get_or, refl, sym, subst}
 use Rattle.std.proofs.lemmas.Bool.{false≢true}
-use Rattle.pipe_order.specs.ByRules.{IsCaused, IsCauseOf, IsReasonOf}
-use Rattle.pipe_order.specs.Item.{Arrival}
-use Rattle.pipe_order.specs.Kinds.{Kinds}
-use Rattle.pipe_order.specs.Rules.{IsLawful, Rules}
-use Rattle.pipe_order.specs.Start.{HasArrival, IsLawfulFor}
-use Rattle.pipe_order.specs.World.{Cause, Fate, World}
-use Rattle.pipe_order.proofs.ByRules.{keeps_rules}
-use Rattle.pipe_order.proofs.Close.{keeps_close}
-use Rattle.pipe_order.proofs.Full.{keeps_full_law}
-use Rattle.pipe_order.proofs.Once.{keeps_once}
-use Rattle.pipe_order.proofs.Order.{keeps_order}
-use Rattle.pipe_order.proofs.Place.{keeps_place}
-use Rattle.pipe_order.proofs.Sent.{keeps_sent}
-use Rattle.pipe_order.proofs.Totals.{keeps_totals}
-use Rattle.process_packet.specs.declared.cause.Cause.{Cause as Why}
+use Rattle.pipeline_laws.specs.ByRules.{IsCaused, IsCauseOf, IsRuleCauseOf}
+use Rattle.pipeline_laws.specs.Item.{Arrival}
+use Rattle.pipeline_laws.specs.Kinds.{Kinds}
+use Rattle.pipeline_laws.specs.Rules.{IsLawful, Rules}
+use Rattle.pipeline_laws.specs.Start.{HasArrival, IsLawfulFor}
+use Rattle.pipeline_laws.specs.World.{Cause, Fate, World}
+use Rattle.pipeline_laws.proofs.ByRules.{keeps_rules}
+use Rattle.pipeline_laws.proofs.Close.{keeps_close}
+use Rattle.pipeline_laws.proofs.Full.{keeps_full_law}
+use Rattle.pipeline_laws.proofs.Once.{keeps_once}
+use Rattle.pipeline_laws.proofs.Order.{keeps_order}
+use Rattle.pipeline_laws.proofs.Place.{keeps_place}
+use Rattle.pipeline_laws.proofs.Sent.{keeps_sent}
+use Rattle.pipeline_laws.proofs.Totals.{keeps_totals}
+use Rattle.process_packet.specs.declared.cause.Cause.{Cause as RouterCause}
 use Rattle.process_packet.specs.declared.cause.Cause.TheVariants as cause
 use Rattle.process_packet.specs.declared.config.Config.{Config}
 use Rattle.router_rules.specs.Laws.{AreLawful, CausesAreApart, is_decided, is_withheld}
@@ -48,7 +48,7 @@ headline lawful c w r =
 
 -- ---- causes
 
-apart : (why : Why) → is_decided why ≡ true → is_withheld why ≡ false
+apart : (why : RouterCause) → is_decided why ≡ true → is_withheld why ≡ false
 apart cause.Short is = refl
 apart cause.Version is = refl
 apart cause.PathType is = refl
@@ -68,7 +68,7 @@ apart cause.Closed is = absurd (false≢true is)
 apart cause.SendFailed is = absurd (false≢true is)
 apart cause.NoBuffer is = absurd (false≢true is)
 
-said : CausesAreApart → (c : Config) (x : Arrival kinds) (why : Why) → IsReasonOf (rules c) x why → IsSaid (is_withheld why) c x why
+said : CausesAreApart → (c : Config) (x : Arrival kinds) (why : RouterCause) → IsRuleCauseOf (rules c) x why → IsSaid (is_withheld why) c x why
 said causes c x why (inl drops) = subst (λ (b : Bool). IsSaid b c x why) (sym (apart why ((causes c).decision x.datagram why drops))) drops
 said causes c x why (inr withheld) = subst (λ (b : Bool). IsSaid b c x why) (sym ((causes c).reply x.datagram withheld.0 why withheld.2)) withheld
 

@@ -2,19 +2,19 @@
 -- counts add up, a drop at a full pipe met it full, and nothing behind a closing mark is sent.
 use Rattle.std.specs.Prelude.{◌≡◌, ◌<◌, ◌+◌, ℕ, Bool, true, false, List}
 use Rattle.std.specs.List.{All}
-use Rattle.pipe_order.specs.ByRules.{IsByRules}
-use Rattle.pipe_order.specs.Close.{IsClosing}
-use Rattle.pipe_order.specs.Full.{IsFull}
-use Rattle.pipe_order.specs.Item.{Arrival}
-use Rattle.pipe_order.specs.Once.{IsOnce}
-use Rattle.pipe_order.specs.Order.{InOrder}
-use Rattle.pipe_order.specs.Place.{IsPlaced}
-use Rattle.pipe_order.specs.Sent.{IsSent}
-use Rattle.pipe_order.specs.Start.{HasArrival, Reached}
-use Rattle.pipe_order.specs.Totals.{answered_count, dropped_count, received_count, sent_count, waiting_count}
-use Rattle.pipe_order.specs.Rules.{Asks, Drops, Withholds}
-use Rattle.pipe_order.specs.World.{Cause, Fate, World}
-use Rattle.process_packet.specs.declared.cause.Cause.{Cause as Why}
+use Rattle.pipeline_laws.specs.ByRules.{IsByRules}
+use Rattle.pipeline_laws.specs.Close.{IsClosing}
+use Rattle.pipeline_laws.specs.Full.{IsFull}
+use Rattle.pipeline_laws.specs.Item.{Arrival}
+use Rattle.pipeline_laws.specs.Once.{IsOnce}
+use Rattle.pipeline_laws.specs.Order.{InOrder}
+use Rattle.pipeline_laws.specs.Place.{IsPlaced}
+use Rattle.pipeline_laws.specs.Sent.{IsSent}
+use Rattle.pipeline_laws.specs.Start.{HasArrival, Reached}
+use Rattle.pipeline_laws.specs.Totals.{answered_count, dropped_count, received_count, sent_count, waiting_count}
+use Rattle.pipeline_laws.specs.Rules.{Asks, Drops, Withholds}
+use Rattle.pipeline_laws.specs.World.{Cause, Fate, World}
+use Rattle.process_packet.specs.declared.cause.Cause.{Cause as RouterCause}
 use Rattle.process_packet.specs.declared.config.Config.{Config}
 use Rattle.process_packet.specs.declared.decision.Problem.{Problem}
 use Rattle.router_rules.specs.Laws.{is_withheld}
@@ -44,15 +44,15 @@ pub record IsHeadline (c : Config) (w : World kinds) : Type 0 where
 
 -- why the arrival was dropped by the rules: for a cause of the reply's the answer to its problem was withheld, for any other
 -- the decision dropped it, which drops for the same cause what the inspection refuses
-abbrev pub IsSaid : Bool → Config → Arrival kinds → Why → Type 0
+abbrev pub IsSaid : Bool → Config → Arrival kinds → RouterCause → Type 0
 IsSaid true c x why = (p : Problem) × ((rules c).decide x ≡ Asks p) × ((rules c).reply x p ≡ Withholds why)
 IsSaid false c x why = (rules c).decide x ≡ Drops why
 
-abbrev pub IsSaidOf : Config → World kinds → Fate kinds → Why → Type 0
+abbrev pub IsSaidOf : Config → World kinds → Fate kinds → RouterCause → Type 0
 IsSaidOf c s f why = (x : Arrival kinds) × HasArrival s x × (f.link ≡ x.link) × (f.number ≡ x.number) × IsSaid (is_withheld why) c x why
 
 abbrev pub IsToldBy : Config → World kinds → Fate kinds → Type 0
-IsToldBy c s f = (why : Why) → f.cause ≡ Cause.Ruled why → IsSaidOf c s f why
+IsToldBy c s f = (why : RouterCause) → f.cause ≡ Cause.Ruled why → IsSaidOf c s f why
 
 -- And by whatever steps the world was reached: every item and every cause comes from an arrival by the rules, and each cause from its own; a drop at a full
 -- pipe met it full; nothing behind a closing mark was taken for sending; what was sent is what was taken for sending.

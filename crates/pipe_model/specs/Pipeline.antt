@@ -1,9 +1,9 @@
 -- A pipeline: its configuration, and its world at one moment.
 use Rattle.std.specs.Prelude.{ℕ, List, map, Option, Some, None}
-use Rattle.pipe_order.specs.Next.{next}
-use Rattle.pipe_order.specs.Run.{run, skipped_from}
-use Rattle.pipe_order.specs.Rules.{Rules}
-use Rattle.pipe_order.specs.World.{World}
+use Rattle.pipeline_laws.specs.Next.{next}
+use Rattle.pipeline_laws.specs.Run.{run, skipped_from}
+use Rattle.pipeline_laws.specs.Rules.{Rules}
+use Rattle.pipeline_laws.specs.World.{World}
 use Rattle.process_packet.specs.declared.config.Config.{Config}
 use Rattle.router_rules.specs.Rules.{kinds, rules}
 use Rattle.pipe_model.specs.Step.{step_in}

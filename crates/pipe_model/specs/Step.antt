@@ -1,5 +1,5 @@
 -- The steps as the pipeline's laws know them: with links by their numbers.
-use Rattle.pipe_order.specs.Step.{Step}
+use Rattle.pipeline_laws.specs.Step.{Step}
 use Rattle.process_packet.specs.declared.config.Config.{Config}
 use Rattle.router_rules.specs.Links.{link_index}
 use Rattle.router_rules.specs.Worker.{queue_in, worker_in}

@@ -1,16 +1,16 @@
 //! What processors and the slow path make of packets.
 
 ghost use Rattle.std.specs.Prelude.{◌≡◌, ◌↔◌, Some, None, OnOk, OnErr, IsErrOf};
-ghost use Rattle.pipe_order.specs.Next.{next};
-ghost use Rattle.pipe_order.specs.Step.{Step};
-ghost use Rattle.router_rules.specs.Actor.{worker_of};
+ghost use Rattle.pipeline_laws.specs.Next.{next};
+ghost use Rattle.pipeline_laws.specs.Step.{Step};
+ghost use Rattle.router_rules.specs.WorkerIndex.{worker_of};
 ghost use Rattle.router_rules.specs.Rules.{rules};
 
 use crate::state::State;
 use crate::step::StepFault;
 use pipe_parts::{Cause, Hand, Item, Outcome, decide, reply};
 use process_packet::Config;
-use router_rules::Actor;
+use router_rules::WorkerIndex;
 use std::alloc::Global;
 
 impl State {
@@ -23,7 +23,7 @@ impl State {
         if processor >= config.processors {
             return Err(StepFault::NotNow);
         }
-        let seat = Actor::Processor(processor).seat(config);
+        let seat = WorkerIndex::Processor(processor).seat(config);
         let Some(Hand::Got(item)) = self.hands.get(seat) else {
             return Err(StepFault::NotNow);
         };
@@ -46,14 +46,14 @@ impl State {
         ensures not_now { IsErrOf result StepFault.NotNow ↔ (next (rules config.now) self.old (Step.Answer) ≡ None) }
         ensures err { OnErr result (self.new ≡ self.old) }
     {
-        let seat = Actor::Slow.seat(config);
+        let seat = WorkerIndex::Slow.seat(config);
         let Some(Hand::Got(item)) = self.hands.get(seat) else {
             return Err(StepFault::NotNow);
         };
-        let Item::Asked(asked) = item else {
+        let Item::Request(request) = item else {
             return Err(StepFault::NotNow);
         };
-        match reply(alloc, config, asked)? {
+        match reply(alloc, config, request)? {
             Outcome::Makes(made) => self.hands.set(seat, Some(Hand::Owes(made))),
             Outcome::Ends(cause) => {
                 self.fates.note(item, cause)?;
@@ -64,7 +64,7 @@ impl State {
     }
 
     /// A processor or the slow path has no memory for what it would make.
-    pub(crate) fn lack(&mut self, config: &Config, worker: Actor) -> Result<(), StepFault>
+    pub(crate) fn lack(&mut self, config: &Config, worker: WorkerIndex) -> Result<(), StepFault>
         ensures ok { OnOk result (next (rules config.now) self.old (Step.Lack (worker_of worker)) ≡ Some self.new) }
         ensures not_now { IsErrOf result StepFault.NotNow ↔ (next (rules config.now) self.old (Step.Lack (worker_of worker)) ≡ None) }
         ensures err { OnErr result (self.new ≡ self.old) }
@@ -77,7 +77,8 @@ impl State {
             return Err(StepFault::NotNow);
         };
         match (worker, item) {
-            (Actor::Processor(_), Item::Packet(_)) | (Actor::Slow, Item::Asked(_)) => {}
+            (WorkerIndex::Processor(_), Item::Packet(_)) | (WorkerIndex::Slow, Item::Request(_)) =>
+                {}
             _ => return Err(StepFault::NotNow),
         }
         self.fates.note(item, Cause::NoMemory)?;

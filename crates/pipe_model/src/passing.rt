@@ -1,20 +1,20 @@
 //! What passes through pipes.
 
 ghost use Rattle.std.specs.Prelude.{◌≡◌, ◌↔◌, Some, None, OnOk, OnErr, IsErrOf};
-ghost use Rattle.pipe_order.specs.Next.{may_take, next};
-ghost use Rattle.pipe_order.specs.Step.{Step};
-ghost use Rattle.router_rules.specs.Actor.{queue_of, worker_of};
+ghost use Rattle.pipeline_laws.specs.Next.{may_take, next};
+ghost use Rattle.pipeline_laws.specs.Step.{Step};
+ghost use Rattle.router_rules.specs.WorkerIndex.{queue_of, worker_of};
 ghost use Rattle.router_rules.specs.Rules.{rules};
 
 use crate::state::State;
 use crate::step::StepFault;
 use pipe_parts::{Hand, home};
 use process_packet::Config;
-use router_rules::{Actor, Channel, has_two_bands};
+use router_rules::{QueueIndex, WorkerIndex, has_two_bands};
 
 impl State {
     /// What a worker owes is pushed.
-    pub(crate) fn offer(&mut self, config: &Config, worker: Actor) -> Result<(), StepFault>
+    pub(crate) fn offer(&mut self, config: &Config, worker: WorkerIndex) -> Result<(), StepFault>
         ensures ok { OnOk result (next (rules config.now) self.old (Step.Offer (worker_of worker)) ≡ Some self.new) }
         ensures not_now { IsErrOf result StepFault.NotNow ↔ (next (rules config.now) self.old (Step.Offer (worker_of worker)) ≡ None) }
         ensures err { OnErr result (self.new ≡ self.old) }
@@ -37,7 +37,7 @@ impl State {
     }
 
     /// What a worker owes meets a full pipe, and is dropped.
-    pub(crate) fn refuse(&mut self, config: &Config, worker: Actor) -> Result<(), StepFault>
+    pub(crate) fn refuse(&mut self, config: &Config, worker: WorkerIndex) -> Result<(), StepFault>
         ensures ok { OnOk result (next (rules config.now) self.old (Step.Refuse (worker_of worker)) ≡ Some self.new) }
         ensures not_now { IsErrOf result StepFault.NotNow ↔ (next (rules config.now) self.old (Step.Refuse (worker_of worker)) ≡ None) }
         ensures err { OnErr result (self.new ≡ self.old) }
@@ -65,11 +65,11 @@ impl State {
 
     /// Whether the lower pipe of a link with two bands may be taken from: its high pipe was seen empty. Any
     /// other pipe may.
-    pub(crate) fn may_take(&self, config: &Config, channel: Channel) -> bool
-        ensures { result ≡ may_take (rules config.now) self.now (queue_of channel) }
+    pub(crate) fn may_take(&self, config: &Config, queue_index: QueueIndex) -> bool
+        ensures { result ≡ may_take (rules config.now) self.now (queue_of queue_index) }
     {
-        match channel {
-            Channel::Of(Actor::Forwarder(link)) => {
+        match queue_index {
+            QueueIndex::Of(WorkerIndex::Forwarder(link)) => {
                 !has_two_bands(config, link) || self.looks.get(link)
             }
             _ => true,
@@ -77,16 +77,16 @@ impl State {
     }
 
     /// The consumer of a pipe takes its front, to work on it or to send it.
-    pub(crate) fn take(&mut self, config: &Config, channel: Channel) -> Result<(), StepFault>
-        ensures ok { OnOk result (next (rules config.now) self.old (Step.Take (queue_of channel)) ≡ Some self.new) }
-        ensures not_now { IsErrOf result StepFault.NotNow ↔ (next (rules config.now) self.old (Step.Take (queue_of channel)) ≡ None) }
+    pub(crate) fn take(&mut self, config: &Config, queue_index: QueueIndex) -> Result<(), StepFault>
+        ensures ok { OnOk result (next (rules config.now) self.old (Step.Take (queue_of queue_index)) ≡ Some self.new) }
+        ensures not_now { IsErrOf result StepFault.NotNow ↔ (next (rules config.now) self.old (Step.Take (queue_of queue_index)) ≡ None) }
         ensures err { OnErr result (self.new ≡ self.old) }
     {
-        if !channel.is_there(config) || !self.may_take(config, channel) {
+        if !queue_index.is_there(config) || !self.may_take(config, queue_index) {
             return Err(StepFault::NotNow);
         }
-        let place = channel.place(config);
-        let seat = channel.consumer().seat(config);
+        let place = queue_index.place(config);
+        let seat = queue_index.consumer().seat(config);
         if self.pipes.is_shut(place) {
             return Err(StepFault::NotNow);
         }
@@ -98,7 +98,7 @@ impl State {
             return Err(StepFault::NotNow);
         };
         let item = first.copied()?;
-        self.looks.use_up(channel);
+        self.looks.use_up(queue_index);
         self.pipes.advance(place);
         self.hands.set(seat, item.in_hand());
         Ok(())

@@ -2,9 +2,9 @@
 
 ghost use Rattle.std.specs.List.{flat_map};
 ghost use Rattle.std.specs.Prelude.{◌≡◌, ◌≤◌, Some, option_map, slice_index_or};
-ghost use Rattle.pipe_order.specs.Item.{is_one};
-ghost use Rattle.pipe_order.specs.Place.{place_at, in_fates, in_hands, in_pipes, in_sent, places};
-ghost use Rattle.pipe_order.specs.World.{Empty};
+ghost use Rattle.pipeline_laws.specs.Item.{is_one};
+ghost use Rattle.pipeline_laws.specs.Place.{place_at, in_fates, in_hands, in_pipes, in_sent, places};
+ghost use Rattle.pipeline_laws.specs.World.{Empty};
 ghost use Rattle.router_rules.specs.Links.{link_count};
 ghost use Rattle.router_rules.specs.Rules.{rules};
 ghost use Rattle.pipe_parts.specs.Items.{hand_in};
@@ -31,7 +31,7 @@ pub enum Place {
 
 /// The worker of a seat.
 pub fn worker_at(config: &Config, seat: usize) -> Worker
-    ensures { result ≡ named_in config.now (Rattle.pipe_order.specs.Place.worker_at (rules config.now) seat) }
+    ensures { result ≡ named_in config.now (Rattle.pipeline_laws.specs.Place.worker_at (rules config.now) seat) }
 {
     let links = link_count(config);
     let slow = slow_seat(config);
@@ -49,7 +49,7 @@ pub fn worker_at(config: &Config, seat: usize) -> Worker
 /// Where a link's packet stands that is in one of the pipes of the links, which are counted from 0, two
 /// of each link.
 fn link_place(config: &Config, pipe: usize) -> Place
-    ensures { result ≡ stands_in config.now (Rattle.pipe_order.specs.Place.link_place pipe) }
+    ensures { result ≡ stands_in config.now (Rattle.pipeline_laws.specs.Place.link_place pipe) }
 {
     let interface = interface_at(config, pipe / 2);
     if pipe % 2 == 0 {
@@ -158,7 +158,7 @@ pub fn find(config: &Config, state: &State, link: u16, number: u64) -> Option<Pl
     if let Some(place) = find_in_hands(config, &state.hands, link, number) {
         return Some(place);
     }
-    let pipes = state.pipes.behind(link_count(config));
+    let pipes = state.pipes.after(link_count(config));
     if let Some(place) = find_in_pipes(config, pipes, link, number) {
         return Some(place);
     }

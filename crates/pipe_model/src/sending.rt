@@ -1,16 +1,16 @@
 //! What a forwarder does besides taking.
 
 ghost use Rattle.std.specs.Prelude.{◌≡◌, ◌↔◌, Some, None, OnOk, OnErr, IsErrOf};
-ghost use Rattle.pipe_order.specs.Next.{next};
-ghost use Rattle.pipe_order.specs.Step.{Step};
-ghost use Rattle.router_rules.specs.Actor.{queue_of};
+ghost use Rattle.pipeline_laws.specs.Next.{next};
+ghost use Rattle.pipeline_laws.specs.Step.{Step};
+ghost use Rattle.router_rules.specs.WorkerIndex.{queue_of};
 ghost use Rattle.router_rules.specs.Rules.{rules};
 
 use crate::state::State;
 use crate::step::StepFault;
 use pipe_parts::{Cause, Hand, Item};
 use process_packet::Config;
-use router_rules::{Actor, Channel, link_count};
+use router_rules::{QueueIndex, WorkerIndex, link_count};
 
 impl State {
     /// The forwarder of a link with two bands sees its high pipe empty.
@@ -19,11 +19,11 @@ impl State {
         ensures not_now { IsErrOf result StepFault.NotNow ↔ (next (rules config.now) self.old (Step.Look link) ≡ None) }
         ensures err { OnErr result (self.new ≡ self.old) }
     {
-        let high = Channel::High(link);
+        let high = QueueIndex::High(link);
         if !high.is_there(config) {
             return Err(StepFault::NotNow);
         }
-        let seat = Actor::Forwarder(link).seat(config);
+        let seat = WorkerIndex::Forwarder(link).seat(config);
         match self.hands.get(seat) {
             None => {}
             Some(Hand::Got(_) | Hand::Owes(_)) => return Err(StepFault::NotNow),
@@ -44,7 +44,7 @@ impl State {
         if usize::from(link) >= link_count(config) {
             return Err(StepFault::NotNow);
         }
-        let seat = Actor::Forwarder(link).seat(config);
+        let seat = WorkerIndex::Forwarder(link).seat(config);
         let Some(Hand::Got(item)) = self.hands.get(seat) else {
             return Err(StepFault::NotNow);
         };
@@ -62,16 +62,23 @@ impl State {
     }
 
     /// A forwarder takes the front behind a closing mark, and drops it.
-    pub(crate) fn sweep(&mut self, config: &Config, channel: Channel) -> Result<(), StepFault>
-        ensures ok { OnOk result (next (rules config.now) self.old (Step.Sweep (queue_of channel)) ≡ Some self.new) }
-        ensures not_now { IsErrOf result StepFault.NotNow ↔ (next (rules config.now) self.old (Step.Sweep (queue_of channel)) ≡ None) }
+    pub(crate) fn sweep(
+        &mut self,
+        config: &Config,
+        queue_index: QueueIndex,
+    ) -> Result<(), StepFault>
+        ensures ok { OnOk result (next (rules config.now) self.old (Step.Sweep (queue_of queue_index)) ≡ Some self.new) }
+        ensures not_now { IsErrOf result StepFault.NotNow ↔ (next (rules config.now) self.old (Step.Sweep (queue_of queue_index)) ≡ None) }
         ensures err { OnErr result (self.new ≡ self.old) }
     {
-        if !channel.is_there(config) || !channel.is_out() || !self.may_take(config, channel) {
+        if !queue_index.is_there(config)
+            || !queue_index.is_out()
+            || !self.may_take(config, queue_index)
+        {
             return Err(StepFault::NotNow);
         }
-        let place = channel.place(config);
-        let seat = channel.consumer().seat(config);
+        let place = queue_index.place(config);
+        let seat = queue_index.consumer().seat(config);
         if !self.pipes.is_shut(place) {
             return Err(StepFault::NotNow);
         }
@@ -83,7 +90,7 @@ impl State {
             return Err(StepFault::NotNow);
         };
         self.fates.note(first, Cause::Closed)?;
-        self.looks.use_up(channel);
+        self.looks.use_up(queue_index);
         self.pipes.advance(place);
         self.hands.set(seat, None);
         Ok(())

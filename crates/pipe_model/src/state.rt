@@ -1,8 +1,8 @@
 //! The state of the pipeline at one moment, and one step of it.
 
 ghost use Rattle.std.specs.Prelude.{◌≡◌, ◌≤◌, IfOk, length, ◌↔◌, Some, None, OnOk, OnErr, IsErrOf};
-ghost use Rattle.pipe_order.specs.Next.{next};
-ghost use Rattle.pipe_order.specs.Start.{first_world};
+ghost use Rattle.pipeline_laws.specs.Next.{next};
+ghost use Rattle.pipeline_laws.specs.Start.{first_world};
 ghost use Rattle.router_rules.specs.Rules.{rules};
 ghost use Rattle.pipe_parts.specs.Arrivals.{sources_from};
 ghost use Rattle.pipe_model.specs.Step.{step_in};
@@ -10,7 +10,7 @@ ghost use Rattle.pipe_model.specs.Step.{step_in};
 use crate::step::{Step, StepFault};
 use pipe_parts::{Fates, Hands, Looks, Pipe, Pipes, Sent};
 use process_packet::{Arrival, Config, NoMemory};
-use router_rules::{Actor, Channel, link_count, link_index, seat_count};
+use router_rules::{QueueIndex, WorkerIndex, link_count, link_index, seat_count};
 use std::alloc::{AllocError, Global};
 use std::marker::Model;
 
@@ -40,7 +40,7 @@ pub struct State {
 }
 
 impl Model for State {
-    ghost use Rattle.pipe_order.specs.World.{World};
+    ghost use Rattle.pipeline_laws.specs.World.{World};
     ghost use Rattle.router_rules.specs.Rules.{kinds};
 
     ghost Value = { World kinds };
@@ -88,21 +88,21 @@ impl State {
         match step {
             Step::Receive(id) => self.receive(config, link_index(config, id)),
             Step::NoBuffer(id) => self.no_buffer(config, link_index(config, id)),
-            Step::Offer(worker) => self.offer(config, Actor::named(config, worker)),
-            Step::Refuse(worker) => self.refuse(config, Actor::named(config, worker)),
-            Step::Take(queue) => self.take(config, Channel::named(config, queue)),
+            Step::Offer(worker) => self.offer(config, WorkerIndex::named(config, worker)),
+            Step::Refuse(worker) => self.refuse(config, WorkerIndex::named(config, worker)),
+            Step::Take(queue) => self.take(config, QueueIndex::named(config, queue)),
             Step::Look(id) => self.look(config, link_index(config, id)),
             Step::Route(i) => self.route(config, i),
             Step::Answer => self.answer(alloc, config),
-            Step::Lack(worker) => self.lack(config, Actor::named(config, worker)),
-            Step::CloseMark(queue) => self.close_mark(config, Channel::named(config, queue)),
+            Step::Lack(worker) => self.lack(config, WorkerIndex::named(config, worker)),
+            Step::CloseMark(queue) => self.close_mark(config, QueueIndex::named(config, queue)),
             Step::EndMark(worker, queue) => self.end_mark(
                 config,
-                Actor::named(config, worker),
-                Channel::named(config, queue),
+                WorkerIndex::named(config, worker),
+                QueueIndex::named(config, queue),
             ),
             Step::Send(id, ok) => self.send(config, link_index(config, id), ok),
-            Step::Sweep(queue) => self.sweep(config, Channel::named(config, queue)),
+            Step::Sweep(queue) => self.sweep(config, QueueIndex::named(config, queue)),
         }
     }
 }

@@ -226,12 +226,12 @@ fn goes_on_without_memory(rt: HostRuntime) {
         let Ok(mut stepped) = pipeline(alloc, EXPIRED) else {
             return assert!(rt; false, "one allocation was refused");
         };
-        let (before, behind) = TO_THE_END.split_at(at);
+        let (before, after) = TO_THE_END.split_at(at);
         for step in before {
             assert!(rt; stepped.step(alloc, *step) != Err(StepFault::NoMemory));
         }
         assert!(rt; tell_the_same(&world, &stepped));
-        assert!(rt; world.run(alloc, behind).is_ok());
+        assert!(rt; world.run(alloc, after).is_ok());
     } else {
         let skipped = run.expect(&rt, "steps");
         assert_eq!(rt; skipped.as_slice(), [0usize, 8, 10, 12, 19, 22].as_slice());

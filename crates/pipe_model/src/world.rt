@@ -152,7 +152,7 @@ impl World {
     pub fn waiting(&self) -> u128
         ensures { result ≡ waiting_of self.now }
     {
-        let pipes = self.state.pipes.behind(link_count(&self.config));
+        let pipes = self.state.pipes.after(link_count(&self.config));
         let _count = pipes.len();
         in_hands(&self.state.hands) as u128 + in_pipes(pipes)
     }

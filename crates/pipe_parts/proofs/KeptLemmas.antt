@@ -1,14 +1,14 @@
 -- What a pipe keeps, as its history grows and is taken.
 use Rattle.std.proofs.Common.{◌≡◌, ℕ, zero, suc, ◌+◌, ◌≤◌, ◌<◌, Bool, true, false, ◌||◌, ◌&&◌, if◌then◌else◌, List, [], ◌∷◌, ◌++◌, length, take, refl, sym, ◌∙◌, ap, arith, slice_get, slice_index_or}
 use Rattle.std.specs.Prelude.{IsSome}
-use Rattle.pipe_order.specs.Item.{Item, ends, has_close, is_close, is_end}
-use Rattle.pipe_order.specs.Pipe.{Entry, items}
-use Rattle.pipe_order.specs.Worker.{Worker, same_worker}
+use Rattle.pipeline_laws.specs.Item.{Item, ends, has_close, is_close, is_end}
+use Rattle.pipeline_laws.specs.Pipe.{Entry, items}
+use Rattle.pipeline_laws.specs.Worker.{Worker, same_worker}
 use Rattle.std.proofs.lemmas.List.Folds.{list_any-append}
 use Rattle.router_rules.specs.Rules.{kinds}
-use Rattle.router_rules.specs.Actor.{worker_of}
+use Rattle.router_rules.specs.WorkerIndex.{worker_of}
 use Rattle.pipe_parts.specs.Ended.{has_ended, has_entry}
-use Rattle.router_rules.specs.declared.actor.Actor.{Actor}
+use Rattle.router_rules.specs.declared.worker_index.WorkerIndex.{WorkerIndex}
 
 or_false : (b : Bool) → (b || false) ≡ b
 or_false true = refl
@@ -91,7 +91,7 @@ front_within (suc t) (x ∷ xs) h = let more = front_within t xs h in omega arit
 
 -- whose end marks were pushed, once one more item is
 pub ended_pushed :
-    (vs bs : List Actor) (a : Actor) (k : Bool) (xs ys : List (Entry kinds)) (e : Entry kinds) (W : Worker) →
+    (vs bs : List WorkerIndex) (a : WorkerIndex) (k : Bool) (xs ys : List (Entry kinds)) (e : Entry kinds) (W : Worker) →
     bs ≡ (if k && is_end e.item then vs ++ a ∷ [] else vs) → k ≡ true → worker_of a ≡ e.from → ys ≡ xs ++ e ∷ [] → has_ended vs W ≡ has_entry xs W → has_ended bs W ≡ has_entry ys W
 ended_pushed vs bs a k xs ys e W h n f g m = rw (g, list_any-append (λ (d : Entry kinds). is_end d.item && same_worker W d.from) xs (e ∷ []), ← m) (go (is_end e.item) grown)
   where
@@ -99,5 +99,5 @@ ended_pushed vs bs a k xs ys e W h n f g m = rw (g, list_any-append (λ (d : Ent
     grown = h ∙ ap (λ (z : Bool). if z && is_end e.item then vs ++ a ∷ [] else vs) n
 
     go : (b : Bool) → bs ≡ (if b then vs ++ a ∷ [] else vs) → has_ended bs W ≡ (has_ended vs W || ((b && same_worker W e.from) || false))
-    go true i = rw (i, list_any-append (λ (v : Actor). same_worker W (worker_of v)) vs (a ∷ []), f) refl
+    go true i = rw (i, list_any-append (λ (v : WorkerIndex). same_worker W (worker_of v)) vs (a ∷ []), f) refl
     go false i = rw i (sym (or_false (has_ended vs W)))

@@ -1,15 +1,15 @@
 -- Whose end marks were pushed.
 use Rattle.std.specs.Prelude.{Bool, ◌&&◌, List}
 use Rattle.std.specs.List.{list_any}
-use Rattle.pipe_order.specs.Item.{is_end}
-use Rattle.pipe_order.specs.Pipe.{Entry}
-use Rattle.pipe_order.specs.Worker.{Worker, same_worker}
+use Rattle.pipeline_laws.specs.Item.{is_end}
+use Rattle.pipeline_laws.specs.Pipe.{Entry}
+use Rattle.pipeline_laws.specs.Worker.{Worker, same_worker}
 use Rattle.router_rules.specs.Rules.{kinds}
-use Rattle.router_rules.specs.Actor.{worker_of}
-use Rattle.router_rules.specs.declared.actor.Actor.{Actor}
+use Rattle.router_rules.specs.WorkerIndex.{worker_of}
+use Rattle.router_rules.specs.declared.worker_index.WorkerIndex.{WorkerIndex}
 
 -- the worker's end mark was pushed, by the list of those whose was, and by the history
-abbrev pub has_ended : List Actor → Worker → Bool
+abbrev pub has_ended : List WorkerIndex → Worker → Bool
 has_ended vs W = list_any (λ v. same_worker W (worker_of v)) vs
 
 abbrev pub has_entry : List (Entry kinds) → Worker → Bool

@@ -1,7 +1,7 @@
 -- What stands in pipes and hands, as the pipeline's laws know it.
 use Rattle.std.specs.Prelude.{Option, Some, None}
-use Rattle.pipe_order.specs.Item.{Arrival, Outgoing, Item}
-use Rattle.pipe_order.specs.World.{Hand}
+use Rattle.pipeline_laws.specs.Item.{Arrival, Outgoing, Item}
+use Rattle.pipeline_laws.specs.World.{Hand}
 use Rattle.router_rules.specs.Datagram.{Parcel}
 use Rattle.router_rules.specs.Rules.{kinds}
 use Rattle.pipe_parts.specs.declared.came.Came.{Came}
@@ -24,7 +24,7 @@ outgoing_in o = record { arrived = o.arrived; number = o.number; answer = o.answ
 abbrev pub item_in : Kept → Item kinds
 item_in (kept.Arrived x) = Item.Arrived (arrival_in x)
 item_in (kept.Packet x) = Item.Packet (arrival_in x.came)
-item_in (kept.Asked x) = Item.Asked (arrival_in x.came) x.problem
+item_in (kept.Request x) = Item.Request (arrival_in x.came) x.problem
 item_in (kept.Out o) = Item.Out (outgoing_in o)
 item_in kept.Close = Item.Close
 item_in kept.End = Item.End

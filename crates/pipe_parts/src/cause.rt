@@ -4,13 +4,13 @@ ghost use Rattle.std.specs.Prelude.{◌≡◌};
 ghost use Rattle.pipe_parts.specs.Causes.{cause_in};
 ghost use Rattle.router_rules.specs.Causes.{booked_as};
 
-use process_packet::Cause as Reason;
+use process_packet::Cause as RouterCause;
 
 /// Why a packet, or the answer to it, ended without being sent.
 #[derive(Clone, Copy, Debug, PartialEq, Eq)]
 pub enum Cause {
     /// The router's rules dropped it, or withheld the answer.
-    Ruled(Reason),
+    Ruled(RouterCause),
     /// The pipe of its processor was full.
     ProcessorFull,
     /// The pipe of its leaving link was full.
@@ -28,17 +28,17 @@ pub enum Cause {
 }
 
 /// Why a packet, or the answer to it, ended without being sent, as one of all causes.
-pub fn reason(cause: Cause) -> Reason
+pub fn reason(cause: Cause) -> RouterCause
     ensures { result ≡ booked_as (cause_in cause) }
 {
     match cause {
         Cause::Ruled(reason) => reason,
-        Cause::ProcessorFull => Reason::ProcessorFull,
-        Cause::LinkFull => Reason::LinkFull,
-        Cause::AnswerFull => Reason::AnswerFull,
-        Cause::NoMemory => Reason::NoMemory,
-        Cause::Closed => Reason::Closed,
-        Cause::SendFailed => Reason::SendFailed,
-        Cause::NoBuffer => Reason::NoBuffer,
+        Cause::ProcessorFull => RouterCause::ProcessorFull,
+        Cause::LinkFull => RouterCause::LinkFull,
+        Cause::AnswerFull => RouterCause::AnswerFull,
+        Cause::NoMemory => RouterCause::NoMemory,
+        Cause::Closed => RouterCause::Closed,
+        Cause::SendFailed => RouterCause::SendFailed,
+        Cause::NoBuffer => RouterCause::NoBuffer,
     }
 }

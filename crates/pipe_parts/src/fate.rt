@@ -1,7 +1,7 @@
 //! How packets ended that were not sent.
 
 ghost use Rattle.std.specs.Prelude.{◌≡◌, ◌++◌, [], take, length, is_ok, option_to_list, if◌then◌else◌};
-ghost use Rattle.pipe_order.specs.World.{fate_of};
+ghost use Rattle.pipeline_laws.specs.World.{fate_of};
 ghost use Rattle.pipe_parts.specs.Causes.{cause_in};
 ghost use Rattle.pipe_parts.specs.Items.{item_in};
 
@@ -19,7 +19,7 @@ pub struct Fate {
 }
 
 impl Model for Fate {
-    ghost use Rattle.pipe_order.specs.World.{Fate};
+    ghost use Rattle.pipeline_laws.specs.World.{Fate};
     ghost use Rattle.router_rules.specs.Rules.{kinds};
     ghost use Rattle.pipe_parts.specs.Causes.{cause_in};
 
@@ -36,7 +36,7 @@ pub struct Fates {
 
 impl Model for Fates {
     ghost use Rattle.std.specs.Prelude.{List};
-    ghost use Rattle.pipe_order.specs.World.{Fate};
+    ghost use Rattle.pipeline_laws.specs.World.{Fate};
     ghost use Rattle.router_rules.specs.Rules.{kinds};
 
     ghost Value = { List (Fate kinds) };
@@ -51,7 +51,7 @@ fn fate_of(item: &Item, cause: Cause) -> Option<Fate>
     let (link, number) = match item {
         Item::Arrived(came) => (came.link, came.number),
         Item::Packet(packet) => (packet.came.link, packet.came.number),
-        Item::Asked(asked) => (asked.came.link, asked.came.number),
+        Item::Request(request) => (request.came.link, request.came.number),
         Item::Out(out) => (out.arrived, out.number),
         Item::Close | Item::End => return None,
     };

@@ -1,9 +1,9 @@
 //! What stands in a pipe or in a worker's hand.
 
 ghost use Rattle.std.specs.Prelude.{◌≡◌, IfOk};
-ghost use Rattle.pipe_order.specs.Item.{is_close, is_end, is_named, is_one};
-ghost use Rattle.pipe_order.specs.Next.{full_of, hand_after};
-ghost use Rattle.pipe_order.specs.Totals.{is_packet};
+ghost use Rattle.pipeline_laws.specs.Item.{is_close, is_end, is_named, is_one};
+ghost use Rattle.pipeline_laws.specs.Next.{full_of, hand_after};
+ghost use Rattle.pipeline_laws.specs.Totals.{is_packet};
 ghost use Rattle.pipe_parts.specs.Causes.{cause_in};
 ghost use Rattle.pipe_parts.specs.Items.{hand_in, item_in};
 
@@ -11,7 +11,7 @@ use crate::bytes::Bytes;
 use crate::came::Came;
 use crate::cause::Cause;
 use crate::hands::Hand;
-use crate::packet::{Asked, Packet};
+use crate::packet::{Packet, Request};
 use process_packet::Underlay;
 use std::alloc::AllocError;
 
@@ -46,7 +46,7 @@ pub enum Item {
     /// It is for a processor.
     Packet(Packet),
     /// It is for the slow path, which answers it.
-    Asked(Asked),
+    Request(Request),
     /// It is for a forwarder.
     Out(Out),
     /// The mark that closes a link.
@@ -82,7 +82,7 @@ impl Item {
     {
         match self {
             Item::Arrived(_) | Item::Packet(_) => Cause::ProcessorFull,
-            Item::Asked(_) => Cause::AnswerFull,
+            Item::Request(_) => Cause::AnswerFull,
             Item::Out(_) | Item::Close | Item::End => Cause::LinkFull,
         }
     }
@@ -115,7 +115,7 @@ impl Item {
         match self {
             Item::Arrived(came) => Ok(Item::Arrived(came.copied()?)),
             Item::Packet(packet) => Ok(Item::Packet(packet.copied()?)),
-            Item::Asked(asked) => Ok(Item::Asked(asked.copied()?)),
+            Item::Request(request) => Ok(Item::Request(request.copied()?)),
             Item::Out(out) => Ok(Item::Out(out.copied()?)),
             Item::Close => Ok(Item::Close),
             Item::End => Ok(Item::End),
@@ -137,7 +137,7 @@ pub fn is_named(item: &Item, link: u16, number: u64) -> bool
     match item {
         Item::Arrived(came) => came.link == link && came.number == number,
         Item::Packet(packet) => packet.came.link == link && packet.came.number == number,
-        Item::Asked(asked) => asked.came.link == link && asked.came.number == number,
+        Item::Request(request) => request.came.link == link && request.came.number == number,
         Item::Out(out) => out.arrived == link && out.number == number,
         Item::Close | Item::End => false,
     }

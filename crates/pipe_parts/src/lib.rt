@@ -22,7 +22,7 @@ pub use fate::{Fate, Fates};
 pub use hands::{Hand, Hands};
 pub use item::{Item, Out, Parcel, is_named, is_packet};
 pub use looks::Looks;
-pub use packet::{Asked, Packet};
+pub use packet::{Packet, Request};
 pub use pipe::{Entry, Pipe, Refusal};
 pub use pipes::Pipes;
 pub use rules::{Outcome, decide, home, reply};

@@ -1,10 +1,10 @@
 //! Of which links the high pipe was seen empty.
 
 ghost use Rattle.std.specs.Prelude.{◌≡◌, false, IfOk, replicate, slice_index_or, slice_set};
-ghost use Rattle.pipe_order.specs.Next.{forgotten};
-ghost use Rattle.router_rules.specs.Actor.{queue_of};
+ghost use Rattle.pipeline_laws.specs.Next.{forgotten};
+ghost use Rattle.router_rules.specs.WorkerIndex.{queue_of};
 
-use router_rules::{Actor, Channel};
+use router_rules::{QueueIndex, WorkerIndex};
 use std::alloc::{AllocError, Global};
 use std::marker::Model;
 
@@ -56,10 +56,10 @@ impl Looks {
     }
 
     /// A note is used up by the next take or sweep of its link.
-    pub fn use_up(&mut self, channel: Channel)
-        ensures { self.new ≡ forgotten (queue_of channel) self.old }
+    pub fn use_up(&mut self, queue_index: QueueIndex)
+        ensures { self.new ≡ forgotten (queue_of queue_index) self.old }
     {
-        if let Channel::High(link) | Channel::Of(Actor::Forwarder(link)) = channel {
+        if let QueueIndex::High(link) | QueueIndex::Of(WorkerIndex::Forwarder(link)) = queue_index {
             self.set(link, false);
         }
     }

@@ -17,7 +17,7 @@ pub struct Packet {
 
 /// A packet without a fault, and what its sender is to be told.
 #[derive(Debug, Drop)]
-pub struct Asked {
+pub struct Request {
     pub came: Came,
     pub problem: Problem,
     pub ghost packet_is_sound: { first_fault came.bytes ≡ None },
@@ -34,15 +34,15 @@ impl Packet {
     }
 }
 
-impl Asked {
+impl Request {
     ghost use Rattle.std.specs.Prelude.{IfOk};
 
-    pub fn copied(&self) -> Result<Asked, AllocError>
-        ensures came { IfOk result (λ asked. asked.came ≡ self.now.came) }
-        ensures problem { IfOk result (λ asked. asked.problem ≡ self.now.problem) }
+    pub fn copied(&self) -> Result<Request, AllocError>
+        ensures came { IfOk result (λ request. request.came ≡ self.now.came) }
+        ensures problem { IfOk result (λ request. request.problem ≡ self.now.problem) }
     {
         let came = self.came.copied()?;
-        Ok(Asked {
+        Ok(Request {
             came,
             problem: self.problem,
         })

@@ -1,9 +1,9 @@
 //! One pipe, kept as the list of all that was ever pushed.
 
 ghost use Rattle.std.specs.Prelude.{◌≡◌, ◌&&◌, ◌++◌, ◌∷◌, [], Some, None, MatchOption, IfOk, is_ok, IsSome, if◌then◌else◌};
-ghost use Rattle.pipe_order.specs.Item.{ends, is_end};
-ghost use Rattle.pipe_order.specs.Pipe.{empty_pipe, front, gone, has_end_of, has_room, is_marked, is_shut, one_taken, pushed, refusal_of, refused};
-ghost use Rattle.router_rules.specs.Actor.{worker_of};
+ghost use Rattle.pipeline_laws.specs.Item.{ends, is_end};
+ghost use Rattle.pipeline_laws.specs.Pipe.{empty_pipe, front, gone, has_end_of, has_room, is_marked, is_shut, one_taken, pushed, refusal_of, refused};
+ghost use Rattle.router_rules.specs.WorkerIndex.{worker_of};
 ghost use Rattle.pipe_parts.specs.Arrivals.{source};
 ghost use Rattle.pipe_parts.specs.Ended.{has_ended};
 ghost use Rattle.pipe_parts.specs.Items.{item_in};
@@ -11,31 +11,31 @@ ghost use Rattle.pipe_parts.specs.Items.{item_in};
 use crate::came::Came;
 use crate::item::Item;
 use process_packet::{Arrival, NoMemory};
-use router_rules::Actor;
+use router_rules::WorkerIndex;
 use std::alloc::{AllocError, Global};
 use std::marker::Model;
 
 /// An item, with the worker that pushed it.
 #[derive(Debug, Drop)]
 pub struct Entry {
-    from: Actor,
+    from: WorkerIndex,
     item: Item,
 }
 
 impl Model for Entry {
-    ghost use Rattle.pipe_order.specs.Pipe.{Entry};
+    ghost use Rattle.pipeline_laws.specs.Pipe.{Entry};
     ghost use Rattle.router_rules.specs.Rules.{kinds};
 
     ghost Value = { Entry kinds };
 
-    ghost use Rattle.router_rules.specs.Actor.{worker_of};
+    ghost use Rattle.router_rules.specs.WorkerIndex.{worker_of};
     ghost use Rattle.pipe_parts.specs.Items.{item_in};
 
     ghost view = { λ e. record { from = worker_of e.from; item = item_in e.item } };
 }
 
 impl Entry {
-    pub fn new(from: Actor, item: Item) -> Entry
+    pub fn new(from: WorkerIndex, item: Item) -> Entry
         ensures { result ≡ record { from = worker_of from; item = item_in item } }
     {
         Entry { from, item }
@@ -59,7 +59,7 @@ pub struct Refusal {
 }
 
 impl Model for Refusal {
-    ghost use Rattle.pipe_order.specs.Pipe.{Refusal};
+    ghost use Rattle.pipeline_laws.specs.Pipe.{Refusal};
 
     ghost Value = { Refusal };
 
@@ -95,11 +95,11 @@ pub struct Pipe {
     /// How many end marks were taken.
     ends: usize,
     /// Which workers' end marks were pushed.
-    ended: Vec<Actor>,
+    ended: Vec<WorkerIndex>,
 }
 
 impl Model for Pipe {
-    ghost use Rattle.pipe_order.specs.Pipe.{Pipe};
+    ghost use Rattle.pipeline_laws.specs.Pipe.{Pipe};
     ghost use Rattle.router_rules.specs.Rules.{kinds};
 
     ghost Value = { Pipe kinds };
@@ -113,14 +113,14 @@ impl Model for Pipe {
 }
 
 /// Whether the worker is one of those that ended.
-fn has_ended(ended: &[Actor], worker: Actor) -> bool
+fn has_ended(ended: &[WorkerIndex], worker: WorkerIndex) -> bool
     ensures { result ≡ has_ended ended.now (worker_of worker) }
 {
     ended.iter().any(|other| worker.is(*other))
 }
 
 /// Adds a worker to those whose end mark was pushed, where the item is one.
-fn note_end(ended: &mut Vec<Actor>, from: Actor, item: &Item) -> Result<(), AllocError>
+fn note_end(ended: &mut Vec<WorkerIndex>, from: WorkerIndex, item: &Item) -> Result<(), AllocError>
     ensures { ended.new.items ≡ (if is_ok result && is_end (item_in item.now) then ended.old.items ++ from ∷ [] else ended.old.items) }
 {
     if item.is_end() {
@@ -153,7 +153,7 @@ impl Pipe {
         let mut pipe = Pipe::new(alloc, 0);
         for arrival in arrivals {
             let item = Item::Arrived(Came::on(link, arrival));
-            if pipe.push(Actor::Receiver(link), item).is_err() {
+            if pipe.push(WorkerIndex::Receiver(link), item).is_err() {
                 return Err(NoMemory);
             }
         }
@@ -199,7 +199,7 @@ impl Pipe {
     }
 
     /// Pushes an item.
-    pub fn push(&mut self, from: Actor, item: Item) -> Result<(), AllocError>
+    pub fn push(&mut self, from: WorkerIndex, item: Item) -> Result<(), AllocError>
         ensures { self.new ≡ (if is_ok result then pushed self.old (worker_of from) (item_in item) else self.old) }
     {
         let closes = item.is_close();
@@ -235,7 +235,7 @@ impl Pipe {
         let (link, number) = match item {
             Item::Arrived(came) => (came.link, came.number),
             Item::Packet(packet) => (packet.came.link, packet.came.number),
-            Item::Asked(asked) => (asked.came.link, asked.came.number),
+            Item::Request(request) => (request.came.link, request.came.number),
             Item::Out(out) => (out.arrived, out.number),
             Item::Close | Item::End => (0, 0),
         };
@@ -252,7 +252,7 @@ impl Pipe {
     }
 
     /// Whether the worker has pushed its end mark.
-    pub fn has_end_of(&self, worker: Actor) -> bool
+    pub fn has_end_of(&self, worker: WorkerIndex) -> bool
         ensures { result ≡ has_end_of (worker_of worker) self.now }
     {
         has_ended(self.ended.as_slice(), worker)

@@ -1,15 +1,15 @@
 //! All pipes, by their places.
 
 ghost use Rattle.std.specs.Prelude.{◌≡◌, ◌++◌, Some, None, MatchOption, IsSome, IfOk, is_ok, if◌then◌else◌, replicate, slice_set};
-ghost use Rattle.pipe_order.specs.Item.{ends};
-ghost use Rattle.pipe_order.specs.Pipe.{empty_pipe, front, gone, has_end_of, has_room, is_marked, is_shut, one_taken, pushed, refusal_of, refused};
-ghost use Rattle.router_rules.specs.Actor.{worker_of};
+ghost use Rattle.pipeline_laws.specs.Item.{ends};
+ghost use Rattle.pipeline_laws.specs.Pipe.{empty_pipe, front, gone, has_end_of, has_room, is_marked, is_shut, one_taken, pushed, refusal_of, refused};
+ghost use Rattle.router_rules.specs.WorkerIndex.{worker_of};
 ghost use Rattle.pipe_parts.specs.Items.{item_in};
 ghost use Rattle.pipe_parts.specs.Kept.{pipe_at};
 
 use crate::item::Item;
 use crate::pipe::Pipe;
-use router_rules::Actor;
+use router_rules::WorkerIndex;
 use std::alloc::{AllocError, Global};
 use std::marker::Model;
 
@@ -22,7 +22,7 @@ pub struct Pipes {
 
 impl Model for Pipes {
     ghost use Rattle.std.specs.Prelude.{List};
-    ghost use Rattle.pipe_order.specs.Pipe.{Pipe};
+    ghost use Rattle.pipeline_laws.specs.Pipe.{Pipe};
     ghost use Rattle.router_rules.specs.Rules.{kinds};
 
     ghost Value = { List (Pipe kinds) };
@@ -88,7 +88,7 @@ impl Pipes {
     }
 
     /// Whether the worker has pushed its end mark.
-    pub fn has_end_of(&self, at: usize, worker: Actor) -> bool
+    pub fn has_end_of(&self, at: usize, worker: WorkerIndex) -> bool
         ensures { result ≡ has_end_of (worker_of worker) (pipe_at self.now at) }
     {
         match self.items.get(at) {
@@ -108,7 +108,7 @@ impl Pipes {
     }
 
     /// Pushes an item.
-    pub fn push(&mut self, at: usize, from: Actor, item: Item) -> Result<(), AllocError>
+    pub fn push(&mut self, at: usize, from: WorkerIndex, item: Item) -> Result<(), AllocError>
         ensures { self.new ≡ (if is_ok result then slice_set self.old at (pushed (pipe_at self.old at) (worker_of from) (item_in item)) else self.old) }
     {
         if at < self.items.len() {
@@ -153,7 +153,7 @@ impl Pipes {
     }
 
     /// Those behind the first so many.
-    pub fn behind(&self, count: usize) -> &[Pipe]
+    pub fn after(&self, count: usize) -> &[Pipe]
         ensures { result.now ≡ drop count self.now }
     {
         if count <= self.items.len() {

@@ -1,8 +1,8 @@
 //! What the pipeline asks of the router of one packet: where it goes, what is decided of it, what answers it.
 
 ghost use Rattle.std.specs.Prelude.{◌≡◌, IfOk};
-ghost use Rattle.pipe_order.specs.Next as next;
-ghost use Rattle.pipe_order.specs.World.{home};
+ghost use Rattle.pipeline_laws.specs.Next as next;
+ghost use Rattle.pipeline_laws.specs.World.{home};
 ghost use Rattle.process_packet.specs.Decide.{decide, moved};
 ghost use Rattle.process_packet.specs.Network.{network};
 ghost use Rattle.router_rules.specs.Rules.{rules};
@@ -13,7 +13,7 @@ use crate::bytes::Bytes;
 use crate::came::Came;
 use crate::cause::Cause;
 use crate::item::{Item, Out, Parcel};
-use crate::packet::{Asked, Packet};
+use crate::packet::{Packet, Request};
 use process_packet::{Config, Decision, answers_are_sound, route_in_place};
 use router_rules::{
     has_two_bands, is_urgent, link_count, link_index, link_pipe, processor, slow_seat,
@@ -41,7 +41,7 @@ pub fn home(config: &Config, item: &Item) -> usize
             let high = has_two_bands(config, out.link) && is_urgent(out.parcel.bytes.as_slice());
             link_pipe(config, high, out.link)
         }
-        Item::Arrived(_) | Item::Asked(_) | Item::Close | Item::End => slow_seat(config),
+        Item::Arrived(_) | Item::Request(_) | Item::Close | Item::End => slow_seat(config),
     }
 }
 
@@ -83,17 +83,17 @@ pub fn decide(config: &Config, packet: &Packet) -> Result<Outcome, AllocError>
             answers_are_sound();
             // The bytes are as they came.
             let came = came.with(bytes);
-            Ok(Outcome::Makes(Item::Asked(Asked { came, problem })))
+            Ok(Outcome::Makes(Item::Request(Request { came, problem })))
         }
         Decision::Drop(reason) => Ok(Outcome::Ends(Cause::Ruled(reason))),
     }
 }
 
 /// What the slow path makes of a problem.
-pub fn reply(alloc: Global, config: &Config, asked: &Asked) -> Result<Outcome, AllocError>
-    ensures { IfOk result (λ made. outcome_in made ≡ next.replied (arrival_in asked.now.came) ((rules config.now).reply (arrival_in asked.now.came) asked.now.problem)) }
+pub fn reply(alloc: Global, config: &Config, request: &Request) -> Result<Outcome, AllocError>
+    ensures { IfOk result (λ made. outcome_in made ≡ next.replied (arrival_in request.now.came) ((rules config.now).reply (arrival_in request.now.came) request.now.problem)) }
 {
-    let came = &asked.came;
+    let came = &request.came;
     let mut out = [0; LONGEST_ANSWER];
     let bytes = came.bytes.as_slice();
     match answer_into(
@@ -101,7 +101,7 @@ pub fn reply(alloc: Global, config: &Config, asked: &Asked) -> Result<Outcome, A
         came.interface,
         came.source,
         bytes,
-        &asked.problem,
+        &request.problem,
         &mut out,
     ) {
         AnswerLen::Send { link, to, len } => {

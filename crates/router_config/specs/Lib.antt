@@ -4,7 +4,7 @@ pub mod Entry
 pub mod Neighbours
 pub mod Config
 pub mod Parts
-pub mod Place
+pub mod Location
 pub use Rattle.text_values.specs.Pieces
 pub use Rattle.text_values.specs.Address
 pub use Rattle.text_values.specs.Shown

@@ -2,7 +2,7 @@
 ghost use Rattle.std.specs.Prelude.{◌≡◌, ◌<◌, ◌≤◌, ◌^◌, IfSome};
 ghost use Rattle.router_config.specs.IsdAs.{as_of, groups_of, isd_as_of};
 
-use text_values::pieces::{cut, read_group, read_number};
+use text_values::pieces::{read_group, read_number, split_once};
 
 /// The AS number of three groups of hex digits.
 #[tactic(auto, unfolding(crate::specs::IsdAs::groups_of))]
@@ -10,8 +10,8 @@ fn read_groups(text: &str) -> Option<u64>
     ensures value { result ≡ groups_of text.now }
     ensures fits { IfSome result (λ number. number < 2 ^ 48) }
 {
-    let (high, rest) = cut(text, ':')?;
-    let (middle, low) = cut(rest, ':')?;
+    let (high, rest) = split_once(text, ':')?;
+    let (middle, low) = split_once(rest, ':')?;
     let high = read_group(high)?;
     let middle = read_group(middle)?;
     let low = read_group(low)?;
@@ -41,7 +41,7 @@ pub(crate) fn read_isd_as(text: &str) -> Option<(u16, u64)>
     ensures autonomous_system_is_there { IfSome result (λ numbers. 1 ≤ numbers.1) }
     ensures fits { IfSome result (λ numbers. numbers.1 < 2 ^ 48) }
 {
-    let (isd, autonomous_system) = cut(text, '-')?;
+    let (isd, autonomous_system) = split_once(text, '-')?;
     let isd = read_number(isd, u16::MAX.into())? as u16;
     if isd == 0 {
         return None;

@@ -7,8 +7,8 @@ mod entry;
 mod fault;
 mod isd_as;
 mod lists;
+mod location;
 mod neighbours;
-mod place;
 mod words;
 
 pub use config::read_config;

@@ -63,7 +63,7 @@ fn is_served(given: &[Service], number: u16) -> bool
 }
 
 /// The number of a service, beside those that have been given.
-fn read_number(given: &[Service], number: i64) -> Result<u16, ConfigFault>
+fn read_service_number(given: &[Service], number: i64) -> Result<u16, ConfigFault>
     ensures value { result ≡ service_of_number (map service_number given.now) number }
     ensures small { IfOk result (λ found. found ≤ 32767) }
     ensures fresh { IfOk result (λ found. list_any (λ other. other == found) (map service_number given.now) ≡ false) }
@@ -99,7 +99,7 @@ pub(crate) fn number_at(given: &[Service], table: &Table) -> Result<u16, ConfigF
     ensures fresh { IfOk result (λ found. list_any (λ other. other == found) (map service_number given.now) ≡ false) }
 {
     match integer_at(table, "number") {
-        Ok(number) => read_number(given, number),
+        Ok(number) => read_service_number(given, number),
         Err(fault) => Err(fault),
     }
 }

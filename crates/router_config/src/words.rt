@@ -4,7 +4,7 @@ ghost use Rattle.router_config.specs.Config.{values_of};
 
 use crate::config::config_at;
 use crate::fault::ConfigFault;
-use crate::place::{Key, Place, place_in};
+use crate::location::{Key, Location, location_in};
 use std::alloc::{AllocError, Global};
 use std::ops::Range;
 use toml::{Table, Value};
@@ -40,14 +40,16 @@ fn member_at(table: &Table, list: Key, number: usize) -> Option<&Table> {
 }
 
 /// What stands at a place, and what is wanted there.
-fn words_at(alloc: Global, table: &Table, place: Place) -> Result<String, AllocError> {
-    match place {
-        Place::Value(key) => {
+fn words_at(alloc: Global, table: &Table, location: Location) -> Result<String, AllocError> {
+    match location {
+        Location::Value(key) => {
             let found = found_at(alloc, key, Some(table))?;
             format!(in alloc; "`{}` is {found}; wanted: {}", key.name(), key.wanted())
         }
-        Place::Member(list, number) => { format!(in alloc; "{} {number} is no table", list.name()) }
-        Place::MemberValue(list, number, key) => {
+        Location::Member(list, number) => {
+            format!(in alloc; "{} {number} is no table", list.name())
+        }
+        Location::MemberValue(list, number, key) => {
             let found = found_at(alloc, key, member_at(table, list, number))?;
             format!(in alloc;
                 "`{}` of {} {number} is {found}; wanted: {}",
@@ -83,8 +85,8 @@ pub fn fault_words(alloc: Global, text: &str) -> Result<Option<String>, AllocErr
             Err(fault) => match fault {
                 ConfigFault::Memory => Err(AllocError),
                 _ => {
-                    let place = place_in(alloc, &table)?;
-                    Ok(Some(words_at(alloc, &table, place)?))
+                    let location = location_in(alloc, &table)?;
+                    Ok(Some(words_at(alloc, &table, location)?))
                 }
             },
         },

@@ -1,7 +1,7 @@
 -- The controller's ends.
 use Rattle.std.proofs.Common.{◌≡◌, ℕ, zero, suc, ◌+◌, ◌*◌, ◌<◌, ◌≤◌, Bool, true, false, ◌||◌, List, [], ◌∷◌, ◌++◌, length, Result, Ok, Err, slice_index_or, slice_set, refl, sym, ap, subst, ◌∙◌, arith, length-append}
 use Rattle.std.proofs.lemmas.List.{map-append}
-use Rattle.pipe_order.specs.Deeds.{closes, has_mark, payload_of, payloads}
+use Rattle.pipeline_laws.specs.Deeds.{closes, has_mark, payload_of, payloads}
 use Rattle.ruled_pipe.specs.declared.entry.Entry.{Entry}
 use Rattle.ruled_pipe.specs.declared.entry.Load.TheVariants.{Marked}
 use Rattle.ruled_pipe.specs.declared.entry.Mark.{Mark}
@@ -116,16 +116,16 @@ module _ {T : Type 0} where
 
   -- ---- new ones
 
-  new_behind : (uses : ℕ → Bool) (k : ℕ) (es : List (Sender T)) (hs : List (Shutting T)) (e : Sender T) (h : Shutting T) → AreNew uses k es hs → h ≡ shutting e (uses (k + length hs)) false false → AreNew uses k (es ++ e ∷ []) (hs ++ h ∷ [])
-  new_behind uses k [] [] e h a is = let z : k + 0 ≡ k = omega arith in (is ∙ ap (λ (j : ℕ). shutting e (uses j) false false) z, tt)
-  new_behind uses k [] (x ∷ hs) e h a is = absurd a
-  new_behind uses k (x ∷ es) [] e h a is = absurd a
-  new_behind uses k (x ∷ es) (y ∷ hs) e h a is =
-      let z : k + suc (length hs) ≡ suc k + length hs = omega arith in (a.0, new_behind uses (suc k) es hs e h a.1 (is ∙ ap (λ (j : ℕ). shutting e (uses j) false false) z))
+  new_after : (uses : ℕ → Bool) (k : ℕ) (es : List (Sender T)) (hs : List (Shutting T)) (e : Sender T) (h : Shutting T) → AreNew uses k es hs → h ≡ shutting e (uses (k + length hs)) false false → AreNew uses k (es ++ e ∷ []) (hs ++ h ∷ [])
+  new_after uses k [] [] e h a is = let z : k + 0 ≡ k = omega arith in (is ∙ ap (λ (j : ℕ). shutting e (uses j) false false) z, tt)
+  new_after uses k [] (x ∷ hs) e h a is = absurd a
+  new_after uses k (x ∷ es) [] e h a is = absurd a
+  new_after uses k (x ∷ es) (y ∷ hs) e h a is =
+      let z : k + suc (length hs) ≡ suc k + length hs = omega arith in (a.0, new_after uses (suc k) es hs e h a.1 (is ∙ ap (λ (j : ℕ). shutting e (uses j) false false) z))
 
   pub new_more : (uses : ℕ → Bool) (es : List (Sender T)) (hs : List (Shutting T)) (e : Sender T) (h : Shutting T) (used : Bool) → AreNew uses 0 es hs → used ≡ uses (length hs) → h ≡ shutting e used false false → AreNew uses 0 (es ++ e ∷ []) (hs ++ h ∷ [])
   new_more uses es hs e h used a u is =
-      let z : length hs ≡ 0 + length hs = omega arith in new_behind uses 0 es hs e h a (is ∙ ap (λ (b : Bool). shutting e b false false) (u ∙ ap uses z))
+      let z : length hs ≡ 0 + length hs = omega arith in new_after uses 0 es hs e h a (is ∙ ap (λ (b : Bool). shutting e b false false) (u ∙ ap uses z))
 
   pub new_long : (uses : ℕ → Bool) (k : ℕ) (es : List (Sender T)) (hs : List (Shutting T)) → AreNew uses k es hs → length hs ≡ length es
   new_long uses k [] [] a = refl
@@ -198,13 +198,13 @@ module _ {T : Type 0} where
   marking_more [] h a is = (is, tt)
   marking_more (x ∷ hs) h a is = (a.0, marking_more hs h a.1 is)
 
-  pub ends_behind : (hs : List (Shutting T)) (h : Shutting T) → shutter_ends (hs ++ h ∷ []) ≡ shutter_ends hs ++ h.end ∷ []
-  ends_behind hs h = map-append (λ (x : Shutting T). x.end) hs (h ∷ [])
+  pub ends_after : (hs : List (Shutting T)) (h : Shutting T) → shutter_ends (hs ++ h ∷ []) ≡ shutter_ends hs ++ h.end ∷ []
+  ends_after hs h = map-append (λ (x : Shutting T). x.end) hs (h ∷ [])
 
   pub back_more : (hs : List (Shutting T)) (row next : List (Sender T)) (h : Shutting T) (e : Sender T) → row ≡ shutter_ends hs → AreMarking hs → next ≡ row ++ e ∷ [] → e ≡ h.end → IsShutting h
       → (next ≡ shutter_ends (hs ++ h ∷ [])) × AreMarking (hs ++ h ∷ [])
   back_more hs row next h e same marked put is one = (
-    put ∙ (ap (λ (l : List (Sender T)). l ++ e ∷ []) same ∙ (ap (λ (x : Sender T). shutter_ends hs ++ x ∷ []) is ∙ sym (ends_behind hs h))),
+    put ∙ (ap (λ (l : List (Sender T)). l ++ e ∷ []) same ∙ (ap (λ (x : Sender T). shutter_ends hs ++ x ∷ []) is ∙ sym (ends_after hs h))),
     marking_more hs h marked one,
   )
 

@@ -1,6 +1,6 @@
 -- The controller's ends of the links' pipes, which push marks alone.
 use Rattle.std.specs.Prelude.{◌≡◌, ℕ, zero, suc, Bool, true, false, List, [], ◌∷◌, map, slice_get, Some, slice_index_or, slice_set, Result, Ok, Err}
-use Rattle.pipe_order.specs.Deeds.{has_mark, payloads}
+use Rattle.pipeline_laws.specs.Deeds.{has_mark, payloads}
 use Rattle.ruled_pipe.specs.declared.entry.Load.TheVariants.{Marked}
 use Rattle.ruled_pipe.specs.declared.entry.Mark.TheVariants.{Close}
 use Rattle.ruled_pipe.specs.Producer.{Sender, entry, offered, refused}

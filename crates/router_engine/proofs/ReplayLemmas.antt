@@ -10,8 +10,8 @@ use Rattle.std.proofs.lemmas.List.{append-nil, take-append-drop, take_at}
 use Rattle.process_packet.specs.declared.arrival.Arrival.{Arrival as Came}
 use Rattle.process_packet.specs.declared.config.Config.{Config}
 use Rattle.router_rules.specs.Datagram.{Datagram}
-use Rattle.pipe_order.specs.Next.{next}
-use Rattle.pipe_order.specs.World.{World}
+use Rattle.pipeline_laws.specs.Next.{next}
+use Rattle.pipeline_laws.specs.World.{World}
 use Rattle.router_rules.specs.Rules.{kinds}
 use Rattle.pipe_model.specs.Pipeline.{Pipeline, rules_in, stepped, with_world}
 use Rattle.pipe_model.specs.Step.{step_in}
@@ -23,7 +23,7 @@ use Rattle.router_lines.specs.StepLine.{step_of_line}
 use Rattle.router_engine.proofs.RouteLemmas.{Appends-nothing, Appends-then, lines_step}
 use Rattle.router_engine.specs.Route.{Told, bad_or}
 use Rattle.router_engine.specs.Lines.{lines_of, pieces_of}
-use Rattle.router_engine.specs.Replay.{Replayed, arrival_then, arrivals_in, bad_replay_line, bad_step, behind_arrivals, behind_then, noted, or_stays, replay_text, step_then, steps_text}
+use Rattle.router_engine.specs.Replay.{Replayed, arrival_then, arrivals_in, bad_replay_line, bad_step, after_arrivals, after_then, noted, or_stays, replay_text, step_then, steps_text}
 use Rattle.router_engine.specs.ReplayParts.{Acted, AreFront, Both, IsCut, IsFront, Ran, RanOn, Same, left_of, lines_in}
 use Rattle.router_engine.specs.declared.fault.LinesFault.{LinesFault}
 use Rattle.router_engine.specs.declared.fault.LinesFault.TheVariants as faults
@@ -51,7 +51,7 @@ line_read (Some (x ∷ xs)) after line true end next =
 
 -- these datagrams were in front, and the rest of the lines is left
 abbrev pub Gathers : Config → Option Lines → Option Lines → List Datagram → Type 0
-Gathers c known left ds = Both known left (λ all later. (arrivals_in c all ≡ ds ++ arrivals_in c later) × (behind_arrivals c all ≡ behind_arrivals c later))
+Gathers c known left ds = Both known left (λ all later. (arrivals_in c all ≡ ds ++ arrivals_in c later) × (after_arrivals c all ≡ after_arrivals c later))
 
 pub gathers_none : (c : Config) (known : Option Lines) → Gathers c known known []
 gathers_none c None = tt
@@ -61,21 +61,21 @@ arrivals_one : (c : Config) (line : List ℕ) (lines : Lines) (d : Datagram) →
 unfolding arrivals_in
 arrivals_one c line lines d is = ap (λ (o : Option Datagram). arrival_then o (arrivals_in c lines)) is
 
-behind_one : (c : Config) (line : List ℕ) (lines : Lines) (d : Datagram) → datagram_of_line c line ≡ Some d → behind_arrivals c (line ∷ lines) ≡ behind_arrivals c lines
-unfolding behind_arrivals
-behind_one c line lines d is = ap (λ (o : Option Datagram). behind_then o (line ∷ lines) (behind_arrivals c lines)) is
+after_one : (c : Config) (line : List ℕ) (lines : Lines) (d : Datagram) → datagram_of_line c line ≡ Some d → after_arrivals c (line ∷ lines) ≡ after_arrivals c lines
+unfolding after_arrivals
+after_one c line lines d is = ap (λ (o : Option Datagram). after_then o (line ∷ lines) (after_arrivals c lines)) is
 
 arrivals_end : (c : Config) (line : List ℕ) (lines : Lines) → datagram_of_line c line ≡ None → arrivals_in c (line ∷ lines) ≡ []
 unfolding arrivals_in
 arrivals_end c line lines is = ap (λ (o : Option Datagram). arrival_then o (arrivals_in c lines)) is
 
-behind_end : (c : Config) (line : List ℕ) (lines : Lines) → datagram_of_line c line ≡ None → behind_arrivals c (line ∷ lines) ≡ line ∷ lines
-unfolding behind_arrivals
-behind_end c line lines is = ap (λ (o : Option Datagram). behind_then o (line ∷ lines) (behind_arrivals c lines)) is
+after_end : (c : Config) (line : List ℕ) (lines : Lines) → datagram_of_line c line ≡ None → after_arrivals c (line ∷ lines) ≡ line ∷ lines
+unfolding after_arrivals
+after_end c line lines is = ap (λ (o : Option Datagram). after_then o (line ∷ lines) (after_arrivals c lines)) is
 
-nothing_behind : (c : Config) → (arrivals_in c [] ≡ []) × (behind_arrivals c [] ≡ [])
-unfolding arrivals_in behind_arrivals
-nothing_behind c = (refl, refl)
+nothing_after : (c : Config) → (arrivals_in c [] ≡ []) × (after_arrivals c [] ≡ [])
+unfolding arrivals_in after_arrivals
+nothing_after c = (refl, refl)
 
 pub gathers_more : (c : Config) (known before after : Option Lines) (rest : Option (List ℕ)) (line : List ℕ) (ds : List Datagram) (d : Datagram) → Gathers c known before ds
     → Same before (left_of true line rest) → datagram_of_line c line ≡ Some d → after ≡ lines_in rest → Gathers c known after (ds ++ d ∷ [])
@@ -86,7 +86,7 @@ gathers_more c (Some all) (Some now) after (Some text) line ds d so_far read is 
     let P : Option Lines → Type 0 = λ o. Gathers c (Some all) o (ds ++ d ∷ []) in
     subst P (sym here) (
       so_far.0 ∙ ap (λ (t : List Datagram). ds ++ t) (ap (arrivals_in c) read ∙ arrivals_one c line (lines_of text) d is) ∙ sym (append_assoc ds (d ∷ []) (arrivals_in c (lines_of text))),
-      so_far.1 ∙ ap (behind_arrivals c) read ∙ behind_one c line (lines_of text) d is,
+      so_far.1 ∙ ap (after_arrivals c) read ∙ after_one c line (lines_of text) d is,
     )
 
 pub front_ends : (c : Config) (known before : Option Lines) (rest : Option (List ℕ)) (line : List ℕ) (ds : List Datagram) → Gathers c known before ds → Same before (left_of true line rest)
@@ -96,15 +96,15 @@ front_ends c (Some all) None rest line ds so_far read is = absurd so_far
 front_ends c (Some all) (Some now) None line ds so_far read is = absurd read
 front_ends c (Some all) (Some now) (Some text) line ds so_far read is = (
   so_far.0 ∙ ap (λ (t : List Datagram). ds ++ t) (ap (arrivals_in c) read ∙ arrivals_end c line (lines_of text) is) ∙ append-nil ds,
-  so_far.1 ∙ ap (behind_arrivals c) read ∙ behind_end c line (lines_of text) is,
+  so_far.1 ∙ ap (after_arrivals c) read ∙ after_end c line (lines_of text) is,
 )
 
 pub front_is_all : (c : Config) (known before : Option Lines) (ds : List Datagram) → Gathers c known before ds → Same before (Some []) → AreFront c known (Some []) ds
 front_is_all c None before ds so_far read = tt
 front_is_all c (Some all) None ds so_far read = absurd so_far
 front_is_all c (Some all) (Some now) ds so_far read = (
-  so_far.0 ∙ ap (λ (t : List Datagram). ds ++ t) (ap (arrivals_in c) read ∙ (nothing_behind c).0) ∙ append-nil ds,
-  so_far.1 ∙ ap (behind_arrivals c) read ∙ (nothing_behind c).1,
+  so_far.0 ∙ ap (λ (t : List Datagram). ds ++ t) (ap (arrivals_in c) read ∙ (nothing_after c).0) ∙ append-nil ds,
+  so_far.1 ∙ ap (after_arrivals c) read ∙ (nothing_after c).1,
 )
 
 -- ---- the steps
@@ -292,17 +292,17 @@ started : (c : Config) (ds : List Datagram) → (starting c ds).config ≡ c
 unfolding starting
 started c ds = refl
 
-texts_are : (c : Config) (all later : Lines) (ds : List Datagram) (n : ℕ) (p : Pipeline) → arrivals_in c all ≡ ds → behind_arrivals c all ≡ later → n ≡ length ds + 1 → p ≡ starting c ds
+texts_are : (c : Config) (all later : Lines) (ds : List Datagram) (n : ℕ) (p : Pipeline) → arrivals_in c all ≡ ds → after_arrivals c all ≡ later → n ≡ length ds + 1 → p ≡ starting c ds
     → (steps_text n p later ≡ replay_text c all) × (bad_step p.config n later ≡ bad_replay_line c all)
-texts_are c all later ds n p arrivals behind number begun =
+texts_are c all later ds n p arrivals after number begun =
     let start = starting c (arrivals_in c all) in
     let first : n ≡ length (arrivals_in c all) + 1 = number ∙ ap (λ (es : List Datagram). length es + 1) (sym arrivals) in
     let same : p ≡ start = begun ∙ ap (starting c) (sym arrivals) in
     let config : p.config ≡ c = ap (λ (x : Pipeline). x.config) same ∙ started c (arrivals_in c all) in (
       ap (λ (k : ℕ). steps_text k p later) first ∙ ap (λ (x : Pipeline). steps_text (length (arrivals_in c all) + 1) x later) same
-          ∙ ap (λ (ls : Lines). steps_text (length (arrivals_in c all) + 1) start ls) (sym behind),
+          ∙ ap (λ (ls : Lines). steps_text (length (arrivals_in c all) + 1) start ls) (sym after),
       ap (λ (k : ℕ). bad_step p.config k later) first ∙ ap (λ (d : Config). bad_step d (length (arrivals_in c all) + 1) later) config
-          ∙ ap (λ (ls : Lines). bad_step c (length (arrivals_in c all) + 1) ls) (sym behind),
+          ∙ ap (λ (ls : Lines). bad_step c (length (arrivals_in c all) + 1) ls) (sym after),
     )
 
 retold : (text other : List ℕ) (bad worse : Option ℕ) (r : Result (Unit {0}) LinesFault) (old new : Option (List ℕ)) → text ≡ other → bad ≡ worse → Told text bad r old new → Told other worse r old new

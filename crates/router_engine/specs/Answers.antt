@@ -14,7 +14,7 @@ use Rattle.router_config.specs.Shown.{text_of}
 use Rattle.scmp_answer.specs.Outcome.{Leaves, Outcome, Stays, outcome}
 use Rattle.scmp_answer.specs.Reply.{local_address, reply}
 use Rattle.router_lines.specs.HexLine.{bytes_of}
-use Rattle.router_lines.specs.declared.arriving.Arriving.{Arriving}
+use Rattle.router_lines.specs.declared.arrival_context.ArrivalContext.{ArrivalContext}
 
 -- where a packet is sent, `-` where its link leads to one place alone
 abbrev pub to_text : Option Underlay → List ℕ
@@ -34,20 +34,20 @@ outcome_text (Leaves link to bytes) = codes "answer " ++ sent_text link to bytes
 outcome_text (Stays cause) = drop_text cause
 
 -- what becomes of a problem of a datagram that arrived so
-abbrev pub reply_text : Config → Arriving → List ℕ → Problem → List ℕ
+abbrev pub reply_text : Config → ArrivalContext → List ℕ → Problem → List ℕ
 reply_text config a bytes problem = outcome_text (outcome (reply (local_address config) a.link a.source bytes problem))
 
 -- the line for a decision, after which the datagram has these bytes: those that leave where it is sent, else as it arrived
-abbrev pub text_for : Config → Arriving → Decision → List ℕ → List ℕ
+abbrev pub text_for : Config → ArrivalContext → Decision → List ℕ → List ℕ
 text_for config a (Send link to) bytes = codes "send " ++ (sent_text link to bytes ++ codes "\n")
 text_for config a (Answer problem) bytes = reply_text config a bytes problem ++ codes "\n"
 text_for config a (Drop cause) bytes = drop_text cause ++ codes "\n"
 
 -- the line for a datagram that arrived so
-abbrev pub answer_for : Config → Arriving → List ℕ → List ℕ
+abbrev pub answer_for : Config → ArrivalContext → List ℕ → List ℕ
 answer_for config a bytes =
     text_for config a (decide (network config) a.link a.source a.moment bytes) (moved (network config) a.link a.source a.moment bytes)
 
 -- the answer to a line, none where it is no hex
-abbrev pub answer_to : Config → Arriving → List ℕ → Option (List ℕ)
+abbrev pub answer_to : Config → ArrivalContext → List ℕ → Option (List ℕ)
 answer_to config a line = option_map (answer_for config a) (bytes_of line)

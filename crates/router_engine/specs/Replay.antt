@@ -23,14 +23,14 @@ unfoldable pub arrivals_in : Config → List (List ℕ) → List Datagram
 arrivals_in c [] = []
 arrivals_in c (line ∷ lines) = arrival_then (datagram_of_line c line) (arrivals_in c lines)
 
-abbrev pub behind_then : Option Datagram → List (List ℕ) → List (List ℕ) → List (List ℕ)
-behind_then None here later = here
-behind_then (Some d) here later = later
+abbrev pub after_then : Option Datagram → List (List ℕ) → List (List ℕ) → List (List ℕ)
+after_then None here later = here
+after_then (Some d) here later = later
 
 -- the lines behind them
-unfoldable pub behind_arrivals : Config → List (List ℕ) → List (List ℕ)
-behind_arrivals c [] = []
-behind_arrivals c (line ∷ lines) = behind_then (datagram_of_line c line) (line ∷ lines) (behind_arrivals c lines)
+unfoldable pub after_arrivals : Config → List (List ℕ) → List (List ℕ)
+after_arrivals c [] = []
+after_arrivals c (line ∷ lines) = after_then (datagram_of_line c line) (line ∷ lines) (after_arrivals c lines)
 
 -- ---- the steps
 
@@ -65,10 +65,10 @@ abbrev pub first_step : Config → List (List ℕ) → ℕ
 first_step c lines = length (arrivals_in c lines) + 1
 
 abbrev pub replay_text : Config → List (List ℕ) → List ℕ
-replay_text c lines = steps_text (first_step c lines) (starting c (arrivals_in c lines)) (behind_arrivals c lines)
+replay_text c lines = steps_text (first_step c lines) (starting c (arrivals_in c lines)) (after_arrivals c lines)
 
 abbrev pub bad_replay_line : Config → List (List ℕ) → Option ℕ
-bad_replay_line c lines = bad_step c (first_step c lines) (behind_arrivals c lines)
+bad_replay_line c lines = bad_step c (first_step c lines) (after_arrivals c lines)
 
 abbrev pub Replayed : Config → Result (Unit {0}) LinesFault → List ℕ → Option (List ℕ) → Option (List ℕ) → Type 0
 Replayed c result input old new = Told (replay_text c (lines_of input)) (bad_replay_line c (lines_of input)) result old new

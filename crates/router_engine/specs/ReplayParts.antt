@@ -13,7 +13,7 @@ use Rattle.router_lines.specs.Report.{report}
 use Rattle.router_lines.specs.StepLine.{step_of_line}
 use Rattle.router_engine.specs.Route.{Told}
 use Rattle.router_engine.specs.Lines.{lines_of}
-use Rattle.router_engine.specs.Replay.{arrivals_in, bad_step, behind_arrivals, noted, or_stays, steps_text}
+use Rattle.router_engine.specs.Replay.{arrivals_in, bad_step, after_arrivals, noted, or_stays, steps_text}
 use Rattle.router_engine.specs.declared.fault.LinesFault.{LinesFault}
 use Rattle.router_engine.specs.declared.fault.LinesFault.TheVariants as faults
 
@@ -49,7 +49,7 @@ IsCut faults.Memory = ⊤
 
 -- the datagrams are those in front, and the lines left are those behind them
 abbrev pub AreFront : Config → Option (List (List ℕ)) → Option (List (List ℕ)) → List Datagram → Type 0
-AreFront c known left ds = Both known left (λ all later. (arrivals_in c all ≡ ds) × (behind_arrivals c all ≡ later))
+AreFront c known left ds = Both known left (λ all later. (arrivals_in c all ≡ ds) × (after_arrivals c all ≡ later))
 
 -- what arrives is gathered, and the next line has number n
 abbrev pub IsFront : Config → Option (List (List ℕ)) → Option (List (List ℕ)) → ℕ → List (Vec Came Global) → Type 0

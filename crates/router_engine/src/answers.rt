@@ -9,7 +9,7 @@ use process_packet::{
     Cause, Config, Decision, Problem, Underlay, answers_are_sound, route_in_place,
 };
 use router_config::{push_decimal, push_underlay};
-use router_lines::{Arriving, read_hex};
+use router_lines::{ArrivalContext, read_hex};
 use scmp_answer::{AnswerLen, answer_into};
 use std::alloc::AllocError;
 
@@ -68,7 +68,7 @@ fn push_drop(text: &mut Vec<u8>, cause: Cause) -> Result<(), AllocError>
 fn push_answer(
     text: &mut Vec<u8>,
     config: &Config,
-    arriving: &Arriving,
+    arriving: &ArrivalContext,
     bytes: &[u8],
     problem: &Problem,
 ) -> Result<(), AllocError>
@@ -95,7 +95,7 @@ fn push_answer(
 /// Replaces the text with the line for a decision, after which the datagram has these bytes.
 fn write_answer(
     config: &Config,
-    arriving: &Arriving,
+    arriving: &ArrivalContext,
     decision: Decision,
     bytes: &[u8],
     text: &mut Vec<u8>,
@@ -118,7 +118,7 @@ fn write_answer(
 /// Decides on a datagram where it lies, and replaces the text with its line.
 fn decide_line(
     config: &Config,
-    arriving: &Arriving,
+    arriving: &ArrivalContext,
     bytes: &mut [u8],
     text: &mut Vec<u8>,
 ) -> Result<(), AllocError>
@@ -139,7 +139,7 @@ fn decide_line(
 /// line is no hex.
 pub fn answer_line(
     config: &Config,
-    arriving: &Arriving,
+    arriving: &ArrivalContext,
     line: &[u8],
     bytes: &mut Vec<u8>,
     text: &mut Vec<u8>,

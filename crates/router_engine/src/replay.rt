@@ -19,7 +19,7 @@ use std::io::{BufRead, Write};
 
 /// How far the lines are read.
 #[derive(Clone, Copy, Debug, PartialEq, Eq)]
-struct Front {
+struct LinesRead {
     /// The number of the line that was read last, or would have been.
     number: u64,
     /// Whether there was one.
@@ -34,7 +34,7 @@ fn gather<R: BufRead>(
     reader: &mut R,
     line: &mut Vec<u8>,
     lists: &mut Vec<Vec<Arrival>>,
-) -> Result<Front, LinesFault>
+) -> Result<LinesRead, LinesFault>
     requires { AreGathered config.now [] lists.old.items }
     ensures front { IfOk result (λ front. IsFront config.now (lines_in (R.remaining reader.old))
         (left_of front.more line.new.items (R.remaining reader.new)) front.number lists.new.items) }
@@ -44,7 +44,7 @@ fn gather<R: BufRead>(
     for number in 1..u64::MAX {
         match next_line(reader, line) {
             Ok(true) => {}
-            Ok(false) => return Ok(Front {
+            Ok(false) => return Ok(LinesRead {
                 number,
                 more: false,
             }),
@@ -52,7 +52,7 @@ fn gather<R: BufRead>(
         }
         let incoming = match read_arrival(alloc, config, line.as_slice()) {
             Ok(Some(incoming)) => incoming,
-            Ok(None) => return Ok(Front { number, more: true }),
+            Ok(None) => return Ok(LinesRead { number, more: true }),
             Err(_) => return Err(LinesFault::Memory),
         };
         match add_arrival(config, lists, incoming) {
@@ -105,7 +105,7 @@ fn act<W: Write>(
 fn run_steps<R: BufRead, W: Write>(
     alloc: Global,
     world: &mut World,
-    front: Front,
+    front: LinesRead,
     line: &mut Vec<u8>,
     reader: &mut R,
     writer: &mut W,

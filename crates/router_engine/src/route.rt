@@ -7,7 +7,7 @@ use crate::answers::answer_line;
 use crate::fault::LinesFault;
 use crate::lines::{is_memory, read_line, send};
 use process_packet::Config;
-use router_lines::Arriving;
+use router_lines::ArrivalContext;
 use std::alloc::Global;
 use std::io::{BufRead, Write};
 
@@ -19,7 +19,7 @@ use std::io::{BufRead, Write};
 pub fn route_lines<R: BufRead, W: Write>(
     alloc: Global,
     config: &Config,
-    arriving: &Arriving,
+    arriving: &ArrivalContext,
     reader: &mut R,
     writer: &mut W,
 ) -> Result<(), LinesFault>

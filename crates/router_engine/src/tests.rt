@@ -4,14 +4,14 @@ use crate::route::route_lines;
 use crate::rows::{LONG_ANSWER, LONG_HEADER};
 use process_packet::{Config, Ip, Underlay};
 use router_config::{ConfigFault, read_config};
-use router_lines::Arriving;
+use router_lines::ArrivalContext;
 use sample_packets::{CONFIGURATION, IN_TIME};
 use std::alloc::Global;
 use std::io::{self, Read, Write};
 use std::test::*;
 
 /// From the other end of link 1, at a second at which the first datagram is sent on.
-pub const ARRIVING: Arriving = Arriving {
+pub const ARRIVING: ArrivalContext = ArrivalContext {
     link: 1,
     source: Underlay {
         ip: Ip::V4([10, 1, 0, 2]),
@@ -24,7 +24,7 @@ pub const ARRIVING: Arriving = Arriving {
 pub fn answers(
     alloc: Global,
     config: &Config,
-    arriving: &Arriving,
+    arriving: &ArrivalContext,
     text: &[u8],
     line: &mut Vec<u8>,
 ) -> bool {
@@ -37,7 +37,7 @@ pub fn answers(
 pub fn answers_datagram(
     alloc: Global,
     config: &Config,
-    arriving: &Arriving,
+    arriving: &ArrivalContext,
     datagram: &[u8],
     text: &mut Vec<u8>,
     line: &mut Vec<u8>,

@@ -3,7 +3,7 @@ use crate::rows::ROWS;
 use crate::tests::{answers_datagram, push_hex};
 use process_packet::Config;
 use router_config::{read_config, read_underlay};
-use router_lines::{Arriving, usual_source};
+use router_lines::{ArrivalContext, usual_source};
 use sample_packets::{ANSWER, CONFIGURATION, FIRST};
 use std::alloc::Global;
 use std::test::*;
@@ -17,14 +17,14 @@ fn column(row: &str, wanted: usize) -> &str {
 }
 
 /// How the row's datagram arrives.
-fn arriving_of(config: &Config, row: &str) -> Option<Arriving> {
+fn arriving_of(config: &Config, row: &str) -> Option<ArrivalContext> {
     let link = column(row, 1).parse::<u16>().ok()?;
     let moment = column(row, 2).parse::<u64>().ok()?;
     let source = match read_underlay(column(row, 3)) {
         Some(from) => from,
         None => usual_source(config, link)?,
     };
-    Some(Arriving {
+    Some(ArrivalContext {
         link,
         source,
         moment,

@@ -1,11 +1,11 @@
 -- A turn of a processor, of the slow path and of a forwarder keeps its law.
 use Rattle.std.proofs.Common.{◌≡◌, ℕ, ◌+◌, Bool, true, false, ◌||◌, cond, List, [], ◌∷◌, ◌++◌, Option, Some, None, slice_get, refl, sym, ap, subst, ◌∙◌, arith}
 use Rattle.std.proofs.lemmas.List.{map-append}
-use Rattle.pipe_order.specs.Item.{Arrival, Outgoing}
-use Rattle.pipe_order.specs.World.{Cause as Ended}
-use Rattle.pipe_order.specs.Deeds.{Pushed, Load, Payload, CloseMark, EndMark, payload_of, closes, Deed}
-use Rattle.pipe_order.specs.Settled.{Question}
-use Rattle.pipe_order.proofs.Sums.{total-append}
+use Rattle.pipeline_laws.specs.Item.{Arrival, Outgoing}
+use Rattle.pipeline_laws.specs.World.{Cause as Ended}
+use Rattle.pipeline_laws.specs.Deeds.{Pushed, Load, Payload, CloseMark, EndMark, payload_of, closes, Deed}
+use Rattle.pipeline_laws.specs.Settled.{SlowPathRequest}
+use Rattle.pipeline_laws.proofs.Sums.{total-append}
 use Rattle.process_packet.specs.declared.cause.Cause.{Cause}
 use Rattle.process_packet.specs.declared.config.Config.{Config}
 use Rattle.packet_ledger.specs.Share.{Held, new_share, emptied}
@@ -32,11 +32,11 @@ use Rattle.router_laws.proofs.Hearing.{one_deed}
 module _ (c : Config) where
   -- ---- a processor
 
-  pub works_none : (taker : Taker (Arrival kinds)) (senders : List (Sender (Outgoing kinds))) (slow : Sender (Question kinds)) → taker.taken ≡ []
+  pub works_none : (taker : Taker (Arrival kinds)) (senders : List (Sender (Outgoing kinds))) (slow : Sender (SlowPathRequest kinds)) → taker.taken ≡ []
       → ((j : ℕ) (s : Sender (Outgoing kinds)) → slice_get senders j ≡ Some s → (s.offers ≡ []) × (s.refusals ≡ [])) → (slow.offers ≡ []) × (slow.refusals ≡ []) → IsWorking c taker None senders slow new_share
   works_none taker senders slow untaken fresh asks = record { log = []; law = keeps_none (rules c) taker senders slow untaken fresh asks; counts = counts_none }
 
-  module _ (taker : Taker (Arrival kinds)) (old new : List (Sender (Outgoing kinds))) (slow slow' : Sender (Question kinds)) (share : Held) where
+  module _ (taker : Taker (Arrival kinds)) (old new : List (Sender (Outgoing kinds))) (slow slow' : Sender (SlowPathRequest kinds)) (share : Held) where
     -- a packet is taken in hand
     pub works_taken : (x : Arrival kinds) (e : Entry (Arrival kinds)) → payload_of (load_in e.load) ≡ x ∷ [] → IsWorking c taker None old slow share → IsWorking c (took taker e) (Some x) old slow share
     works_taken x e is k = record { log = k.log; law = keeps_taken (rules c) k.log x e taker old slow is k.law; counts = k.counts }
@@ -63,13 +63,13 @@ module _ (c : Config) where
 
   -- ---- the slow path
 
-  pub slow_none : (taker : Taker (Question kinds)) (senders : List (Sender (Outgoing kinds))) → taker.taken ≡ [] → ((j : ℕ) (s : Sender (Outgoing kinds)) → slice_get senders j ≡ Some s → (s.offers ≡ []) × (s.refusals ≡ []))
+  pub slow_none : (taker : Taker (SlowPathRequest kinds)) (senders : List (Sender (Outgoing kinds))) → taker.taken ≡ [] → ((j : ℕ) (s : Sender (Outgoing kinds)) → slice_get senders j ≡ Some s → (s.offers ≡ []) × (s.refusals ≡ []))
       → IsAnswering c taker senders new_share
   slow_none taker senders untaken fresh = record { log = []; law = answers_none (rules c) taker senders untaken fresh; counts = counts_none }
 
-  module _ (taker : Taker (Question kinds)) (old new : List (Sender (Outgoing kinds))) (share : Held) where
-    -- a question is taken and worked on
-    pub slow_did : (d : Deed Cause (Question kinds)) (e : Entry (Question kinds)) → payload_of (load_in e.load) ≡ d.item ∷ [] → Answered (rules c) d old new → IsAnswering c taker old share
+  module _ (taker : Taker (SlowPathRequest kinds)) (old new : List (Sender (Outgoing kinds))) (share : Held) where
+    -- a request is taken and worked on
+    pub slow_did : (d : Deed Cause (SlowPathRequest kinds)) (e : Entry (SlowPathRequest kinds)) → payload_of (load_in e.load) ≡ d.item ∷ [] → Answered (rules c) d old new → IsAnswering c taker old share
         → IsAnswering c (took taker e) new (raise_all (slow_counts {K = kinds} d) share)
     slow_did d e is w k = record {
       log = k.log ++ d ∷ [];
@@ -77,7 +77,7 @@ module _ (c : Config) where
       counts = one_deed share (counted_answering {K = kinds} (k.log ++ d ∷ [])) (counted_answering {K = kinds} k.log) (slow_counts {K = kinds} d) (answering_more {K = kinds} k.log d) k.counts;
     }
 
-    pub slow_mark : (e : Entry (Question kinds)) → payload_of (load_in e.load) ≡ [] → IsAnswering c taker old share → IsAnswering c (took taker e) old share
+    pub slow_mark : (e : Entry (SlowPathRequest kinds)) → payload_of (load_in e.load) ≡ [] → IsAnswering c taker old share → IsAnswering c (took taker e) old share
     slow_mark e is k = record { log = k.log; law = answers_mark (rules c) k.log e taker old is k.law; counts = k.counts }
 
     pub slow_looked : IsAnswering c taker old share → IsAnswering c (looked taker) old share

@@ -3,13 +3,13 @@ use Rattle.std.proofs.Common.{◌≡◌, ◌⊎◌, inl, inr, ℕ, zero, suc, �
 use Rattle.std.proofs.lemmas.Bool.{cases_lt}
 use Rattle.ruled_pipe.specs.Producer.{Sender}
 use Rattle.ruled_pipe.specs.Consumer.{Taker}
-use Rattle.pipe_order.specs.Counts.{total, count}
-use Rattle.pipe_order.specs.Item.{Arrival, Outgoing}
-use Rattle.pipe_order.specs.Rules.{Rules, IsLawful}
-use Rattle.pipe_order.specs.World.Cause.{Closed}
-use Rattle.pipe_order.specs.Deeds.{Pushed, payloads, from_mark, Each, Deed, done_items}
-use Rattle.pipe_order.specs.Settled.{Question, In, IsTold}
-use Rattle.pipe_order.proofs.Sums.{count-total, total-append}
+use Rattle.pipeline_laws.specs.Counts.{total, count}
+use Rattle.pipeline_laws.specs.Item.{Arrival, Outgoing}
+use Rattle.pipeline_laws.specs.Rules.{Rules, IsLawful}
+use Rattle.pipeline_laws.specs.World.Cause.{Closed}
+use Rattle.pipeline_laws.specs.Deeds.{Pushed, payloads, from_mark, Each, Deed, done_items}
+use Rattle.pipeline_laws.specs.Settled.{SlowPathRequest, In, IsTold}
+use Rattle.pipeline_laws.proofs.Sums.{count-total, total-append}
 use Rattle.process_packet.specs.declared.cause.Cause.{Cause}
 use Rattle.process_packet.specs.declared.config.Config.{Config}
 use Rattle.packet_ledger.specs.Share.{Held, forwarded}
@@ -165,8 +165,8 @@ module _ {T : Type 0} (shows : Handed kinds → T) (c : Config) (b : Returned T)
 
   middle : TookAll (slow_ends w) (pushes sl.taker.taken)
   middle =
-      subst (λ (l : List (Sender (Question kinds))). TookAll l (pushes sl.taker.taken)) (sym same_asks)
-      (subst (λ (t : Taker (Question kinds)). TookAll (map (λ (p : ProcessorBack). p.slow) b.processors) (pushes t.taken)) (sym so.taker) h.middle)
+      subst (λ (l : List (Sender (SlowPathRequest kinds))). TookAll l (pushes sl.taker.taken)) (sym same_asks)
+      (subst (λ (t : Taker (SlowPathRequest kinds)). TookAll (map (λ (p : ProcessorBack). p.slow) b.processors) (pushes t.taken)) (sym so.taker) h.middle)
 
   have_ended : HaveEnded R w closed
   have_ended = record {

@@ -1,16 +1,16 @@
 -- What all shares counted, count by count.
 use Rattle.std.proofs.Common.{◌≡◌, ◌⊎◌, inl, inr, ℕ, zero, suc, ◌+◌, ◌-◌, ◌<◌, ◌≤◌, Bool, true, false, eqb, cond, List, [], ◌∷◌, length, Some, slice_get, slice_index_or, refl, sym, ap, ◌∙◌, arith}
 use Rattle.std.specs.Prelude.{fold}
-use Rattle.pipe_order.specs.Counts.{total, count}
-use Rattle.pipe_order.specs.Rules.{Rules}
-use Rattle.pipe_order.specs.Item.{Arrival}
-use Rattle.pipe_order.specs.Deeds.{Each, Ending, Accepted, Refused, Lacked, Counted, Deed, if_counted}
-use Rattle.pipe_order.specs.Settled.{Question, Views}
-use Rattle.pipe_order.specs.Counted.{sum_to, SlowViews, full_processors, full_links, full_slow}
+use Rattle.pipeline_laws.specs.Counts.{total, count}
+use Rattle.pipeline_laws.specs.Rules.{Rules}
+use Rattle.pipeline_laws.specs.Item.{Arrival}
+use Rattle.pipeline_laws.specs.Deeds.{Each, Ending, Accepted, Refused, Lacked, Counted, Deed, if_counted}
+use Rattle.pipeline_laws.specs.Settled.{SlowPathRequest, Views}
+use Rattle.pipeline_laws.specs.Counted.{sum_to, SlowViews, full_processors, full_links, full_slow}
 use Rattle.std.proofs.lemmas.Bool.{cases_eq, ne_eqb, eq-eqb}
-use Rattle.pipe_order.proofs.Counted.{sum_below, sum_add, sum_zero, sum_one}
-use Rattle.pipe_order.proofs.Stages.{each_map}
-use Rattle.pipe_order.proofs.Sums.{count-total}
+use Rattle.pipeline_laws.proofs.Counted.{sum_below, sum_add, sum_zero, sum_one}
+use Rattle.pipeline_laws.proofs.Stages.{each_map}
+use Rattle.pipeline_laws.proofs.Sums.{count-total}
 use Rattle.process_packet.specs.Cause.{number_of}
 use Rattle.process_packet.specs.Totals.{dropped_for}
 use Rattle.process_packet.specs.declared.cause.Cause.{Cause}
@@ -265,8 +265,8 @@ module _ (c : Config) (v : Views kinds) (s : SlowViews kinds) (causes : CausesAr
   worked_for : (i : ℕ) → i < R.processors → Each (λ (d : Deed Cause (Arrival kinds)). if_counted d.end IsOwn) (v.worked i)
   worked_for i lt = each_map (λ (d : Deed Cause (Arrival kinds)) h. counted_as d.end (λ why is. (causes c).decision d.item.datagram why is) h.1) (v.worked i) (reasons.processors i lt)
 
-  answered_for : Each (λ (d : Deed Cause (Question kinds)). if_counted d.end IsReplys) s.worked
-  answered_for = each_map (λ (d : Deed Cause (Question kinds)) h. counted_as d.end (λ why is. (causes c).reply d.item.arrival.datagram d.item.problem why is) h.1) s.worked reasons.slow
+  answered_for : Each (λ (d : Deed Cause (SlowPathRequest kinds)). if_counted d.end IsReplys) s.worked
+  answered_for = each_map (λ (d : Deed Cause (SlowPathRequest kinds)) h. counted_as d.end (λ why is. (causes c).reply d.item.arrival.datagram d.item.problem why is) h.1) s.worked reasons.slow
 
   -- no receiver and no processor counts for a cause that isn't its own, and the slow path for none but the reply's
   decided_zero : (test : Cause → Bool) → ((why : Cause) → is_decided why ≡ true → test why ≡ false) → decided_count R v test ≡ 0

@@ -1,8 +1,8 @@
 -- The laws that the workers of a router keep, each with its log first.
 use Rattle.std.specs.Prelude.{◌≡◌, ℕ, Bool, List, length, Option}
-use Rattle.pipe_order.specs.Item.{Arrival, Outgoing}
-use Rattle.pipe_order.specs.Deeds.{Each, Deed, done_items}
-use Rattle.pipe_order.specs.Settled.{Question}
+use Rattle.pipeline_laws.specs.Item.{Arrival, Outgoing}
+use Rattle.pipeline_laws.specs.Deeds.{Each, Deed, done_items}
+use Rattle.pipeline_laws.specs.Settled.{SlowPathRequest}
 use Rattle.process_packet.specs.declared.cause.Cause.{Cause}
 use Rattle.process_packet.specs.declared.config.Config.{Config}
 use Rattle.packet_ledger.specs.Share.{Held}
@@ -28,13 +28,13 @@ pub record IsReceiving (c : Config) (link interface number : ℕ) (told : Option
   pub lacked : lacks log ≡ length looks
   pub counts : Counts share (counted_receiving {K = kinds} log)
 
-pub record IsWorking (c : Config) (taker : Taker (Arrival kinds)) (hand : Option (Arrival kinds)) (senders : List (Sender (Outgoing kinds))) (slow : Sender (Question kinds)) (share : Held) : Type 0 where
+pub record IsWorking (c : Config) (taker : Taker (Arrival kinds)) (hand : Option (Arrival kinds)) (senders : List (Sender (Outgoing kinds))) (slow : Sender (SlowPathRequest kinds)) (share : Held) : Type 0 where
   pub log : List (Deed Cause (Arrival kinds))
   pub law : Keeps (rules c) log taker hand senders slow
   pub counts : Counts share (counted_working (rules c) log)
 
-pub record IsAnswering (c : Config) (taker : Taker (Question kinds)) (senders : List (Sender (Outgoing kinds))) (share : Held) : Type 0 where
-  pub log : List (Deed Cause (Question kinds))
+pub record IsAnswering (c : Config) (taker : Taker (SlowPathRequest kinds)) (senders : List (Sender (Outgoing kinds))) (share : Held) : Type 0 where
+  pub log : List (Deed Cause (SlowPathRequest kinds))
   pub law : KeepsAnswers (rules c) log taker senders
   pub counts : Counts share (counted_answering {K = kinds} log)
 

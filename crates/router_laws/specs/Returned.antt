@@ -1,9 +1,9 @@
 -- The running theorem, as far as it speaks of lists: workers as they came back, and what they did.
 use Rattle.std.specs.Prelude.{◌≡◌, ◌<◌, ◌+◌, ◌*◌, ℕ, Bool, false, List, [], ◌∷◌, ◌++◌, map, length, Option, Some, None, slice_get}
-use Rattle.pipe_order.specs.Counts.{count}
-use Rattle.pipe_order.specs.Item.{Arrival, Outgoing}
-use Rattle.pipe_order.specs.Deeds.{payloads, has_mark, Each, Deed, done_items}
-use Rattle.pipe_order.specs.Settled.{Question, told}
+use Rattle.pipeline_laws.specs.Counts.{count}
+use Rattle.pipeline_laws.specs.Item.{Arrival, Outgoing}
+use Rattle.pipeline_laws.specs.Deeds.{payloads, has_mark, Each, Deed, done_items}
+use Rattle.pipeline_laws.specs.Settled.{SlowPathRequest, told}
 use Rattle.process_packet.specs.declared.cause.Cause.{Cause}
 use Rattle.process_packet.specs.declared.config.Config.{Config}
 use Rattle.packet_ledger.specs.Share.{Held, forwarded}
@@ -39,11 +39,11 @@ pub record ReceiverBack : Type 0 where
 pub record ProcessorBack : Type 0 where
   pub taker : Taker (Arrival kinds)
   pub links : List (Sender (Outgoing kinds))
-  pub slow : Sender (Question kinds)
+  pub slow : Sender (SlowPathRequest kinds)
   pub share : Held
 
 pub record SlowBack : Type 0 where
-  pub taker : Taker (Question kinds)
+  pub taker : Taker (SlowPathRequest kinds)
   pub links : List (Sender (Outgoing kinds))
   pub share : Held
 

@@ -8,7 +8,7 @@ use Rattle.std.proofs.lemmas.Bool.{cases_Bool}
 use Rattle.std.proofs.lemmas.Bool.Decides.{Decides-eqb}
 use Rattle.process_packet.specs.declared.arrival.Arrival.{Arrival as Came}
 use Rattle.process_packet.specs.declared.config.Config.{Config}
-use Rattle.pipe_order.specs.Pipe.{Entry, Pipe}
+use Rattle.pipeline_laws.specs.Pipe.{Entry, Pipe}
 use Rattle.pipe_model.specs.Begun.{AreArrivals, AreFrom, AreNumbered, begun}
 use Rattle.pipe_parts.specs.Arrivals.{datagram_of, source, source_entry, sources_from}
 use Rattle.router_rules.specs.Datagram.{Datagram}
@@ -75,7 +75,7 @@ others c ds d a (xs ∷ lists) before so_far =
 pub record IsNext (c : Config) (xs ys : List Came) (x : Came) (d : Datagram) : Type 0 where
   pub same : datagram_of x ≡ d
   pub number : x.number ≡ 1 + length xs
-  pub behind : ys ≡ xs ++ x ∷ []
+  pub after : ys ≡ xs ++ x ∷ []
 
 here_list : (c : Config) (ds : List Datagram) (d : Datagram) (a : ℕ) (xs ys : List Came) (x : Came) → link_index c d.interface ≡ a → IsNext c xs ys x d
     → map (source_entry a) xs ≡ numbered c a 1 ds → AreNumbered c a 1 xs → (map (source_entry a) ys ≡ numbered c a 1 (ds ++ d ∷ [])) × AreNumbered c a 1 ys
@@ -85,9 +85,9 @@ here_list c ds d a xs ys x here next so_far numbers =
     let last : entry a (1 + length (numbered c a 1 ds)) d ≡ source_entry a x = ap (λ k. entry a k d) number ∙ ap (λ (e : Datagram). entry a x.number e) (sym next.same) in
     let link : link_index c x.link ≡ a = ap (λ (e : Datagram). link_index c e.interface) next.same ∙ here in
     let P : List Came → Type 0 = λ zs. AreNumbered c a 1 zs in (
-      ap (λ (zs : List Came). map (source_entry a) zs) next.behind ∙ map_more a xs x ∙ ap (λ (es : List (Entry kinds)). es ++ source_entry a x ∷ []) so_far
+      ap (λ (zs : List Came). map (source_entry a) zs) next.after ∙ map_more a xs x ∙ ap (λ (es : List (Entry kinds)). es ++ source_entry a x ∷ []) so_far
           ∙ ap (λ (e : Entry kinds). numbered c a 1 ds ++ e ∷ []) (sym last) ∙ sym (numbered_more c a 1 ds d here),
-      subst P (sym next.behind) (one_more_numbered c a 1 xs x link next.number numbers),
+      subst P (sym next.after) (one_more_numbered c a 1 xs x link next.number numbers),
     )
 
 add_at : (c : Config) (ds : List Datagram) (d : Datagram) (x : Came) (a j : ℕ) (lists : List (Vec Came Global)) (v w : Vec Came Global) → link_index c d.interface ≡ a + j → j < length lists

@@ -4,13 +4,13 @@ use Rattle.std.specs.Str.{bytes_eq}
 use Rattle.process_packet.specs.declared.config.Config.{Config}
 use Rattle.process_packet.specs.declared.underlay.Underlay.{Underlay}
 use Rattle.router_config.specs.Address.{underlay_of}
-use Rattle.router_config.specs.Pieces.{cut, number_up_to, ◌>>=◌}
+use Rattle.router_config.specs.Pieces.{split_once, number_up_to, ◌>>=◌}
 use Rattle.router_rules.specs.Datagram.{Datagram}
-use Rattle.router_lines.specs.Arriving.{usual_source}
+use Rattle.router_lines.specs.ArrivalContext.{usual_source}
 use Rattle.router_lines.specs.HexLine.{bytes_of}
 use Rattle.router_lines.specs.Names.{link_of}
 use Rattle.router_lines.specs.Text.{as_text}
-use Rattle.router_lines.specs.declared.arriving.Arriving.{Arriving}
+use Rattle.router_lines.specs.declared.arrival_context.ArrivalContext.{ArrivalContext}
 use Rattle.router_lines.specs.declared.arrive_line.Incoming.{Incoming}
 
 -- an address, or `-` for the usual one
@@ -21,18 +21,18 @@ abbrev pub if_arrive : List ℕ × List ℕ → Option (List ℕ)
 if_arrive words = if bytes_eq words.0 (codes "arrive") then Some words.1 else None
 
 -- how it arrives, and the hex digits behind
-unfoldable pub head_of : Config → List ℕ → Option (Arriving × List ℕ)
+unfoldable pub head_of : Config → List ℕ → Option (ArrivalContext × List ℕ)
 head_of c text = do
-  rest ← cut 32 text >>= if_arrive
-  link ← cut 32 rest
-  from ← cut 32 link.1
-  moment ← cut 32 from.1
+  rest ← split_once 32 text >>= if_arrive
+  link ← split_once 32 rest
+  from ← split_once 32 link.1
+  moment ← split_once 32 from.1
   id ← link_of c link.0
   source ← source_of c id from.0
   now ← number_up_to 1099511627775 moment.0
   Some (record { link = id; source = source; moment = now }, moment.1)
 
-abbrev pub came : Arriving → List ℕ → Datagram
+abbrev pub came : ArrivalContext → List ℕ → Datagram
 came a bytes = record { interface = a.link; source = a.source; moment = a.moment; bytes = bytes }
 
 unfoldable pub arrival_of : Config → List ℕ → Option Datagram
@@ -46,4 +46,4 @@ unfoldable pub datagram_of_line : Config → List ℕ → Option Datagram
 datagram_of_line c line = as_text line >>= arrival_of c
 
 abbrev pub incoming_datagram : Incoming → Datagram
-incoming_datagram x = came x.arriving x.bytes.items
+incoming_datagram x = came x.arrival_context x.bytes.items

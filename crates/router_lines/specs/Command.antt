@@ -1,7 +1,7 @@
 -- The lines by which a running router is told what to do.
 use Rattle.std.specs.Prelude.{ℕ, if◌then◌else◌, List, Option, Some, None, codes}
 use Rattle.std.specs.Str.{bytes_eq}
-use Rattle.router_config.specs.Pieces.{cut, number_up_to, ◌>>=◌}
+use Rattle.router_config.specs.Pieces.{split_once, number_up_to, ◌>>=◌}
 use Rattle.router_lines.specs.Text.{as_text}
 use Rattle.router_lines.specs.declared.command.Command.{Command}
 use Rattle.router_lines.specs.declared.command.Command.TheVariants as command
@@ -13,7 +13,7 @@ if_close words = if bytes_eq words.0 (codes "close") then Some words.1 else None
 -- `close <link>`
 unfoldable pub close_of : List ℕ → Option Command
 close_of text = do
-  words ← cut 32 text
+  words ← split_once 32 text
   rest ← if_close words
   link ← number_up_to 65535 rest
   Some (command.Close link)

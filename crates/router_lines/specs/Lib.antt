@@ -1,4 +1,4 @@
-pub mod Arriving
+pub mod ArrivalContext
 pub mod HexLine
 pub mod Text
 pub mod Names

@@ -8,7 +8,7 @@ use Rattle.router_rules.specs.declared.worker.Worker.{Worker}
 use Rattle.router_rules.specs.declared.worker.Worker.TheVariants.{Receiver, Processor, Slow, Forwarder, Controller}
 use Rattle.process_packet.specs.Network.{has_link, network}
 use Rattle.process_packet.specs.declared.config.Config.{Config}
-use Rattle.router_config.specs.Pieces.{behind, number_up_to, ◌>>=◌}
+use Rattle.router_config.specs.Pieces.{strip_prefix, number_up_to, ◌>>=◌}
 use Rattle.router_rules.specs.Links.{has_two_bands, link_index}
 
 -- ---- links
@@ -21,15 +21,15 @@ unfoldable pub link_of : Config → List ℕ → Option ℕ
 link_of c text = number_up_to 65535 text >>= if_link c
 
 -- a letter and a link
-unfoldable pub link_behind : Config → ℕ → List ℕ → Option ℕ
-link_behind c letter text = behind letter text >>= link_of c
+unfoldable pub link_after : Config → ℕ → List ℕ → Option ℕ
+link_after c letter text = strip_prefix letter text >>= link_of c
 
 abbrev pub if_two_bands : Config → ℕ → Option ℕ
 if_two_bands c id = if has_two_bands c (link_index c id) then Some id else None
 
 -- `h` and a link with two bands
 unfoldable pub high_link_of : Config → List ℕ → Option ℕ
-high_link_of c text = link_behind c 104 text >>= if_two_bands c
+high_link_of c text = link_after c 104 text >>= if_two_bands c
 
 -- ---- workers
 
@@ -38,12 +38,12 @@ if_processor c i = if nat_lt i c.processors then Some i else None
 
 -- `p` and a processor, counted from 0
 unfoldable pub processor_of : Config → List ℕ → Option ℕ
-processor_of c text = behind 112 text >>= number_up_to 255 >>= if_processor c
+processor_of c text = strip_prefix 112 text >>= number_up_to 255 >>= if_processor c
 
 -- `r` and the link of a receiver, a processor, `f` and the link of a forwarder
 unfoldable pub numbered_worker_of : Config → List ℕ → Option Worker
 numbered_worker_of c text =
-    option_or (option_map Receiver (link_behind c 114 text)) (option_or (option_map Processor (processor_of c text)) (option_map Forwarder (link_behind c 102 text)))
+    option_or (option_map Receiver (link_after c 114 text)) (option_or (option_map Processor (processor_of c text)) (option_map Forwarder (link_after c 102 text)))
 
 -- `s` is the slow path, `c` the controller
 unfoldable pub worker_of : Config → List ℕ → Option Worker

@@ -6,9 +6,9 @@ use Rattle.router_rules.specs.declared.worker.Queue.{Queue}
 use Rattle.pipe_model.specs.declared.step.Step.{Step}
 use Rattle.pipe_model.specs.declared.step.Step.TheVariants as step
 use Rattle.router_rules.specs.declared.worker.Worker.{Worker}
-use Rattle.pipe_order.specs.Next.{feeds}
+use Rattle.pipeline_laws.specs.Next.{feeds}
 use Rattle.process_packet.specs.declared.config.Config.{Config}
-use Rattle.router_config.specs.Pieces.{cut, ◌>>=◌}
+use Rattle.router_config.specs.Pieces.{split_once, ◌>>=◌}
 use Rattle.router_lines.specs.Names.{high_link_of, link_of, link_queue_of, processor_of, queue_of, worker_of}
 use Rattle.router_lines.specs.Text.{as_text}
 use Rattle.router_lines.specs.declared.step_line.Verb.{Verb}
@@ -37,23 +37,23 @@ if_fed c worker queue = if feeds (worker_in c worker) (queue_in c queue) then So
 -- `W PIPE`
 unfoldable pub end_of : Config → List ℕ → Option Step
 end_of c text = do
-  words ← cut 32 text
+  words ← split_once 32 text
   worker ← worker_of c words.0
   queue ← queue_of c words.1
   if_fed c worker queue
 
 -- how a sink takes what it is handed
-abbrev pub luck_of : List ℕ → Option Bool
-luck_of word = if bytes_eq word (codes "ok") then Some true
+abbrev pub outcome_of : List ℕ → Option Bool
+outcome_of word = if bytes_eq word (codes "ok") then Some true
     else if bytes_eq word (codes "failed") then Some false
     else None
 
 -- `L ok` or `L failed`
 unfoldable pub send_of : Config → List ℕ → Option Step
 send_of c text = do
-  words ← cut 32 text
+  words ← split_once 32 text
   link ← link_of c words.0
-  ok ← luck_of words.1
+  ok ← outcome_of words.1
   Some (step.Send link ok)
 
 -- what follows the verb and a blank
@@ -73,7 +73,7 @@ step_with c verb.Sweep text = option_map step.Sweep (link_queue_of c text)
 
 unfoldable pub named_step_of : Config → List ℕ → Option Step
 named_step_of c text = do
-  words ← cut 32 text
+  words ← split_once 32 text
   verb ← verb_of words.0
   step_with c verb words.1
 

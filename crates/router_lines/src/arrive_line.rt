@@ -3,12 +3,12 @@ ghost use Rattle.std.specs.Prelude.{◌≡◌, IfOk, IfSome, option_map, true};
 ghost use Rattle.process_packet.specs.Network.{has_link, network};
 ghost use Rattle.router_lines.specs.ArriveLine.{arrival_of, datagram_of_line, head_of, if_arrive, incoming_datagram, source_of};
 
-use crate::arriving::{Arriving, usual_source};
+use crate::arrival_context::{ArrivalContext, usual_source};
 use crate::hex_line::read_hex;
 use crate::names::read_link;
 use crate::text::text_of;
 use process_packet::{Config, Underlay};
-use router_config::pieces::{cut, read_number};
+use router_config::pieces::{read_number, split_once};
 use router_config::read_underlay;
 use std::alloc::{AllocError, Global};
 
@@ -18,7 +18,7 @@ const LAST_SECOND: u64 = 1099511627775;
 /// A datagram that arrives.
 #[derive(Debug, Drop)]
 pub struct Incoming {
-    pub arriving: Arriving,
+    pub arrival_context: ArrivalContext,
     pub bytes: Vec<u8>,
 }
 
@@ -33,7 +33,7 @@ fn read_source(config: &Config, link: u16, text: &str) -> Option<Underlay>
 }
 
 /// What follows the word `arrive` and a blank.
-fn behind_arrive<'a>(word: &str, rest: &'a str) -> Option<&'a str>
+fn after_arrive<'a>(word: &str, rest: &'a str) -> Option<&'a str>
     ensures { option_map (λ text. text.now) result ≡ if_arrive (word.now, rest.now) }
 {
     match word {
@@ -44,20 +44,20 @@ fn behind_arrive<'a>(word: &str, rest: &'a str) -> Option<&'a str>
 
 /// How a datagram arrives, and the digits of its bytes.
 #[tactic(auto, unfolding(crate::specs::ArriveLine::head_of))]
-fn read_head<'a>(config: &Config, text: &'a str) -> Option<(Arriving, &'a str)>
+fn read_head<'a>(config: &Config, text: &'a str) -> Option<(ArrivalContext, &'a str)>
     ensures value { option_map (λ parts. (parts.0, parts.1.now)) result ≡ head_of config.now text.now }
     ensures there { IfSome result (λ parts. has_link (network config.now) parts.0.link ≡ true) }
 {
-    let (word, rest) = cut(text, ' ')?;
-    let rest = behind_arrive(word, rest)?;
-    let (link, rest) = cut(rest, ' ')?;
-    let (from, rest) = cut(rest, ' ')?;
-    let (moment, hex) = cut(rest, ' ')?;
+    let (word, rest) = split_once(text, ' ')?;
+    let rest = after_arrive(word, rest)?;
+    let (link, rest) = split_once(rest, ' ')?;
+    let (from, rest) = split_once(rest, ' ')?;
+    let (moment, hex) = split_once(rest, ' ')?;
     let link = read_link(config, link)?;
     let source = read_source(config, link, from)?;
     let moment = read_number(moment, LAST_SECOND)?;
     Some((
-        Arriving {
+        ArrivalContext {
             link,
             source,
             moment,
@@ -74,14 +74,17 @@ fn read_arrival_of(
     text: &str,
 ) -> Result<Option<Incoming>, AllocError>
     ensures value { IfOk result (λ found. option_map incoming_datagram found ≡ arrival_of config.now text.now) }
-    ensures there { IfOk result (λ found. IfSome found (λ x. has_link (network config.now) x.arriving.link ≡ true)) }
+    ensures there { IfOk result (λ found. IfSome found (λ x. has_link (network config.now) x.arrival_context.link ≡ true)) }
 {
-    let Some((arriving, hex)) = read_head(config, text) else {
+    let Some((arrival_context, hex)) = read_head(config, text) else {
         return Ok(None);
     };
     let mut bytes = Vec::new(alloc);
     if read_hex(hex.as_bytes(), &mut bytes)? {
-        Ok(Some(Incoming { arriving, bytes }))
+        Ok(Some(Incoming {
+            arrival_context,
+            bytes,
+        }))
     } else {
         Ok(None)
     }
@@ -98,7 +101,7 @@ pub fn read_arrival(
     line: &[u8],
 ) -> Result<Option<Incoming>, AllocError>
     ensures value { IfOk result (λ found. option_map incoming_datagram found ≡ datagram_of_line config.now line.now) }
-    ensures there { IfOk result (λ found. IfSome found (λ x. has_link (network config.now) x.arriving.link ≡ true)) }
+    ensures there { IfOk result (λ found. IfSome found (λ x. has_link (network config.now) x.arrival_context.link ≡ true)) }
 {
     match text_of(line) {
         Some(text) => read_arrival_of(alloc, config, text),

@@ -3,7 +3,7 @@ ghost use Rattle.std.specs.Prelude.{◌≡◌, option_map};
 ghost use Rattle.router_lines.specs.Command.{close_of, command_of, if_close, order_of};
 
 use crate::text::text_of;
-use router_config::pieces::{cut, read_number};
+use router_config::pieces::{read_number, split_once};
 
 /// What a running router is told to do.
 #[derive(Clone, Copy, Debug, PartialEq, Eq)]
@@ -15,7 +15,7 @@ pub enum Command {
 }
 
 /// What follows the word `close` and a blank.
-fn behind_close<'a>(word: &str, rest: &'a str) -> Option<&'a str>
+fn after_close<'a>(word: &str, rest: &'a str) -> Option<&'a str>
     ensures { option_map (λ text. text.now) result ≡ if_close (word.now, rest.now) }
 {
     match word {
@@ -29,8 +29,8 @@ fn behind_close<'a>(word: &str, rest: &'a str) -> Option<&'a str>
 fn read_close(text: &str) -> Option<Command>
     ensures { result ≡ close_of text.now }
 {
-    let (word, rest) = cut(text, ' ')?;
-    let rest = behind_close(word, rest)?;
+    let (word, rest) = split_once(text, ' ')?;
+    let rest = after_close(word, rest)?;
     let link = read_number(rest, u16::MAX.into())? as u16;
     Some(Command::Close(link))
 }

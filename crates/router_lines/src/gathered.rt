@@ -27,18 +27,21 @@ pub fn add_arrival(
     lists: &mut Vec<Vec<Arrival>>,
     incoming: Incoming,
 ) -> Result<(), AllocError>
-    requires { link_index config.now incoming.arriving.link < length lists.old.items }
+    requires { link_index config.now incoming.arrival_context.link < length lists.old.items }
     ensures { OnOk result ((ds : List Datagram) → AreGathered config.now ds lists.old.items
         → AreGathered config.now (ds ++ incoming_datagram incoming ∷ []) lists.new.items) }
 {
-    let Incoming { arriving, bytes } = incoming;
-    let list = &mut lists[usize::from(link_index(config, arriving.link))];
+    let Incoming {
+        arrival_context,
+        bytes,
+    } = incoming;
+    let list = &mut lists[usize::from(link_index(config, arrival_context.link))];
     let number = list.len() as u64 + 1;
     list.push(Arrival {
-        link: arriving.link,
+        link: arrival_context.link,
         number,
-        source: arriving.source,
-        now: arriving.moment,
+        source: arrival_context.source,
+        now: arrival_context.moment,
         bytes,
     })?;
     Ok(())

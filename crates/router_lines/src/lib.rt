@@ -2,8 +2,8 @@
 //! and its report; what a running router is told, and its report. Nothing is decided here.
 #![tactic(auto)]
 
+mod arrival_context;
 mod arrive_line;
-mod arriving;
 mod closing;
 mod command;
 mod gathered;
@@ -15,8 +15,8 @@ mod run_report;
 mod step_line;
 mod text;
 
+pub use arrival_context::{ArrivalContext, usual_source};
 pub use arrive_line::{Incoming, read_arrival};
-pub use arriving::{Arriving, usual_source};
 pub use closing::{Closing, push_closing, push_no_command, push_ready};
 pub use command::{Command, read_command};
 pub use gathered::{add_arrival, no_arrivals};

@@ -1,11 +1,11 @@
 //! What the words of a replay name: links, workers and pipes.
 ghost use Rattle.std.specs.Prelude.{◌≡◌, ◌<◌, IfSome, true};
 ghost use Rattle.process_packet.specs.Network.{has_link, network};
-ghost use Rattle.router_lines.specs.Names.{high_link_of, link_behind, link_of, link_queue_of, numbered_worker_of, processor_of, queue_of, worker_of};
+ghost use Rattle.router_lines.specs.Names.{high_link_of, link_after, link_of, link_queue_of, numbered_worker_of, processor_of, queue_of, worker_of};
 
 use pipe_model::{Queue, Worker};
 use process_packet::Config;
-use router_config::pieces::{behind, read_number};
+use router_config::pieces::{read_number, strip_prefix};
 use router_rules::{has_two_bands, link_index};
 
 /// A link of the configuration, by its interface.
@@ -19,12 +19,12 @@ pub(crate) fn read_link(config: &Config, text: &str) -> Option<u16>
 }
 
 /// The link whose interface stands behind a letter.
-#[tactic(auto, unfolding(crate::specs::Names::link_behind))]
-fn read_link_behind(config: &Config, letter: char, text: &str) -> Option<u16>
+#[tactic(auto, unfolding(crate::specs::Names::link_after))]
+fn read_link_after(config: &Config, letter: char, text: &str) -> Option<u16>
     requires { letter < 128 }
-    ensures { result ≡ link_behind config.now letter text.now }
+    ensures { result ≡ link_after config.now letter text.now }
 {
-    read_link(config, behind(text, letter)?)
+    read_link(config, strip_prefix(text, letter)?)
 }
 
 /// The link with two bands whose interface stands behind an `h`.
@@ -32,7 +32,7 @@ fn read_link_behind(config: &Config, letter: char, text: &str) -> Option<u16>
 pub(crate) fn read_high_link(config: &Config, text: &str) -> Option<u16>
     ensures { result ≡ high_link_of config.now text.now }
 {
-    let id = read_link_behind(config, 'h', text)?;
+    let id = read_link_after(config, 'h', text)?;
     if has_two_bands(config, link_index(config, id)) {
         Some(id)
     } else {
@@ -45,7 +45,7 @@ pub(crate) fn read_high_link(config: &Config, text: &str) -> Option<u16>
 pub(crate) fn read_processor(config: &Config, text: &str) -> Option<u8>
     ensures { result ≡ processor_of config.now text.now }
 {
-    let index = read_number(behind(text, 'p')?, u8::MAX.into())? as u8;
+    let index = read_number(strip_prefix(text, 'p')?, u8::MAX.into())? as u8;
     if index < config.processors {
         Some(index)
     } else {
@@ -58,13 +58,13 @@ pub(crate) fn read_processor(config: &Config, text: &str) -> Option<u8>
 fn read_numbered_worker(config: &Config, text: &str) -> Option<Worker>
     ensures { result ≡ numbered_worker_of config.now text.now }
 {
-    if let Some(link) = read_link_behind(config, 'r', text) {
+    if let Some(link) = read_link_after(config, 'r', text) {
         return Some(Worker::Receiver(link));
     }
     if let Some(index) = read_processor(config, text) {
         return Some(Worker::Processor(index));
     }
-    match read_link_behind(config, 'f', text) {
+    match read_link_after(config, 'f', text) {
         Some(link) => Some(Worker::Forwarder(link)),
         None => None,
     }

@@ -1,8 +1,8 @@
 //! The line of a replay that is a step.
 ghost use Rattle.std.specs.Prelude.{◌≡◌, Some, None, true, false};
 ghost use Rattle.router_rules.specs.Worker.{queue_in, worker_in};
-ghost use Rattle.pipe_order.specs.Next.{feeds};
-ghost use Rattle.router_lines.specs.StepLine.{end_of, luck_of, named_step_of, send_of, step_of, step_of_line, step_with, verb_of};
+ghost use Rattle.pipeline_laws.specs.Next.{feeds};
+ghost use Rattle.router_lines.specs.StepLine.{end_of, outcome_of, named_step_of, send_of, step_of, step_of_line, step_with, verb_of};
 
 use crate::names::{
     read_high_link, read_link, read_link_queue, read_processor, read_queue, read_worker,
@@ -10,8 +10,8 @@ use crate::names::{
 use crate::text::text_of;
 use pipe_model::{Queue, Step, Worker};
 use process_packet::Config;
-use router_config::pieces::cut;
-use router_rules::{Actor, Channel};
+use router_config::pieces::split_once;
+use router_rules::{QueueIndex, WorkerIndex};
 
 /// The word by which a step begins; `answer` has nothing behind it and is none of these.
 #[derive(Clone, Copy, Debug, PartialEq, Eq)]
@@ -55,7 +55,7 @@ fn read_verb(word: &str) -> Option<Verb>
 fn feeds(config: &Config, worker: Worker, queue: Queue) -> bool
     ensures { result ≡ feeds (worker_in config.now worker) (queue_in config.now queue) }
 {
-    Actor::named(config, worker).feeds(Channel::named(config, queue))
+    WorkerIndex::named(config, worker).feeds(QueueIndex::named(config, queue))
 }
 
 /// The step by which a worker pushes its end mark to a pipe that it feeds.
@@ -63,7 +63,7 @@ fn feeds(config: &Config, worker: Worker, queue: Queue) -> bool
 fn read_end(config: &Config, text: &str) -> Option<Step>
     ensures { result ≡ end_of config.now text.now }
 {
-    let (worker, queue) = cut(text, ' ')?;
+    let (worker, queue) = split_once(text, ' ')?;
     let worker = read_worker(config, worker)?;
     let queue = read_queue(config, queue)?;
     if feeds(config, worker, queue) {
@@ -74,8 +74,8 @@ fn read_end(config: &Config, text: &str) -> Option<Step>
 }
 
 /// Whether a sink takes what it is handed.
-fn read_luck(word: &str) -> Option<bool>
-    ensures { result ≡ luck_of word.now }
+fn read_outcome(word: &str) -> Option<bool>
+    ensures { result ≡ outcome_of word.now }
 {
     match word {
         "ok" => Some(true),
@@ -89,9 +89,9 @@ fn read_luck(word: &str) -> Option<bool>
 fn read_send(config: &Config, text: &str) -> Option<Step>
     ensures { result ≡ send_of config.now text.now }
 {
-    let (link, luck) = cut(text, ' ')?;
+    let (link, outcome) = split_once(text, ' ')?;
     let link = read_link(config, link)?;
-    let ok = read_luck(luck)?;
+    let ok = read_outcome(outcome)?;
     Some(Step::Send(link, ok))
 }
 
@@ -119,7 +119,7 @@ fn read_with(config: &Config, verb: Verb, text: &str) -> Option<Step>
 fn read_named_step(config: &Config, text: &str) -> Option<Step>
     ensures { result ≡ named_step_of config.now text.now }
 {
-    let (verb, rest) = cut(text, ' ')?;
+    let (verb, rest) = split_once(text, ' ')?;
     let verb = read_verb(verb)?;
     read_with(config, verb, rest)
 }

@@ -10,7 +10,7 @@ use process_packet::{Config, Underlay};
 use router_config::{ConfigFault, fault_words, read_config};
 use router_engine::{LinesFault, replay_lines, route_lines};
 use router_faults::Fault;
-use router_lines::{Arriving, usual_source};
+use router_lines::{ArrivalContext, usual_source};
 use std::alloc::Global;
 use std::io::BufReader;
 use std::net::Net;
@@ -82,7 +82,7 @@ fn route_datagrams<R: Input + Print + AllocGlobal>(
     let Some(usual) = usual_source(config, link) else {
         return Err(Fault::Link);
     };
-    let arriving = Arriving {
+    let arriving = ArrivalContext {
         link,
         source: from.unwrap_or(usual),
         moment,

@@ -5,7 +5,7 @@ use Rattle.std.proofs.lemmas.Bool.{cases_Bool, eq-eqb, or_left, or_right}
 use Rattle.byteorder.specs.Numbers.{big_number-reads_back}
 use Rattle.field_rows.specs.Place.{number_at}
 use Rattle.flow_key.specs.Flow.{is_high}
-use Rattle.pipe_order.specs.Rules.{Drops, Sends}
+use Rattle.pipeline_laws.specs.Rules.{Drops, Sends}
 use Rattle.process_packet.specs.Decide.{decision_of, decision_table, moved_by, verdict, verdict_of}
 use Rattle.process_packet.specs.Laws.{LeavesByItsEgress, LeftLawfully, NothingElseChanges, OnlyLawfulWays}
 use Rattle.process_packet.specs.Network.{Network, has_link, network, own_link}

@@ -1,8 +1,8 @@
 -- The router's rules are lawful.
 use Rattle.std.proofs.Common.{◌≡◌, ◌<◌, ℕ, sym, subst, ◌∙◌}
 use Rattle.std.proofs.Math.Nat.{mod-lt}
-use Rattle.pipe_order.specs.Item.{Arrival}
-use Rattle.pipe_order.specs.Rules.{Replies, Sends}
+use Rattle.pipeline_laws.specs.Item.{Arrival}
+use Rattle.pipeline_laws.specs.Rules.{Replies, Sends}
 use Rattle.process_packet.specs.Laws.{NothingElseChanges, OnlyLawfulWays}
 use Rattle.process_packet.specs.declared.config.Config.{Config}
 use Rattle.process_packet.specs.declared.decision.Problem.{Problem}

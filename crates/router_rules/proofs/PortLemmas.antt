@@ -149,7 +149,7 @@ number_missing c p of n id less greater =
           let named : get_or p.interfaces k 0 ≡ id = of.interfaces k ∙ (in_order c).named id there in
           elim (cases_lt k n) [
             | inl before ↦ absurd (omega (arith, named, less_before (get_or p.interfaces k 0) id (less k 0 (omega arith) before)))
-            | inr behind ↦ absurd (omega (arith, named, greater_after (get_or p.interfaces k 0) id (greater k 0 behind (omega (arith, within, of.count)))))
+            | inr after ↦ absurd (omega (arith, named, greater_after (get_or p.interfaces k 0) id (greater k 0 after (omega (arith, within, of.count)))))
           ]
       | inr none ↦ of.count ∙ sym (cond-false _ _ _ none)
     ]

@@ -1,11 +1,11 @@
 -- The workers that feed a pipe are numbered.
 use Rattle.std.proofs.Common.{◌≡◌, ℕ, ◌+◌, ◌<◌, true, Some, refl, arith}
 use Rattle.std.proofs.lemmas.Bool.{eq-eqb, false≢true, ltb-true}
-use Rattle.pipe_order.specs.Kinds.{Kinds}
-use Rattle.pipe_order.specs.Next.{feeds}
-use Rattle.pipe_order.specs.Rules.{Rules}
-use Rattle.pipe_order.specs.Worker.{Worker, Receiver, Processor, Slow, Forwarder, Controller, Queue, Of, High, same_worker}
-use Rattle.pipe_order.specs.World.{has_worker}
+use Rattle.pipeline_laws.specs.Kinds.{Kinds}
+use Rattle.pipeline_laws.specs.Next.{feeds}
+use Rattle.pipeline_laws.specs.Rules.{Rules}
+use Rattle.pipeline_laws.specs.Worker.{Worker, Receiver, Processor, Slow, Forwarder, Controller, Queue, Of, High, same_worker}
+use Rattle.pipeline_laws.specs.World.{has_worker}
 use Rattle.router_rules.specs.Producers.{IsProducer, producer_of}
 
 module _ {K : Kinds} (R : Rules K) where

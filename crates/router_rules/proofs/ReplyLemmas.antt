@@ -1,6 +1,6 @@
 -- What becomes of a packet that is to be answered.
 use Rattle.std.proofs.Common.{◌≡◌, ℕ, Bool, true, false, if◌then◌else◌, List, Option, refl, ap, subst, ◌∙◌}
-use Rattle.pipe_order.specs.Rules.{Replies, Withholds}
+use Rattle.pipeline_laws.specs.Rules.{Replies, Withholds}
 use Rattle.process_packet.specs.declared.cause.Cause.{Cause}
 use Rattle.process_packet.specs.declared.cause.Cause.TheVariants.{NoAnswer, NoWayBack}
 use Rattle.process_packet.specs.declared.config.Config.{Config}

@@ -1,10 +1,10 @@
 -- Why packets end: a cause of the pipeline's laws as one of all causes, which the book counts.
-use Rattle.pipe_order.specs.World.{Cause}
-use Rattle.process_packet.specs.declared.cause.Cause.{Cause as Why}
+use Rattle.pipeline_laws.specs.World.{Cause}
+use Rattle.process_packet.specs.declared.cause.Cause.{Cause as RouterCause}
 use Rattle.process_packet.specs.declared.cause.Cause.TheVariants as why
 use Rattle.router_rules.specs.Rules.{kinds}
 
-abbrev pub booked_as : Cause kinds → Why
+abbrev pub booked_as : Cause kinds → RouterCause
 booked_as (Cause.Ruled w) = w
 booked_as Cause.ProcessorFull = why.ProcessorFull
 booked_as Cause.LinkFull = why.LinkFull

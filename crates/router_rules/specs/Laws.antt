@@ -1,6 +1,6 @@
 -- What is told of the router's rules as a whole.
 use Rattle.std.specs.Prelude.{◌≡◌, ◌<◌, ℕ, Bool, true, false, Some}
-use Rattle.pipe_order.specs.Rules.{Drops, IsLawful, Withholds}
+use Rattle.pipeline_laws.specs.Rules.{Drops, IsLawful, Withholds}
 use Rattle.process_packet.specs.Network.{has_link, network}
 use Rattle.process_packet.specs.declared.cause.Cause.{Cause}
 use Rattle.process_packet.specs.declared.cause.Cause.TheVariants as cause

@@ -5,6 +5,6 @@ pub mod Causes
 pub mod Laws
 pub mod Ports
 pub mod Worker
-pub mod Actor
+pub mod WorkerIndex
 pub mod Producers
 pub mod Example

@@ -1,11 +1,11 @@
 -- Who feeds a pipe under which number. A pipe's producers are numbered from 0: receivers by their links, processors in their
 -- order, and of a link's pipes behind the processors the slow path, then the controller.
 use Rattle.std.specs.Prelude.{◌≡◌, ◌<◌, ℕ, true, ◌+◌, Option, Some, None}
-use Rattle.pipe_order.specs.Kinds.{Kinds}
-use Rattle.pipe_order.specs.Next.{feeds}
-use Rattle.pipe_order.specs.Rules.{Rules}
-use Rattle.pipe_order.specs.Worker.{Worker, Receiver, Processor, Slow, Forwarder, Controller, Queue, Of, High, same_worker}
-use Rattle.pipe_order.specs.World.{has_worker}
+use Rattle.pipeline_laws.specs.Kinds.{Kinds}
+use Rattle.pipeline_laws.specs.Next.{feeds}
+use Rattle.pipeline_laws.specs.Rules.{Rules}
+use Rattle.pipeline_laws.specs.Worker.{Worker, Receiver, Processor, Slow, Forwarder, Controller, Queue, Of, High, same_worker}
+use Rattle.pipeline_laws.specs.World.{has_worker}
 use Rattle.process_packet.specs.declared.config.Config.{Config}
 use Rattle.router_rules.specs.Rules.{rules}
 

@@ -2,9 +2,9 @@
 use Rattle.std.specs.Prelude.{◌≡◌, ◌<◌, ℕ, Bool, true, false, not, ◌&&◌, ◌==◌, nat_lt, List, [], ◌∷◌, length, Option, Some, option_map, if◌then◌else◌}
 use Rattle.flow_key.specs.Flow.{Flow, flow_at, is_high}
 use Rattle.flow_key.specs.Hash.{processor_of}
-use Rattle.pipe_order.specs.Item.{Arrival}
-use Rattle.pipe_order.specs.Kinds.{Kinds}
-use Rattle.pipe_order.specs.Rules.{Decision, Sends, Asks, Drops, Reply, Replies, Withholds, Rules}
+use Rattle.pipeline_laws.specs.Item.{Arrival}
+use Rattle.pipeline_laws.specs.Kinds.{Kinds}
+use Rattle.pipeline_laws.specs.Rules.{Decision, Sends, Asks, Drops, Reply, Replies, Withholds, Rules}
 use Rattle.process_packet.specs.Decide.{decide, moved}
 use Rattle.process_packet.specs.Network.{network}
 use Rattle.process_packet.specs.Rows.{cause_of}
@@ -21,7 +21,7 @@ use Rattle.router_rules.specs.Datagram.{Datagram, Parcel}
 use Rattle.router_rules.specs.Links.{has_two_bands, link_count, link_index}
 
 abbrev pub kinds : Kinds
-kinds = record { Datagram = Datagram; Parcel = Parcel; Problem = Problem; Reason = Cause; Key = Flow }
+kinds = record { Datagram = Datagram; Parcel = Parcel; Problem = Problem; RuleCause = Cause; Key = Flow }
 
 -- what a receiver sees: a datagram that is too long, or whose header is refused
 abbrev pub inspected : List ℕ → Option Cause

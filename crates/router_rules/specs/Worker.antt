@@ -1,5 +1,5 @@
 -- Workers and pipes by the names that callers know, as the pipeline's laws know them: with links by their numbers.
-use Rattle.pipe_order.specs.Worker.{Worker, Receiver, Processor, Slow, Forwarder, Controller, Queue, Of, High}
+use Rattle.pipeline_laws.specs.Worker.{Worker, Receiver, Processor, Slow, Forwarder, Controller, Queue, Of, High}
 use Rattle.process_packet.specs.declared.config.Config.{Config}
 use Rattle.router_rules.specs.Links.{link_index}
 use Rattle.router_rules.specs.declared.worker.Queue.{Queue as NamedQueue}

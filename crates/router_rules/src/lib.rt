@@ -3,7 +3,6 @@
 //! their places.
 #![tactic(auto)]
 
-mod actor;
 mod faults;
 mod flows;
 mod laws;
@@ -15,8 +14,8 @@ mod shared;
 #[cfg(test)]
 mod tests;
 mod worker;
+mod worker_index;
 
-pub use actor::{Actor, Channel};
 pub use faults::inspect;
 pub use flows::{is_urgent, processor, processor_or_fault};
 pub use laws::{
@@ -28,3 +27,4 @@ pub use places::{link_pipe, seat_count, slow_seat};
 pub use ports::Ports;
 pub use shared::Shared;
 pub use worker::{Queue, Worker};
+pub use worker_index::{QueueIndex, WorkerIndex};

@@ -1,7 +1,7 @@
 //! The places of the workers' hands and of the pipes.
 
 ghost use Rattle.std.specs.Prelude.{◌≡◌, ◌≤◌};
-ghost use Rattle.pipe_order.specs.World.{link_pipe, seat_count, slow_seat};
+ghost use Rattle.pipeline_laws.specs.World.{link_pipe, seat_count, slow_seat};
 ghost use Rattle.router_rules.specs.Rules.{rules};
 
 use crate::links::link_count;

@@ -1,8 +1,8 @@
 ghost use Rattle.std.specs.Prelude.{◌≡◌};
 
 use crate::{
-    Actor, Channel, Ports, Queue, Shared, Worker, has_two_bands, inspect, interface_at, is_urgent,
-    link_count, link_index, link_pipe, processor_or_fault, seat_count, slow_seat,
+    Ports, Queue, QueueIndex, Shared, Worker, WorkerIndex, has_two_bands, inspect, interface_at,
+    is_urgent, link_count, link_index, link_pipe, processor_or_fault, seat_count, slow_seat,
 };
 use cmac_core::Cmac;
 use process_packet::{Bands, Cause, Config, Ip, Link, Underlay};
@@ -136,28 +136,28 @@ fn finds_workers_and_pipes(rt: HostRuntime) -> Result<(), Fail> {
     let config = config(rt.alloc(), Bands::One)?;
     assert_eq!(rt; (slow_seat(&config), seat_count(&config)), (5, 10));
     assert_eq!(rt; link_pipe(&config, true, 3), 13);
-    let forwarder = Actor::named(&config, Worker::Forwarder(7));
+    let forwarder = WorkerIndex::named(&config, Worker::Forwarder(7));
     assert_eq!(rt;
         (forwarder, forwarder.seat(&config)),
-        (Actor::Forwarder(2), 8)
+        (WorkerIndex::Forwarder(2), 8)
     );
     assert_eq!(rt;
-        (forwarder.is_there(&config), forwarder.is(Actor::Slow)),
+        (forwarder.is_there(&config), forwarder.is(WorkerIndex::Slow)),
         (true, false)
     );
-    let high = Channel::named(&config, Queue::High(2));
+    let high = QueueIndex::named(&config, Queue::High(2));
     assert_eq!(rt; (high.is_there(&config), high.place(&config)), (true, 9));
     assert_eq!(rt;
         (high.consumer(), high.is_out()),
-        (Actor::Forwarder(1), true)
+        (WorkerIndex::Forwarder(1), true)
     );
     assert_eq!(rt;
-        (Actor::Slow.feeds(high), forwarder.feeds(high)),
+        (WorkerIndex::Slow.feeds(high), forwarder.feeds(high)),
         (true, false)
     );
-    let producers = [Actor::Slow, Actor::Controller, forwarder].map(|worker| worker.producer(
-        &config,
-    ));
+    let producers = [WorkerIndex::Slow, WorkerIndex::Controller, forwarder].map(
+        |worker| worker.producer(&config),
+    );
     assert_eq!(rt; producers, [Some(1), Some(2), None]);
     assert_eq!(rt; high.producers(&config), 3);
     Ok(())

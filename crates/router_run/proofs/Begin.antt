@@ -1,7 +1,7 @@
 -- Workers made of what stood ready are a crew.
 use Rattle.std.proofs.Common.{◌≡◌, ℕ, zero, suc, ◌+◌, ◌*◌, List, [], ◌∷◌, map, length, Some, slice_get, refl, sym, ◌∙◌, ap, subst, arith}
 use Rattle.process_packet.specs.declared.config.Config.{Config}
-use Rattle.pipe_order.specs.Item.{Outgoing}
+use Rattle.pipeline_laws.specs.Item.{Outgoing}
 use Rattle.ruled_pipe.specs.Pipe.{Shape}
 use Rattle.router_laws.specs.Returned.{AllAt}
 use Rattle.router_rules.specs.Links.{interface_at, link_count}
@@ -14,10 +14,10 @@ use Rattle.router_ends.specs.Rows.{Row}
 use Rattle.router_ends.specs.Shutting.{Shutting}
 use Rattle.run_laws.specs.Crew.{AreForwarding, AreWorking, Crew, IsCrew, IsForwardingAt, IsReceivingAt, IsTakerOf, IsWorkingAt, Piping}
 use Rattle.run_parts.specs.Kits.{Entry, Exit, IsEnteringAt, IsLeavingAt, IsWorkingThere, forwardings, receivings}
-use Rattle.run_parts.specs.Makings.{AreMakings}
+use Rattle.run_parts.specs.WorkerParts.{AreWorkerParts}
 use Rattle.router_run.specs.Run.{Run, crew_of}
 use Rattle.router_run.specs.Starting.{Begins}
-use Rattle.pipe_order.specs.Item.{Arrival}
+use Rattle.pipeline_laws.specs.Item.{Arrival}
 
 some_same : {X : Type 0} (x y : X) → Some x ≡ Some y → x ≡ y
 some_same x y e = cc
@@ -110,7 +110,7 @@ module _ {G : Type 0} (c : Config) (p : Piping) where
       )
 
 pub is_crew : {S G K : Type 0} (failed : K → ℕ) (c : Config) (p : Piping) (inner_rooms : List (Row (Arrival kinds))) (outer_rooms : List (Row (Outgoing kinds))) (es : List Entry) (ws : List (Working G)) (a : Answering) (xs : List Exit) (hs : List (Shutting (Outgoing kinds))) (ss : List S) (ks : List K)
-    → AreMakings c p inner_rooms outer_rooms es ws a xs hs → length ss ≡ link_count c → length ks ≡ link_count c → IsCrew c p (crew_of (receivings es ss) ws (a ∷ []) (forwardings failed xs ks) hs)
+    → AreWorkerParts c p inner_rooms outer_rooms es ws a xs hs → length ss ≡ link_count c → length ks ≡ link_count c → IsCrew c p (crew_of (receivings es ss) ws (a ∷ []) (forwardings failed xs ks) hs)
 is_crew failed c p inner_rooms outer_rooms es ws a xs hs ss ks m sources sinks =
     let entries : length es ≡ link_count c = let q = m.entering.count in omega arith in
     let exits : length xs ≡ link_count c = let q = m.leaving.count in omega arith in

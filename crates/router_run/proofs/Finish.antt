@@ -2,8 +2,8 @@
 use Rattle.std.proofs.Common.{◌≡◌, ℕ, ◌+◌, ◌*◌, true, List, [], ◌∷◌, ◌++◌, map, length, Option, refl, sym, ◌∙◌, ap, subst, arith, length-append}
 use Rattle.std.proofs.lemmas.List.{length-map}
 use Rattle.packet_ledger.specs.Share.{Held, forwarded}
-use Rattle.pipe_order.specs.Item.{Arrival, Outgoing}
-use Rattle.pipe_order.specs.Settled.{Question}
+use Rattle.pipeline_laws.specs.Item.{Arrival, Outgoing}
+use Rattle.pipeline_laws.specs.Settled.{SlowPathRequest}
 use Rattle.process_packet.specs.declared.config.Config.{Config}
 use Rattle.process_packet.specs.declared.totals.Totals.{Totals}
 use Rattle.ruled_pipe.specs.Producer.{Sender}
@@ -25,7 +25,7 @@ use Rattle.router_ends.specs.Settled.{AreSettled, HaveEnded, IsDone, IsEnded}
 use Rattle.run_laws.specs.Came.{CrewsReturn, HasKept, HasSettled, back_of, forwarder_back, processor_back, receiver_back}
 use Rattle.run_laws.specs.Crew.{Crew, IsCrew, Piping}
 use Rattle.run_laws.specs.Ended.{IsBack, PipesEnd, inner_rows, inner_takers, middle_takers, outer_rows, takers_of}
-use Rattle.run_parts.specs.Room.{Berths, HaveBerths, HaveSpace, Space}
+use Rattle.run_parts.specs.Room.{WorkerSlots, HaveWorkerSlots, HaveSpace, Space}
 use Rattle.router_run.specs.Run.{HasRun, IsParted, IsSized, Run, shares_in}
 use Rattle.router_run.proofs.Parted.{rows_long}
 
@@ -44,7 +44,7 @@ the_slow links processors w sized = one_of w.slow sized.slow.1
 
 module _ {S G K : Type 0} where
   -- the gathered pipes
-  module _ (w : Crew S G K) (inner_bundles : List (Row (Arrival kinds))) (inner : List (Taker (Arrival kinds))) (middle : List (Sender (Question kinds))) (asked : Taker (Question kinds)) (outer_bundles : List (Row (Outgoing kinds))) (outer : List (Taker (Outgoing kinds)))
+  module _ (w : Crew S G K) (inner_bundles : List (Row (Arrival kinds))) (inner : List (Taker (Arrival kinds))) (middle : List (Sender (SlowPathRequest kinds))) (asked : Taker (SlowPathRequest kinds)) (outer_bundles : List (Row (Outgoing kinds))) (outer : List (Taker (Outgoing kinds)))
       (parted : IsParted w inner_bundles inner middle asked outer_bundles outer) where
     pub inner_ended : (p : Piping) → PipesEnd p w → HaveEnded p.inner inner_bundles inner
     inner_ended p ends = subst (λ (ts : List (Taker (Arrival kinds))). HaveEnded p.inner inner_bundles ts) (sym parted.inner_are) (ends.inner inner_bundles parted.inner_bundles_are)
@@ -54,15 +54,15 @@ module _ {S G K : Type 0} where
 
     pub middle_ended : (p : Piping) (a : Answering) → w.slow ≡ a ∷ [] → PipesEnd p w → IsEnded true p.middle middle asked
     middle_ended p a one ends =
-        let at : middle_takers w ≡ asked ∷ [] = ap (map (λ (x : Answering). x.taker)) one ∙ ap (λ (t : Taker (Question kinds)). t ∷ []) (sym (parted.asked_is a one)) in
-        subst (λ (row : List (Sender (Question kinds))). IsEnded true p.middle row asked) (sym parted.middle_are) (ends.middle asked at)
+        let at : middle_takers w ≡ asked ∷ [] = ap (map (λ (x : Answering). x.taker)) one ∙ ap (λ (t : Taker (SlowPathRequest kinds)). t ∷ []) (sym (parted.asked_is a one)) in
+        subst (λ (row : List (Sender (SlowPathRequest kinds))). IsEnded true p.middle row asked) (sym parted.middle_are) (ends.middle asked at)
 
     pub settled : (p : Piping) (a : Answering) → w.slow ≡ a ∷ [] → AreSettled 0 (rows_of inner_bundles) p.inner inner → IsDone p.middle middle asked → AreSettled 0 (rows_of outer_bundles) p.outer outer → HasSettled p w
     settled p a one si sm so = record {
       inner = subst (λ (rows : List (List (Sender (Arrival kinds)))). AreSettled 0 rows p.inner (inner_takers w)) parted.inner_bundles_are (subst (λ (ts : List (Taker (Arrival kinds))). AreSettled 0 (rows_of inner_bundles) p.inner ts) parted.inner_are si);
       middle = λ t at.
           let same : asked ≡ t = parted.asked_is a one ∙ (let e = ap (map (λ (x : Answering). x.taker)) (sym one) ∙ at in cc) in
-          subst (λ (row : List (Sender (Question kinds))). IsDone p.middle row t) parted.middle_are (subst (λ (u : Taker (Question kinds)). IsDone p.middle middle u) same sm);
+          subst (λ (row : List (Sender (SlowPathRequest kinds))). IsDone p.middle row t) parted.middle_are (subst (λ (u : Taker (SlowPathRequest kinds)). IsDone p.middle middle u) same sm);
       outer = subst (λ (rows : List (List (Sender (Outgoing kinds)))). AreSettled 0 rows p.outer (takers_of w.forwarders)) parted.outer_bundles_are (subst (λ (ts : List (Taker (Outgoing kinds))). AreSettled 0 (rows_of outer_bundles) p.outer ts) parted.outer_are so);
     }
 
@@ -143,8 +143,8 @@ module _ {S G K : Type 0} where
 pub left_as : {T : Type 0} (n m : ℕ) (ss : List Shape) (rs : List (Row T)) → n ≡ m → HaveLeft m 0 ss rs → HaveLeft n 0 ss rs
 left_as n m ss rs e left = subst (λ (k : ℕ). HaveLeft k 0 ss rs) (sym e) left
 
-pub berths_as : (a b : Config) (r : Berths) → a ≡ b → HaveBerths (link_count b) b.processors r → HaveBerths (link_count a) a.processors r
-berths_as a b r e have = subst (λ (c : Config). HaveBerths (link_count c) c.processors r) (sym e) have
+pub worker_slots_as : (a b : Config) (r : WorkerSlots) → a ≡ b → HaveWorkerSlots (link_count b) b.processors r → HaveWorkerSlots (link_count a) a.processors r
+worker_slots_as a b r e have = subst (λ (c : Config). HaveWorkerSlots (link_count c) c.processors r) (sym e) have
 
 pub space_for : (a b : Config) (r : Space) → a ≡ b → HaveSpace (link_count b) b.processors r → HaveSpace (link_count a) a.processors r
 space_for a b r e have = subst (λ (c : Config). HaveSpace (link_count c) c.processors r) (sym e) have

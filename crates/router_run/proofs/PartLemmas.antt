@@ -1,7 +1,7 @@
 -- Workers taken apart one by one: what was gathered grows behind, what is left shrinks in front.
 use Rattle.std.proofs.Common.{◌≡◌, ℕ, ◌+◌, ◌≤◌, List, [], ◌∷◌, ◌++◌, map, length, sym, ◌∙◌, ap, subst, arith, length-append}
 use Rattle.std.proofs.lemmas.List.{map-append}
-use Rattle.pipe_order.specs.Deeds.{Each}
+use Rattle.pipeline_laws.specs.Deeds.{Each}
 use Rattle.run_parts.proofs.RestLemmas.{moved}
 
 module _ {X : Type 0} where
@@ -20,15 +20,15 @@ module _ {X Y : Type 0} where
   pub started : (f : X → Y) (done : List Y) (xs ys : List X) → done ≡ [] → xs ≡ ys → done ++ map f xs ≡ map f ys
   started f done xs ys none e = ap (λ (zs : List Y). zs ++ map f xs) none ∙ ap (map f) e
 
-  pub same_behind : (f : X → Y) (done : List Y) (xs ys : List X) → xs ≡ ys → done ++ map f xs ≡ done ++ map f ys
-  same_behind f done xs ys e = ap (λ (zs : List X). done ++ map f zs) e
+  pub same_after : (f : X → Y) (done : List Y) (xs ys : List X) → xs ≡ ys → done ++ map f xs ≡ done ++ map f ys
+  same_after f done xs ys e = ap (λ (zs : List X). done ++ map f zs) e
 
   -- one more
   pub grown : (f : X → Y) (done more : List Y) (old new : List X) (x : X) (y : Y) (all : List Y) → old ≡ x ∷ new → more ≡ done ++ y ∷ [] → y ≡ f x → done ++ map f old ≡ all → more ++ map f new ≡ all
   grown f done more old new x y all is e same before = ap (λ (zs : List Y). zs ++ map f new) (e ∙ ap (λ (z : Y). done ++ z ∷ []) same) ∙ moved f done old new x all is before
 
-  pub one_behind : (f : X → Y) (old new : List X) (x : X) → new ≡ old ++ x ∷ [] → map f new ≡ map f old ++ f x ∷ []
-  one_behind f old new x e = ap (map f) e ∙ map-append f old (x ∷ [])
+  pub one_after : (f : X → Y) (old new : List X) (x : X) → new ≡ old ++ x ∷ [] → map f new ≡ map f old ++ f x ∷ []
+  one_after f old new x e = ap (map f) e ∙ map-append f old (x ∷ [])
 
   pub room_kept : (done more : List Y) (y : Y) (old new : List X) (x : X) (n m : ℕ) → more ≡ done ++ y ∷ [] → old ≡ x ∷ new → m ≡ n → length done + length old ≤ n → length more + length new ≤ m
   room_kept done more y old new x n m e is same fits = let a = ap length e in let b = length-append done (y ∷ []) in let d = ap length is in omega arith

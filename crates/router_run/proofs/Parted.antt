@@ -2,9 +2,9 @@
 use Rattle.std.proofs.Common.{◌≡◌, ℕ, ◌+◌, ◌≤◌, ◌<◌, List, [], ◌∷◌, ◌++◌, map, length, Option, sym, ◌∙◌, ap, subst, arith, append_assoc, length-append}
 use Rattle.std.proofs.lemmas.List.{length-map}
 use Rattle.packet_ledger.specs.Share.{Held}
-use Rattle.pipe_order.specs.Deeds.{Each}
-use Rattle.pipe_order.specs.Item.{Arrival, Outgoing}
-use Rattle.pipe_order.specs.Settled.{Question}
+use Rattle.pipeline_laws.specs.Deeds.{Each}
+use Rattle.pipeline_laws.specs.Item.{Arrival, Outgoing}
+use Rattle.pipeline_laws.specs.Settled.{SlowPathRequest}
 use Rattle.ruled_pipe.specs.Producer.{Sender}
 use Rattle.ruled_pipe.specs.Consumer.{Taker}
 use Rattle.router_laws.specs.Heard.{Heard}
@@ -25,7 +25,7 @@ use Rattle.run_laws.specs.Crew.{Crew}
 use Rattle.run_laws.specs.Ended.{HasMarked, outer_rows, takers_of}
 use Rattle.run_parts.specs.Room.{HaveSpace, IsRoomy, Space}
 use Rattle.router_run.specs.Run.{IsParted, IsSized, shares_in}
-use Rattle.router_run.proofs.PartLemmas.{one_behind}
+use Rattle.router_run.proofs.PartLemmas.{one_after}
 use Rattle.run_parts.proofs.RestLemmas.{each_first}
 
 -- ---- numbers
@@ -111,17 +111,17 @@ module _ {S G K : Type 0} where
       let ps : List Ends = map (λ (p : Working G). senders p.side.links) w.processors in
       let s : Ends = senders x.side.links in
       let slow : map (λ (a : Answering). senders a.side.links) w.slow ≡ s ∷ [] = ap (map (λ (a : Answering). senders a.side.links)) one in
-      one_behind (λ (r : Row (Outgoing kinds)). r.ends) second all last d
+      one_after (λ (r : Row (Outgoing kinds)). r.ends) second all last d
       ∙ (ap (λ (zs : List Ends). zs ++ last.ends ∷ []) b
       ∙ (append_assoc (rows_of first) (s ∷ []) (last.ends ∷ [])
       ∙ (ap (λ (zs : List Ends). zs ++ (s ∷ last.ends ∷ [])) a
       ∙ (ap (λ (z : Ends). ps ++ (s ∷ z ∷ [])) same
       ∙ ap (λ (zs : List Ends). ps ++ (zs ++ shutter_ends w.shutters ∷ [])) (sym slow)))))
 
-  asked_parted : (w : Crew S G K) (x : Answering) (asked : Taker (Question kinds)) → w.slow ≡ x ∷ [] → asked ≡ x.taker → (a : Answering) → w.slow ≡ a ∷ [] → asked ≡ a.taker
+  asked_parted : (w : Crew S G K) (x : Answering) (asked : Taker (SlowPathRequest kinds)) → w.slow ≡ x ∷ [] → asked ≡ x.taker → (a : Answering) → w.slow ≡ a ∷ [] → asked ≡ a.taker
   asked_parted w x asked one is a other = let same : x ∷ [] ≡ a ∷ [] = sym one ∙ other in let e : x ≡ a = cc in is ∙ ap (λ (y : Answering). y.taker) e
 
-  pub is_parted : (v w : Crew S G K) (x : Answering) (inner_bundles : List (Row (Arrival kinds))) (inner : List (Taker (Arrival kinds))) (middle : List (Sender (Question kinds))) (asked : Taker (Question kinds)) (first second all : List (Row (Outgoing kinds))) (last : Row (Outgoing kinds)) (outer : List (Taker (Outgoing kinds)))
+  pub is_parted : (v w : Crew S G K) (x : Answering) (inner_bundles : List (Row (Arrival kinds))) (inner : List (Taker (Arrival kinds))) (middle : List (Sender (SlowPathRequest kinds))) (asked : Taker (SlowPathRequest kinds)) (first second all : List (Row (Outgoing kinds))) (last : Row (Outgoing kinds)) (outer : List (Taker (Outgoing kinds)))
       → v ≡ w → v.slow ≡ x ∷ []
       → rows_of inner_bundles ≡ map (λ (r : Receiving S). senders r.side.processors) v.receivers
       → inner ≡ map (λ (p : Working G). p.taker) v.processors → middle ≡ map (λ (p : Working G). p.slow.sender) v.processors → asked ≡ x.taker

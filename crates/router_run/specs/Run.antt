@@ -1,8 +1,8 @@
 -- A run: what it began with, and what it came to.
 use Rattle.std.specs.Prelude.{◌≡◌, ◌+◌, ◌*◌, ℕ, Bool, List, [], ◌∷◌, ◌++◌, length, map, Option}
-use Rattle.pipe_order.specs.Deeds.{Each}
-use Rattle.pipe_order.specs.Item.{Arrival, Outgoing}
-use Rattle.pipe_order.specs.Settled.{Question}
+use Rattle.pipeline_laws.specs.Deeds.{Each}
+use Rattle.pipeline_laws.specs.Item.{Arrival, Outgoing}
+use Rattle.pipeline_laws.specs.Settled.{SlowPathRequest}
 use Rattle.ruled_pipe.specs.Producer.{Sender}
 use Rattle.ruled_pipe.specs.Consumer.{Taker}
 use Rattle.router_rules.specs.Rules.{kinds}
@@ -33,7 +33,7 @@ pub record IsSized {S G K : Type 0} (links processors : ℕ) (w : Crew S G K) : 
   pub shutters : length w.shutters ≡ 2 * links
 
 -- what is left of workers that were taken apart: their ends, shares and devices
-pub record IsParted {S G K : Type 0} (w : Crew S G K) (inner_bundles : List (Row (Arrival kinds))) (inner : List (Taker (Arrival kinds))) (middle : List (Sender (Question kinds))) (asked : Taker (Question kinds)) (outer_bundles : List (Row (Outgoing kinds))) (outer : List (Taker (Outgoing kinds))) : Type 0 where
+pub record IsParted {S G K : Type 0} (w : Crew S G K) (inner_bundles : List (Row (Arrival kinds))) (inner : List (Taker (Arrival kinds))) (middle : List (Sender (SlowPathRequest kinds))) (asked : Taker (SlowPathRequest kinds)) (outer_bundles : List (Row (Outgoing kinds))) (outer : List (Taker (Outgoing kinds))) : Type 0 where
   pub inner_bundles_are : rows_of inner_bundles ≡ inner_rows w
   pub inner_are : inner ≡ inner_takers w
   pub middle_are : middle ≡ middle_row w

@@ -10,7 +10,7 @@ ghost use Rattle.run_laws.specs.Crew.{IsCrew};
 ghost use Rattle.run_laws.specs.Came.{HasKept, HasSettled};
 ghost use Rattle.run_laws.specs.Ended.{HasMarked, IsBack, PipesEnd};
 ghost use Rattle.run_parts.specs.Dealing.{piping};
-ghost use Rattle.run_parts.specs.Room.{HaveBerths, HaveSpace};
+ghost use Rattle.run_parts.specs.Room.{HaveWorkerSlots, HaveSpace};
 ghost use Rattle.router_run.specs.Run.{HasRun, IsParted, IsSized, crew_of, shares_in};
 
 use crate::parting::{part_forwarders, part_processors, part_receivers, part_slow};
@@ -21,8 +21,8 @@ use router_rules::{Shared, causes_are_apart, link_count, links_stand_in_order, r
 use router_stages::{Forwarder, Processor, Receiver, SlowPath};
 use ruled_pipe::Consumer;
 use run_laws::{crews_end, crews_return};
-use run_parts::{Berths, Line, Pipes, Space, notify_all};
-use stage_parts::{Event, Gate, Packet, Parcel, Question, Router, Sink, Source};
+use run_parts::{Line, Pipes, Space, WorkerSlots, notify_all};
+use stage_parts::{EgressPacket, Event, Gate, Packet, Router, Sink, SlowPathRequest, Source};
 use std::marker::Model;
 use std::rt::Clock;
 use std::sync::Wait;
@@ -71,7 +71,7 @@ where
     processors: Vec<Processor<N, R, G>>,
     slow: Vec<SlowPath<N, R>>,
     forwarders: Vec<Forwarder<N, R, K>>,
-    shutters: Vec<Shutter<Parcel<N>>>,
+    shutters: Vec<Shutter<EgressPacket<N>>>,
 }
 
 impl<N, S, K, G, R> Model for Joined<N, S, K, G, R>
@@ -98,7 +98,7 @@ fn join_workers<N, S, K, G, R>(
     processors: (Vec<Handle<N, Processor<N, R, G>>>, Vec<Processor<N, R, G>>),
     slow: (Vec<Handle<N, SlowPath<N, R>>>, Vec<SlowPath<N, R>>),
     forwarders: (Vec<Handle<N, Forwarder<N, R, K>>>, Vec<Forwarder<N, R, K>>),
-    shutters: Vec<Shutter<Parcel<N>>>,
+    shutters: Vec<Shutter<EgressPacket<N>>>,
 ) -> Joined<N, S, K, G, R>
 where
     N: Router,
@@ -135,10 +135,10 @@ where
 pub struct Parted<N: Router> {
     inner_bundles: Vec<Ends<Packet<N>>>,
     inner_takers: Vec<Consumer<Packet<N>>>,
-    middle_row: Ends<Question<N>>,
-    asked: Consumer<Question<N>>,
-    outer_bundles: Vec<Ends<Parcel<N>>>,
-    outer_takers: Vec<Consumer<Parcel<N>>>,
+    middle_row: Ends<SlowPathRequest<N>>,
+    asked: Consumer<SlowPathRequest<N>>,
+    outer_bundles: Vec<Ends<EgressPacket<N>>>,
+    outer_takers: Vec<Consumer<EgressPacket<N>>>,
 }
 
 /// Their shares and devices, and how many each sink took.
@@ -275,9 +275,9 @@ pub fn finish_all<N, S, K, G, R>(
     orders: &Orders<N>,
     forwarder_events: &[Event],
     threads: Threaded<N, S, K, G, R>,
-    shutters: Vec<Shutter<Parcel<N>>>,
+    shutters: Vec<Shutter<EgressPacket<N>>>,
     pipes: Pipes<N>,
-    berths: Berths<N, S, K, G, R>,
+    worker_slots: WorkerSlots<N, S, K, G, R>,
     space: Space<N, S, K>,
 ) -> Report<S, K>
 where
@@ -289,7 +289,7 @@ where
     requires workers { N.workers ≡ 2 * link_count shared.now.config + shared.now.config.processors + 1 }
     requires crew { IsCrew shared.now.config (piping pipes.inner.items pipes.middle pipes.outer.items) (crew_of (map (λ h. h.promise.0.value) threads.receivers.items) (map (λ h. h.promise.0.value) threads.processors.items) (map (λ h. h.promise.0.value) threads.slow.items) (map (λ h. h.promise.0.value) threads.forwarders.items) shutters.items) }
     requires rooms { HaveLeft (link_count shared.now.config) 0 pipes.inner.items pipes.inner_rooms.items × HaveLeft (shared.now.config.processors + 2) 0 pipes.outer.items pipes.outer_rooms.items }
-    requires berths { HaveBerths (link_count shared.now.config) shared.now.config.processors berths }
+    requires worker_slots { HaveWorkerSlots (link_count shared.now.config) shared.now.config.processors worker_slots }
     requires space { HaveSpace (link_count shared.now.config) shared.now.config.processors space }
     ensures { HasRun S.told K.told K.failed (record { config = shared.now.config; pipes = piping pipes.inner.items pipes.middle pipes.outer.items; crew = crew_of (map (λ h. h.promise.0.value) threads.receivers.items) (map (λ h. h.promise.0.value) threads.processors.items) (map (λ h. h.promise.0.value) threads.slow.items) (map (λ h. h.promise.0.value) threads.forwarders.items) shutters.items }) result.totals result.sent.items result.sources.items result.sinks.items }
 {
@@ -306,12 +306,12 @@ where
         slow,
         forwarders,
     } = threads;
-    let Berths {
+    let WorkerSlots {
         receivers: receiver_room,
         processors: worker_room,
         slow: slow_room,
         forwarders: forwarder_room,
-    } = berths;
+    } = worker_slots;
     let joined = join_workers(
         rt,
         orders,

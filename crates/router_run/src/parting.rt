@@ -2,7 +2,7 @@
 
 ghost use Rattle.std.specs.Prelude.{◌≡◌, ◌≤◌, ◌<◌, ◌+◌, ◌*◌, ◌++◌, ◌∷◌, [], length, map, vec_capacity};
 ghost use Rattle.packet_ledger.specs.Share.{forwarded};
-ghost use Rattle.pipe_order.specs.Deeds.{Each};
+ghost use Rattle.pipeline_laws.specs.Deeds.{Each};
 ghost use Rattle.router_laws.specs.Keeping.{IsAnswering, IsForwarding, IsReceiving, IsWorking};
 ghost use Rattle.stage_parts.specs.Outlet.{IsMarked};
 ghost use Rattle.stage_parts.specs.Outlets.{senders};
@@ -17,7 +17,7 @@ use router_ends::{Ends, bare};
 use router_stages::{Forwarder, Processor, Receiver, SlowPath};
 use ruled_pipe::Consumer;
 use run_parts::Line;
-use stage_parts::{Gate, Packet, Parcel, Question, Router, Sink, Source};
+use stage_parts::{EgressPacket, Gate, Packet, Router, Sink, SlowPathRequest, Source};
 use std::sync::Wait;
 
 /// The receivers' ends, sources and shares.
@@ -58,9 +58,9 @@ pub fn part_processors<N: Router, G: Gate + Drop, R: Wait + Copy>(
     processors: Vec<Processor<N, R, G>>,
     pipes: usize,
     takers: &mut Vec<Consumer<Packet<N>>>,
-    asking: &mut Ends<Question<N>>,
-    rows: &mut Line<Ends<Parcel<N>>>,
-    bundles: &mut Vec<Ends<Parcel<N>>>,
+    asking: &mut Ends<SlowPathRequest<N>>,
+    rows: &mut Line<Ends<EgressPacket<N>>>,
+    bundles: &mut Vec<Ends<EgressPacket<N>>>,
     shares: &mut Vec<Share<N>>,
 )
     requires ends { Each (λ w. length w.side.links ≡ pipes) processors.items }
@@ -93,10 +93,10 @@ pub fn part_processors<N: Router, G: Gate + Drop, R: Wait + Copy>(
 /// The slow path's ends and share.
 pub fn part_slow<N: Router, R: Wait + Copy>(
     slow: SlowPath<N, R>,
-    row: Ends<Parcel<N>>,
-    bundles: &mut Vec<Ends<Parcel<N>>>,
+    row: Ends<EgressPacket<N>>,
+    bundles: &mut Vec<Ends<EgressPacket<N>>>,
     shares: &mut Vec<Share<N>>,
-) -> Consumer<Question<N>>
+) -> Consumer<SlowPathRequest<N>>
     requires row { (row.ends ≡ []) × (length slow.side.links ≤ row.room) }
     requires bundles { length bundles.old.items < vec_capacity bundles.old }
     requires shares { length shares.old.items < vec_capacity shares.old }
@@ -115,7 +115,7 @@ pub fn part_slow<N: Router, R: Wait + Copy>(
 /// The forwarders' consumers, sinks and shares, and how many each sink took.
 pub fn part_forwarders<N: Router, K: Sink + Drop, R: Wait + Copy>(
     forwarders: Vec<Forwarder<N, R, K>>,
-    takers: &mut Vec<Consumer<Parcel<N>>>,
+    takers: &mut Vec<Consumer<EgressPacket<N>>>,
     sinks: &mut Vec<K>,
     sent: &mut Vec<u128>,
     shares: &mut Vec<Share<N>>,

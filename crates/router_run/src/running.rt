@@ -2,13 +2,13 @@
 
 ghost use Rattle.std.specs.Prelude.{◌≡◌, ◌+◌, ◌*◌, MatchResult, Some, [], length, vec_capacity};
 ghost use Rattle.std.specs.Arc.{arc_value};
-ghost use Rattle.pipe_order.specs.Deeds.{Each};
+ghost use Rattle.pipeline_laws.specs.Deeds.{Each};
 ghost use Rattle.router_laws.specs.Heard.{ToldNothing};
 ghost use Rattle.router_rules.specs.Links.{link_count};
 ghost use Rattle.router_run.specs.Closing.{Closing, IsSameRun};
 ghost use Rattle.run_parts.specs.Dealing.{piping};
-ghost use Rattle.run_parts.specs.Makings.{AreMakings};
-ghost use Rattle.run_parts.specs.Room.{HaveBerths, HaveSpace};
+ghost use Rattle.run_parts.specs.WorkerParts.{AreWorkerParts};
+ghost use Rattle.run_parts.specs.Room.{HaveWorkerSlots, HaveSpace};
 ghost use Rattle.router_run.specs.Run.{HasRun};
 ghost use Rattle.router_run.specs.Starting.{Begins, GivesBack};
 
@@ -20,9 +20,10 @@ use process_packet::Config;
 use router_ends::Shutter;
 use router_rules::{Shared, link_count};
 use run_parts::{
-    Berths, Makings, Pipes, Prepared, Space, forwarders_of, notify_one, prepare, receivers_of,
+    Pipes, Prepared, Space, WorkerParts, WorkerSlots, forwarders_of, notify_one, prepare,
+    receivers_of,
 };
-use stage_parts::{Event, Gate, Parcel, Router, Sink, Source};
+use stage_parts::{EgressPacket, Event, Gate, Router, Sink, Source};
 use std::alloc::Global;
 use std::marker::Model;
 use std::rt::Clock;
@@ -45,9 +46,9 @@ where
     orders: Orders<N>,
     forwarder_events: Vec<Event>,
     threads: Threaded<N, S, K, G, R>,
-    shutters: Vec<Shutter<Parcel<N>>>,
+    shutters: Vec<Shutter<EgressPacket<N>>>,
     pipes: Pipes<N>,
-    berths: Berths<N, S, K, G, R>,
+    worker_slots: WorkerSlots<N, S, K, G, R>,
     space: Space<N, S, K>,
 }
 
@@ -65,14 +66,14 @@ where
     ghost use Rattle.router_rules.specs.Links.{link_count};
     ghost use Rattle.run_laws.specs.Crew.{IsCrew};
     ghost use Rattle.run_parts.specs.Dealing.{piping};
-    ghost use Rattle.run_parts.specs.Room.{HaveBerths, HaveSpace};
+    ghost use Rattle.run_parts.specs.Room.{HaveWorkerSlots, HaveSpace};
     ghost use Rattle.router_run.specs.Run.{Run, crew_of};
 
     ghost Value = { Run S G K };
 
     ghost view = { λ r. record { config = (arc_value r.shared).config; pipes = piping r.pipes.inner.items r.pipes.middle r.pipes.outer.items; crew = crew_of (map (λ h. h.promise.0.value) r.threads.receivers.items) (map (λ h. h.promise.0.value) r.threads.processors.items) (map (λ h. h.promise.0.value) r.threads.slow.items) (map (λ h. h.promise.0.value) r.threads.forwarders.items) r.shutters.items } };
 
-    ghost invariant = { λ r. (N.workers ≡ 2 * link_count (arc_value r.shared).config + (arc_value r.shared).config.processors + 1) × IsCrew (arc_value r.shared).config (piping r.pipes.inner.items r.pipes.middle r.pipes.outer.items) (crew_of (map (λ h. h.promise.0.value) r.threads.receivers.items) (map (λ h. h.promise.0.value) r.threads.processors.items) (map (λ h. h.promise.0.value) r.threads.slow.items) (map (λ h. h.promise.0.value) r.threads.forwarders.items) r.shutters.items) × HaveLeft (link_count (arc_value r.shared).config) 0 r.pipes.inner.items r.pipes.inner_rooms.items × HaveLeft ((arc_value r.shared).config.processors + 2) 0 r.pipes.outer.items r.pipes.outer_rooms.items × HaveBerths (link_count (arc_value r.shared).config) (arc_value r.shared).config.processors r.berths × HaveSpace (link_count (arc_value r.shared).config) (arc_value r.shared).config.processors r.space };
+    ghost invariant = { λ r. (N.workers ≡ 2 * link_count (arc_value r.shared).config + (arc_value r.shared).config.processors + 1) × IsCrew (arc_value r.shared).config (piping r.pipes.inner.items r.pipes.middle r.pipes.outer.items) (crew_of (map (λ h. h.promise.0.value) r.threads.receivers.items) (map (λ h. h.promise.0.value) r.threads.processors.items) (map (λ h. h.promise.0.value) r.threads.slow.items) (map (λ h. h.promise.0.value) r.threads.forwarders.items) r.shutters.items) × HaveLeft (link_count (arc_value r.shared).config) 0 r.pipes.inner.items r.pipes.inner_rooms.items × HaveLeft ((arc_value r.shared).config.processors + 2) 0 r.pipes.outer.items r.pipes.outer_rooms.items × HaveWorkerSlots (link_count (arc_value r.shared).config) (arc_value r.shared).config.processors r.worker_slots × HaveSpace (link_count (arc_value r.shared).config) (arc_value r.shared).config.processors r.space };
 }
 
 /// Starts a router with this configuration: one thread a worker, over one source and one sink a link,
@@ -125,12 +126,12 @@ where
     K: Sink + Send + Drop + 'static,
     G: Gate + Send + Sync + Drop + 'static,
     R: Threads + Wait + Clock + Copy + Send + 'static,
-    requires makings { AreMakings (arc_value prepared.shared).config (piping prepared.makings.pipes.inner.items prepared.makings.pipes.middle prepared.makings.pipes.outer.items) prepared.makings.pipes.inner_rooms.items prepared.makings.pipes.outer_rooms.items prepared.makings.receivers.items prepared.makings.processors.items prepared.makings.slow prepared.makings.forwarders.items prepared.makings.shutters.items }
+    requires worker_parts { AreWorkerParts (arc_value prepared.shared).config (piping prepared.worker_parts.pipes.inner.items prepared.worker_parts.pipes.middle prepared.worker_parts.pipes.outer.items) prepared.worker_parts.pipes.inner_rooms.items prepared.worker_parts.pipes.outer_rooms.items prepared.worker_parts.receivers.items prepared.worker_parts.processors.items prepared.worker_parts.slow prepared.worker_parts.forwarders.items prepared.worker_parts.shutters.items }
     requires receivers { (prepared.receivers.workers.items ≡ []) × (vec_capacity prepared.receivers.workers ≡ link_count (arc_value prepared.shared).config) × (prepared.receivers.room.items ≡ []) × (vec_capacity prepared.receivers.room ≡ link_count (arc_value prepared.shared).config) }
     requires processors { (prepared.processors.room.items ≡ []) × (vec_capacity prepared.processors.room ≡ (arc_value prepared.shared).config.processors) }
     requires slow { (prepared.slow.workers.items ≡ []) × (vec_capacity prepared.slow.workers ≡ 1) × (prepared.slow.room.items ≡ []) × (vec_capacity prepared.slow.room ≡ 1) }
     requires forwarders { (prepared.forwarders.workers.items ≡ []) × (vec_capacity prepared.forwarders.workers ≡ link_count (arc_value prepared.shared).config) × (prepared.forwarders.room.items ≡ []) × (vec_capacity prepared.forwarders.room ≡ link_count (arc_value prepared.shared).config) }
-    requires berths { HaveBerths (link_count (arc_value prepared.shared).config) (arc_value prepared.shared).config.processors prepared.berths }
+    requires worker_slots { HaveWorkerSlots (link_count (arc_value prepared.shared).config) (arc_value prepared.shared).config.processors prepared.worker_slots }
     requires space { HaveSpace (link_count (arc_value prepared.shared).config) (arc_value prepared.shared).config.processors prepared.space }
     requires workers { N.workers ≡ 2 * link_count (arc_value prepared.shared).config + (arc_value prepared.shared).config.processors + 1 }
     requires sources { Each (λ s. ToldNothing (S.told s)) sources.items × (length sources.items ≡ link_count (arc_value prepared.shared).config) }
@@ -141,22 +142,22 @@ where
         shared,
         orders,
         forwarder_events,
-        makings,
+        worker_parts,
         receivers: receiving,
         processors: working,
         slow: answering,
         forwarders: forwarding,
-        berths,
+        worker_slots,
         space,
     } = prepared;
-    let Makings {
+    let WorkerParts {
         receivers,
         processors,
         slow,
         forwarders,
         shutters,
         pipes,
-    } = makings;
+    } = worker_parts;
     let receivers = Team {
         workers: receivers_of(rt, receivers, sources, receiving.workers),
         orders: receiving.orders,
@@ -193,7 +194,7 @@ where
             },
             shutters,
             pipes,
-            berths,
+            worker_slots,
             space,
         }),
         Err(_) => Err(StartFault::Thread),
@@ -238,7 +239,7 @@ where
             threads,
             shutters,
             pipes,
-            berths,
+            worker_slots,
             space,
         } = self;
         finish_all(
@@ -249,7 +250,7 @@ where
             threads,
             shutters,
             pipes,
-            berths,
+            worker_slots,
             space,
         )
     }

@@ -1,10 +1,10 @@
 -- One turn of the slow path keeps its law.
 use Rattle.std.proofs.Common.{◌≡◌, ◌⊎◌, inl, inr, ℕ, ◌+◌, ◌<◌, Bool, List, [], ◌∷◌, length, Option, Some, refl, sym, ap, subst, ◌∙◌, arith}
 use Rattle.packet_ledger.specs.Share.{Held, emptied, new_share}
-use Rattle.pipe_order.specs.Item.{Outgoing}
-use Rattle.pipe_order.specs.Rules.{Rules, Reply, Replies, Withholds}
-use Rattle.pipe_order.specs.Deeds.{payload_of, Accepted, Refused, Counted}
-use Rattle.pipe_order.specs.Settled.{Question}
+use Rattle.pipeline_laws.specs.Item.{Outgoing}
+use Rattle.pipeline_laws.specs.Rules.{Rules, Reply, Replies, Withholds}
+use Rattle.pipeline_laws.specs.Deeds.{payload_of, Accepted, Refused, Counted}
+use Rattle.pipeline_laws.specs.Settled.{SlowPathRequest}
 use Rattle.process_packet.specs.declared.cause.Cause.{Cause}
 use Rattle.process_packet.specs.declared.config.Config.{Config}
 use Rattle.router_laws.specs.Keeping.{IsAnswering}
@@ -28,11 +28,11 @@ use Rattle.router_stages.specs.Exits.{Leaving, DroppedAs, SentAs, pipe_for, with
 use Rattle.router_stages.specs.Answering.{AfterReply, KeepsAnswering, RepliedTo}
 use Rattle.router_stages.proofs.WorkingLemmas.{home_is}
 
-module _ (taker : Taker (Question kinds)) (q : Question kinds) (from : ℕ) (old : Leaving) (some : 0 < length old.links) (k : IsAnswering old.config taker (senders old.links) old.share) where
+module _ (taker : Taker (SlowPathRequest kinds)) (q : SlowPathRequest kinds) (from : ℕ) (old : Leaving) (some : 0 < length old.links) (k : IsAnswering old.config taker (senders old.links) old.share) where
   abbrev R : Rules kinds
   R = rules old.config
 
-  abbrev after : Taker (Question kinds)
+  abbrev after : Taker (SlowPathRequest kinds)
   after = took taker (entry from (Payload q))
 
   abbrev W : Leaving → Type 0
@@ -63,7 +63,7 @@ module _ (taker : Taker (Question kinds)) (q : Question kinds) (from : ℕ) (old
   replied_works new p = after_works (replied old.config q.arrival.datagram q.problem) refl new p
 
 -- the ends stay open, and the configuration the same
-module _ (q : Question kinds) (old : Leaving) (some : 0 < length old.links) (is : AreOpen old.links) where
+module _ (q : SlowPathRequest kinds) (old : Leaving) (some : 0 < length old.links) (is : AreOpen old.links) where
   same_open : (new : Leaving) → new.links ≡ old.links → AreOpen new.links
   same_open new e = subst (λ (ls : List (Offering (Outgoing kinds))). AreOpen ls) (sym e) is
 
@@ -77,16 +77,16 @@ module _ (q : Question kinds) (old : Leaving) (some : 0 < length old.links) (is 
   after_open (Withholds why) new d = (same_open new (ap (λ (n : Leaving). n.links) d.1), ap (λ (n : Leaving). n.config) d.1)
 
 -- nothing was taken yet
-pub keeps_first : (named : Option Config) (taker : Taker (Question kinds)) (side : Leaving) → named ≡ Some side.config → taker.taken ≡ [] → AreFresh side.links → side.share ≡ new_share → KeepsAnswering named taker side
+pub keeps_first : (named : Option Config) (taker : Taker (SlowPathRequest kinds)) (side : Leaving) → named ≡ Some side.config → taker.taken ≡ [] → AreFresh side.links → side.share ≡ new_share → KeepsAnswering named taker side
 keeps_first named taker side config untaken fresh unraised = record {
   config = config;
   law = subst (λ (s : Held). IsAnswering side.config taker (senders side.links) s) (sym unraised) (slow_none side.config taker (senders side.links) untaken (fresh_senders side.links fresh));
   unended = λ lt. fresh_open side.links fresh;
 }
 
-module _ (named : Option Config) (taker : Taker (Question kinds)) (side : Leaving) (k : KeepsAnswering named taker side) where
-  -- a question was taken and answered
-  pub keeps_replied : (from : ℕ) (q : Question kinds) (new : Leaving) → ends_in taker.taken < taker.producers → 0 < length side.links → RepliedTo q side new → KeepsAnswering named (took taker (entry from (Payload q))) new
+module _ (named : Option Config) (taker : Taker (SlowPathRequest kinds)) (side : Leaving) (k : KeepsAnswering named taker side) where
+  -- a request was taken and answered
+  pub keeps_replied : (from : ℕ) (q : SlowPathRequest kinds) (new : Leaving) → ends_in taker.taken < taker.producers → 0 < length side.links → RepliedTo q side new → KeepsAnswering named (took taker (entry from (Payload q))) new
   keeps_replied from q new lt some p =
       let after = after_open q side some (k.unended lt) (replied side.config q.arrival.datagram q.problem) new p in
       record {
@@ -100,7 +100,7 @@ module _ (named : Option Config) (taker : Taker (Question kinds)) (side : Leavin
   keeps_looked = record { config = k.config; law = slow_looked side.config taker (senders side.links) (senders side.links) side.share k.law; unended = k.unended }
 
   -- a mark was taken
-  no_payload : (m : Mark) → payload_of {X = Question kinds} (load_in (Marked m)) ≡ []
+  no_payload : (m : Mark) → payload_of {X = SlowPathRequest kinds} (load_in (Marked m)) ≡ []
   no_payload mark.Close = refl
   no_payload mark.End = refl
 

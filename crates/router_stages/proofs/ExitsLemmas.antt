@@ -1,7 +1,7 @@
 -- Offers and buffers that go back.
 use Rattle.std.proofs.Common.{◌≡◌, ◌⊎◌, inl, inr, ℕ, zero, suc, ◌+◌, ◌*◌, ◌<◌, Bool, true, false, cond, ◌&&◌, List, [], ◌∷◌, length, slice_index_or, slice_set, refl, sym, ap, subst, ◌∙◌, arith}
 use Rattle.packet_ledger.specs.Share.{Held, counting, with_fate}
-use Rattle.pipe_order.specs.Item.{Outgoing}
+use Rattle.pipeline_laws.specs.Item.{Outgoing}
 use Rattle.process_packet.specs.declared.cause.Cause.TheVariants as cause
 use Rattle.process_packet.specs.declared.config.Config.{Config}
 use Rattle.router_rules.specs.Links.{has_two_bands, link_count}

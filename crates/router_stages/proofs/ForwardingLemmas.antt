@@ -1,10 +1,10 @@
 -- One turn of a forwarder keeps its law.
 use Rattle.std.proofs.Common.{◌≡◌, ◌⊎◌, inl, inr, ℕ, ◌+◌, ◌<◌, ◌≤◌, ◌||◌, min, Bool, true, false, cond, List, [], ◌∷◌, Option, Some, None, refl, sym, ap, subst, ◌∙◌, arith}
 use Rattle.packet_ledger.specs.Share.{Held, emptied, new_share}
-use Rattle.pipe_order.specs.Item.{Outgoing}
-use Rattle.pipe_order.specs.Deeds as deeds
-use Rattle.pipe_order.specs.Deeds.{payload_of}
-use Rattle.pipe_order.specs.World.{Cause as Fate}
+use Rattle.pipeline_laws.specs.Item.{Outgoing}
+use Rattle.pipeline_laws.specs.Deeds as deeds
+use Rattle.pipeline_laws.specs.Deeds.{payload_of}
+use Rattle.pipeline_laws.specs.World.{Cause as Fate}
 use Rattle.process_packet.specs.declared.config.Config.{Config}
 use Rattle.router_laws.specs.Heard.{ToldNothing}
 use Rattle.router_laws.specs.Keeping.{IsForwarding}
@@ -23,7 +23,7 @@ use Rattle.stage_laws.specs.Ends.{load_in}
 use Rattle.stage_laws.specs.Forwards.{Handed}
 use Rattle.stage_parts.specs.Told.{Told, told_of}
 use Rattle.stage_parts.proofs.Marks.{ends_more}
-use Rattle.router_stages.specs.Forwarding.{Band, Delivery, Delivered, HandedOn, KeepsForwarding, Met, PassedMet, Swept, after_look, after_mark, after_parcel, closes, end_mark, handed, looks_first, with_share}
+use Rattle.router_stages.specs.Forwarding.{Band, Delivery, Delivered, HandedOn, KeepsForwarding, Met, PassedMet, Swept, after_look, after_mark, after_egress_packet, closes, end_mark, handed, looks_first, with_share}
 
 -- the end marks that were taken, up to the most
 pub band_more : (t t' : Taker (Outgoing kinds)) (e : Entry (Outgoing kinds)) (producers ends after n : ℕ) → t' ≡ took t e → n ≡ end_of e.load → after ≡ min (ends + n) producers → (producers ≡ t.producers) × (ends ≡ min (ends_in t.taken) producers)
@@ -47,18 +47,18 @@ marks_close mark.End = refl
 
 module _ {K : Type 0} (told : K → Option (List Told)) (failed : K → ℕ) (low high : Band) (began : ℕ) (side new : Delivery K) (k : KeepsForwarding told failed low high began side) where
   -- of the high band
-  handed_high : (from : ℕ) (o : Outgoing kinds) → (b : Bool) → high.shut ≡ b → Delivered told failed b o side new → KeepsForwarding told failed low (after_parcel from o high) began new
+  handed_high : (from : ℕ) (o : Outgoing kinds) → (b : Bool) → high.shut ≡ b → Delivered told failed b o side new → KeepsForwarding told failed low (after_egress_packet from o high) began new
   handed_high from o true shut d =
       let e = entry from (Payload o) in
       let swept = swept_high told_of low.taker high.taker low.shut high.shut began (failed side.sink) side.share e (told side.sink) o refl shut k in
       let as_shut = subst (λ (b : Bool). IsForwarding told_of low.taker (took high.taker e) low.shut b (told side.sink) began (failed side.sink) (raise (Dropped Fate.Closed) side.share)) (sym shut) swept in
-      subst (λ (n : Delivery K). KeepsForwarding told failed low (after_parcel from o high) began n) (sym d.1) as_shut
+      subst (λ (n : Delivery K). KeepsForwarding told failed low (after_egress_packet from o high) began n) (sym d.1) as_shut
   handed_high from o false shut d =
       let e = entry from (Payload o) in
       let h = handed o d.0 in
       let went = hands_high told_of low.taker high.taker low.shut high.shut began (failed side.sink) side.share e (told side.sink) (told new.sink) (failed new.sink) h refl shut d.1 d.2 k in
       let as_shut = subst (λ (b : Bool). IsForwarding told_of low.taker (took high.taker e) low.shut b (told new.sink) began (failed new.sink) (raise (handed_count h) side.share)) (sym shut) went in
-      subst (λ (n : Delivery K). KeepsForwarding told failed low (after_parcel from o high) began n) (sym d.4) as_shut
+      subst (λ (n : Delivery K). KeepsForwarding told failed low (after_egress_packet from o high) began n) (sym d.4) as_shut
 
   pub took_high : (met : Option (Outgoing kinds)) (after : Band) → Met (Some met) high after → PassedMet told failed after.shut met side new → KeepsForwarding told failed low after began new
   took_high None after m p =
@@ -71,18 +71,18 @@ module _ {K : Type 0} (told : K → Option (List Told)) (failed : K → ℕ) (lo
       subst (λ (b : Band). KeepsForwarding told failed low b began new) (sym m.1) (handed_high m.0 o high.shut refl (subst (λ (b : Bool). Delivered told failed b o side new) same p))
 
   -- of the low band
-  handed_low : (from : ℕ) (o : Outgoing kinds) → (b : Bool) → low.shut ≡ b → Delivered told failed b o side new → KeepsForwarding told failed (after_parcel from o low) high began new
+  handed_low : (from : ℕ) (o : Outgoing kinds) → (b : Bool) → low.shut ≡ b → Delivered told failed b o side new → KeepsForwarding told failed (after_egress_packet from o low) high began new
   handed_low from o true shut d =
       let e = entry from (Payload o) in
       let swept = swept_low told_of low.taker high.taker low.shut high.shut began (failed side.sink) side.share e (told side.sink) o refl shut k in
       let as_shut = subst (λ (b : Bool). IsForwarding told_of (took low.taker e) high.taker b high.shut (told side.sink) began (failed side.sink) (raise (Dropped Fate.Closed) side.share)) (sym shut) swept in
-      subst (λ (n : Delivery K). KeepsForwarding told failed (after_parcel from o low) high began n) (sym d.1) as_shut
+      subst (λ (n : Delivery K). KeepsForwarding told failed (after_egress_packet from o low) high began n) (sym d.1) as_shut
   handed_low from o false shut d =
       let e = entry from (Payload o) in
       let h = handed o d.0 in
       let went = hands_low told_of low.taker high.taker low.shut high.shut began (failed side.sink) side.share e (told side.sink) (told new.sink) (failed new.sink) h refl shut d.1 d.2 k in
       let as_shut = subst (λ (b : Bool). IsForwarding told_of (took low.taker e) high.taker b high.shut (told new.sink) began (failed new.sink) (raise (handed_count h) side.share)) (sym shut) went in
-      subst (λ (n : Delivery K). KeepsForwarding told failed (after_parcel from o low) high began n) (sym d.4) as_shut
+      subst (λ (n : Delivery K). KeepsForwarding told failed (after_egress_packet from o low) high began n) (sym d.4) as_shut
 
   pub took_low : (met : Option (Outgoing kinds)) (after : Band) → Met (Some met) low after → PassedMet told failed after.shut met side new → KeepsForwarding told failed after high began new
   took_low None after m p =

@@ -1,8 +1,8 @@
 -- What a receiver does with a datagram, by what becomes of it.
 use Rattle.std.proofs.Common.{◌≡◌, ℕ, ◌+◌, ◌≤◌, ◌^◌, ◌<◌, true, false, List, length, take, Option, Some, None, refl, sym, ap, subst, ◌∙◌, arith}
 use Rattle.packet_ledger.specs.Share.{Held, MayRaise, counting, with_fate, with_received}
-use Rattle.pipe_order.specs.Item.{Arrival}
-use Rattle.pipe_order.specs.Deeds.{Ending, Accepted, Refused, Lacked, Counted}
+use Rattle.pipeline_laws.specs.Item.{Arrival}
+use Rattle.pipeline_laws.specs.Deeds.{Ending, Accepted, Refused, Lacked, Counted}
 use Rattle.process_packet.specs.Totals.{dropped_for}
 use Rattle.process_packet.specs.declared.cause.Cause.{Cause}
 use Rattle.process_packet.specs.declared.cause.Cause.TheVariants as cause

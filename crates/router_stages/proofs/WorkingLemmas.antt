@@ -1,12 +1,12 @@
 -- One turn of a processor keeps its law.
 use Rattle.std.proofs.Common.{◌≡◌, ◌⊎◌, inl, inr, ℕ, suc, ◌+◌, ◌*◌, ◌<◌, Bool, true, false, cond, ◌&&◌, List, [], ◌∷◌, length, Option, Some, None, is_some, refl, sym, ap, subst, ◌∙◌, arith}
 use Rattle.packet_ledger.specs.Share.{Held, emptied, new_share}
-use Rattle.pipe_order.specs.Item.{Arrival, Outgoing, Out}
-use Rattle.pipe_order.specs.Rules.{Rules, Decision, Sends, Asks, Drops}
-use Rattle.pipe_order.specs.World.{home, slow_seat, Cause as Fate}
-use Rattle.pipe_order.specs.Deeds.{payload_of, Ending, Accepted, Refused, Lacked, Counted}
-use Rattle.pipe_order.specs.Settled.{Question}
-use Rattle.pipe_order.specs.Counted.{place_of}
+use Rattle.pipeline_laws.specs.Item.{Arrival, Outgoing, Out}
+use Rattle.pipeline_laws.specs.Rules.{Rules, Decision, Sends, Asks, Drops}
+use Rattle.pipeline_laws.specs.World.{home, slow_seat, Cause as Fate}
+use Rattle.pipeline_laws.specs.Deeds.{payload_of, Ending, Accepted, Refused, Lacked, Counted}
+use Rattle.pipeline_laws.specs.Settled.{SlowPathRequest}
+use Rattle.pipeline_laws.specs.Counted.{place_of}
 use Rattle.process_packet.specs.declared.cause.Cause.{Cause}
 use Rattle.process_packet.specs.declared.config.Config.{Config}
 use Rattle.router_laws.specs.Keeping.{IsWorking}
@@ -39,11 +39,11 @@ home_is c o = go (slow_seat (rules c)) o.link (cond (has_two_bands c o.link && i
     go : (s l b : ℕ) → s + 1 + 2 * l + b ≡ s + 1 + (2 * l + b)
     go s l b = omega arith
 
-module _ (taker : Taker (Arrival kinds)) (x : Arrival kinds) (old : Leaving) (slow : Offering (Question kinds)) (some : 0 < length old.links) (k : IsWorking old.config taker (Some x) (senders old.links) slow.sender old.share) where
+module _ (taker : Taker (Arrival kinds)) (x : Arrival kinds) (old : Leaving) (slow : Offering (SlowPathRequest kinds)) (some : 0 < length old.links) (k : IsWorking old.config taker (Some x) (senders old.links) slow.sender old.share) where
   abbrev R : Rules kinds
   R = rules old.config
 
-  abbrev W : Leaving → Offering (Question kinds) → Type 0
+  abbrev W : Leaving → Offering (SlowPathRequest kinds) → Type 0
   W new slow' = IsWorking new.config taker None (senders new.links) slow'.sender new.share
 
   some_senders : 0 < length (senders old.links)
@@ -61,31 +61,31 @@ module _ (taker : Taker (Arrival kinds)) (x : Arrival kinds) (old : Leaving) (sl
       subst (λ (n : Leaving). W n slow) (sym s.1.1)
       (subst (λ (r : Decision kinds). IsWorking old.config taker None (senders new.links) slow.sender (raise_all (dropped_by {K = kinds} (full_by r) Fate.NoMemory Refused) old.share)) is law)
 
-  asked : (p : kinds.Problem) → decided old.config x.datagram ≡ Asks p → (new : Leaving) (slow' : Offering (Question kinds)) → AskedAs (asking x p) old new slow slow' → W new slow'
+  asked : (p : kinds.Problem) → decided old.config x.datagram ≡ Asks p → (new : Leaving) (slow' : Offering (SlowPathRequest kinds)) → AskedAs (asking x p) old new slow slow' → W new slow'
   asked p is new slow' (inl a) =
       let law = works_did old.config taker (senders old.links) (senders old.links) slow.sender (gave slow (asking x p)).sender old.share (deed x Accepted) (did_ask R x (senders old.links) slow.sender p is) k in
-      subst (λ (n : Leaving). W n slow') (sym a.1) (subst (λ (s : Offering (Question kinds)). W old s) (sym a.0) law)
+      subst (λ (n : Leaving). W n slow') (sym a.1) (subst (λ (s : Offering (SlowPathRequest kinds)). W old s) (sym a.0) law)
   asked p is new slow' (inr a) =
       let law = works_did old.config taker (senders old.links) (senders old.links) slow.sender (kept slow (asking x p)).sender old.share (deed x Refused) (did_not_ask R x (senders old.links) slow.sender p is) k in
       let counted = subst (λ (r : Decision kinds). IsWorking old.config taker None (senders old.links) (kept slow (asking x p)).sender (raise_all (dropped_by {K = kinds} (full_by r) Fate.NoMemory Refused) old.share)) is law in
       subst (λ (n : Leaving). W n slow') (sym a.1.1)
-      (subst (λ (s : Offering (Question kinds)). W (record { config = old.config; links = old.links; free = new.free; share = raise_all (dropped_by {K = kinds} (full_by {K = kinds} (Asks p)) Fate.NoMemory Refused) old.share }) s) (sym a.0) counted)
+      (subst (λ (s : Offering (SlowPathRequest kinds)). W (record { config = old.config; links = old.links; free = new.free; share = raise_all (dropped_by {K = kinds} (full_by {K = kinds} (Asks p)) Fate.NoMemory Refused) old.share }) s) (sym a.0) counted)
 
   dropped : (why : Cause) → decided old.config x.datagram ≡ Drops why → (new : Leaving) → DroppedAs x.link why old new → W new slow
   dropped why is new d =
       subst (λ (n : Leaving). W n slow) (sym d.1)
       (works_did old.config taker (senders old.links) (senders old.links) slow.sender slow.sender old.share (deed x (Counted why)) (did_drop R x (senders old.links) slow.sender why is) k)
 
-  after_works : (d : Decision kinds) → decided old.config x.datagram ≡ d → (new : Leaving) (slow' : Offering (Question kinds)) → After d x old new slow slow' → W new slow'
-  after_works (Sends l y) is new slow' a = subst (λ (s : Offering (Question kinds)). W new s) (sym a.1) (sent l y is new a.0)
+  after_works : (d : Decision kinds) → decided old.config x.datagram ≡ d → (new : Leaving) (slow' : Offering (SlowPathRequest kinds)) → After d x old new slow slow' → W new slow'
+  after_works (Sends l y) is new slow' a = subst (λ (s : Offering (SlowPathRequest kinds)). W new s) (sym a.1) (sent l y is new a.0)
   after_works (Asks p) is new slow' a = asked p is new slow' a
-  after_works (Drops why) is new slow' a = subst (λ (s : Offering (Question kinds)). W new s) (sym a.1) (dropped why is new a.0)
+  after_works (Drops why) is new slow' a = subst (λ (s : Offering (SlowPathRequest kinds)). W new s) (sym a.1) (dropped why is new a.0)
 
-  pub passed_works : (new : Leaving) (slow' : Offering (Question kinds)) → PassedOn x old new slow slow' → W new slow'
+  pub passed_works : (new : Leaving) (slow' : Offering (SlowPathRequest kinds)) → PassedOn x old new slow slow' → W new slow'
   passed_works new slow' p = after_works (decided old.config x.datagram) refl new slow' p
 
 -- the ends stay open, and the configuration the same
-module _ (x : Arrival kinds) (old : Leaving) (slow : Offering (Question kinds)) (some : 0 < length old.links) (is : AreOpen old.links) (going : slow.ended ≡ false) where
+module _ (x : Arrival kinds) (old : Leaving) (slow : Offering (SlowPathRequest kinds)) (some : 0 < length old.links) (is : AreOpen old.links) (going : slow.ended ≡ false) where
   sent_open : (o : Outgoing kinds) (new : Leaving) → SentAs o old new → AreOpen new.links × (new.config ≡ old.config)
   sent_open o new (inl s) = (gave_open (pipe_for old.config o) o old.links new.links some is s.0, ap (λ (n : Leaving). n.config) s.1)
   sent_open o new (inr s) = (kept_open (pipe_for old.config o) o old.links new.links some is s.0, ap (λ (n : Leaving). n.config) s.1.1)
@@ -93,15 +93,15 @@ module _ (x : Arrival kinds) (old : Leaving) (slow : Offering (Question kinds)) 
   same_open : (new : Leaving) → new.links ≡ old.links → AreOpen new.links
   same_open new e = subst (λ (ls : List (Offering (Outgoing kinds))). AreOpen ls) (sym e) is
 
-  after_open : (d : Decision kinds) (new : Leaving) (slow' : Offering (Question kinds)) → After d x old new slow slow' → AreOpen new.links × (slow'.ended ≡ false) × (new.config ≡ old.config)
-  after_open (Sends l y) new slow' a = let s = sent_open (out x l y) new a.0 in (s.0, ap (λ (o : Offering (Question kinds)). o.ended) a.1 ∙ going, s.1)
-  after_open (Asks p) new slow' (inl a) = (same_open new (ap (λ (n : Leaving). n.links) a.1), ap (λ (o : Offering (Question kinds)). o.ended) a.0 ∙ going, ap (λ (n : Leaving). n.config) a.1)
-  after_open (Asks p) new slow' (inr a) = (same_open new (ap (λ (n : Leaving). n.links) a.1.1), ap (λ (o : Offering (Question kinds)). o.ended) a.0 ∙ going, ap (λ (n : Leaving). n.config) a.1.1)
-  after_open (Drops why) new slow' a = (same_open new (ap (λ (n : Leaving). n.links) a.0.1), ap (λ (o : Offering (Question kinds)). o.ended) a.1 ∙ going, ap (λ (n : Leaving). n.config) a.0.1)
+  after_open : (d : Decision kinds) (new : Leaving) (slow' : Offering (SlowPathRequest kinds)) → After d x old new slow slow' → AreOpen new.links × (slow'.ended ≡ false) × (new.config ≡ old.config)
+  after_open (Sends l y) new slow' a = let s = sent_open (out x l y) new a.0 in (s.0, ap (λ (o : Offering (SlowPathRequest kinds)). o.ended) a.1 ∙ going, s.1)
+  after_open (Asks p) new slow' (inl a) = (same_open new (ap (λ (n : Leaving). n.links) a.1), ap (λ (o : Offering (SlowPathRequest kinds)). o.ended) a.0 ∙ going, ap (λ (n : Leaving). n.config) a.1)
+  after_open (Asks p) new slow' (inr a) = (same_open new (ap (λ (n : Leaving). n.links) a.1.1), ap (λ (o : Offering (SlowPathRequest kinds)). o.ended) a.0 ∙ going, ap (λ (n : Leaving). n.config) a.1.1)
+  after_open (Drops why) new slow' a = (same_open new (ap (λ (n : Leaving). n.links) a.0.1), ap (λ (o : Offering (SlowPathRequest kinds)). o.ended) a.1 ∙ going, ap (λ (n : Leaving). n.config) a.0.1)
 
-module _ (named : Option Config) (taker : Taker (Arrival kinds)) (hand : Option (Arrival kinds)) (slow : Offering (Question kinds)) (side : Leaving) (k : KeepsWorking named taker hand slow side) where
+module _ (named : Option Config) (taker : Taker (Arrival kinds)) (hand : Option (Arrival kinds)) (slow : Offering (SlowPathRequest kinds)) (side : Leaving) (k : KeepsWorking named taker hand slow side) where
   -- the packet in hand is passed on
-  pub keeps_passed : (x : Arrival kinds) (slow' : Offering (Question kinds)) (new : Leaving) → hand ≡ Some x → 0 < length side.links → PassedOn x side new slow slow' → KeepsWorking named taker None slow' new
+  pub keeps_passed : (x : Arrival kinds) (slow' : Offering (SlowPathRequest kinds)) (new : Leaving) → hand ≡ Some x → 0 < length side.links → PassedOn x side new slow slow' → KeepsWorking named taker None slow' new
   keeps_passed x slow' new held some p =
       let going = k.unended (k.busy x held) in
       let after = after_open x side slow some going.0 going.1 (decided side.config x.datagram) new slow' p in
@@ -143,7 +143,7 @@ module _ (named : Option Config) (taker : Taker (Arrival kinds)) (hand : Option 
   }
 
   -- end marks were tried
-  pub keeps_ending : (picks : ℕ → Bool) (all : Bool) (slow' : Offering (Question kinds)) (new : Leaving) → ends_in taker.taken ≡ taker.producers → Tried slow slow' → Trying picks side.links new.links all → new ≡ with_links new.links side
+  pub keeps_ending : (picks : ℕ → Bool) (all : Bool) (slow' : Offering (SlowPathRequest kinds)) (new : Leaving) → ends_in taker.taken ≡ taker.producers → Tried slow slow' → Trying picks side.links new.links all → new ≡ with_links new.links side
       → KeepsWorking named taker hand slow' new
   keeps_ending picks all slow' new done asked tried same = record {
     config = k.config ∙ ap Some (sym (ap (λ (n : Leaving). n.config) same));
@@ -166,7 +166,7 @@ nobody None e = refl
 nobody (Some x) e = absurd cc
 
 -- nothing was taken yet
-pub keeps_first : (named : Option Config) (taker : Taker (Arrival kinds)) (slow : Offering (Question kinds)) (side : Leaving) → named ≡ Some side.config → taker.taken ≡ [] → AreFresh side.links → AreFresh (slow ∷ []) → side.share ≡ new_share
+pub keeps_first : (named : Option Config) (taker : Taker (Arrival kinds)) (slow : Offering (SlowPathRequest kinds)) (side : Leaving) → named ≡ Some side.config → taker.taken ≡ [] → AreFresh side.links → AreFresh (slow ∷ []) → side.share ≡ new_share
     → KeepsWorking named taker None slow side
 keeps_first named taker slow side config untaken fresh asks unraised = record {
   config = config;

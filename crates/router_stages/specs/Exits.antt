@@ -1,7 +1,7 @@
 -- What a processor and the slow path do with what they made of a packet.
 use Rattle.std.specs.Prelude.{◌≡◌, ◌⊎◌, ◌+◌, ◌*◌, ◌&&◌, ℕ, zero, suc, Bool, true, false, List, if◌then◌else◌}
 use Rattle.packet_ledger.specs.Share.{Held, counting, with_fate}
-use Rattle.pipe_order.specs.Item.{Outgoing}
+use Rattle.pipeline_laws.specs.Item.{Outgoing}
 use Rattle.process_packet.specs.declared.cause.Cause.{Cause}
 use Rattle.process_packet.specs.declared.cause.Cause.TheVariants as cause
 use Rattle.process_packet.specs.declared.config.Config.{Config}

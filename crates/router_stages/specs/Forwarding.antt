@@ -1,8 +1,8 @@
 -- What contracts see of a forwarder, and what a turn does.
 use Rattle.std.specs.Prelude.{◌≡◌, ◌⊎◌, ◌+◌, ◌-◌, ◌^◌, ◌<◌, ◌≤◌, ◌||◌, ℕ, Bool, true, false, List, Option, Some, None, if◌then◌else◌}
 use Rattle.packet_ledger.specs.Share.{Held, emptied, new_share}
-use Rattle.pipe_order.specs.Item.{Outgoing}
-use Rattle.pipe_order.specs.World.{Cause as Fate}
+use Rattle.pipeline_laws.specs.Item.{Outgoing}
+use Rattle.pipeline_laws.specs.World.{Cause as Fate}
 use Rattle.process_packet.specs.declared.config.Config.{Config}
 use Rattle.ruled_pipe.specs.declared.entry.Load.TheVariants.{Payload, Marked}
 use Rattle.ruled_pipe.specs.declared.entry.Mark.{Mark}
@@ -49,8 +49,8 @@ after_look b = band (looked b.taker) b.shut
 abbrev pub after_mark : ℕ → Mark → Band → Band
 after_mark from m b = band (took b.taker (entry from (Marked m))) (b.shut || closes m)
 
-abbrev pub after_parcel : ℕ → Outgoing kinds → Band → Band
-after_parcel from o b = band (took b.taker (entry from (Payload o))) b.shut
+abbrev pub after_egress_packet : ℕ → Outgoing kinds → Band → Band
+after_egress_packet from o b = band (took b.taker (entry from (Payload o))) b.shut
 
 -- each producer's end mark was taken
 abbrev pub IsOver : Band → Type 0
@@ -60,7 +60,7 @@ IsOver b = b.taker.producers ≤ ends_in b.taker.taken
 abbrev pub Met : Option (Option (Outgoing kinds)) → Band → Band → Type 0
 Met None old new = new ≡ after_look old
 Met (Some None) old new = (from : ℕ) × (m : Mark) × (new ≡ after_mark from m old)
-Met (Some (Some o)) old new = (from : ℕ) × (new ≡ after_parcel from o old)
+Met (Some (Some o)) old new = (from : ℕ) × (new ≡ after_egress_packet from o old)
 
 -- a take that is made only where there are two bands
 abbrev pub MetIf : Bool → Option (Option (Outgoing kinds)) → Band → Band → Type 0

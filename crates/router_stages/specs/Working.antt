@@ -1,9 +1,9 @@
 -- What contracts see of a processor, and what a turn does.
 use Rattle.std.specs.Prelude.{◌≡◌, ◌⊎◌, ◌<◌, ◌&&◌, ℕ, Bool, true, false, List, Option, Some, None}
 use Rattle.packet_ledger.specs.Share.{emptied, new_share}
-use Rattle.pipe_order.specs.Item.{Arrival, Outgoing}
-use Rattle.pipe_order.specs.Rules.{Decision, Sends, Asks, Drops}
-use Rattle.pipe_order.specs.Settled.{Question}
+use Rattle.pipeline_laws.specs.Item.{Arrival, Outgoing}
+use Rattle.pipeline_laws.specs.Rules.{Decision, Sends, Asks, Drops}
+use Rattle.pipeline_laws.specs.Settled.{SlowPathRequest}
 use Rattle.process_packet.specs.declared.cause.Cause.TheVariants as cause
 use Rattle.process_packet.specs.declared.config.Config.{Config}
 use Rattle.ruled_pipe.specs.declared.entry.Load.TheVariants.{Payload, Marked}
@@ -31,13 +31,13 @@ pub record Working (G : Type 0) : Type 0 where
   pub index : ℕ
   pub taker : Taker (Arrival kinds)
   pub hand : Option (Arrival kinds)
-  pub slow : Offering (Question kinds)
+  pub slow : Offering (SlowPathRequest kinds)
   pub side : Leaving
 
 abbrev pub out : Arrival kinds → ℕ → kinds.Parcel → Outgoing kinds
 out x l y = record { arrived = x.link; number = x.number; answer = false; link = l; parcel = y }
 
-abbrev pub AskedAs : Question kinds → Leaving → Leaving → Offering (Question kinds) → Offering (Question kinds) → Type 0
+abbrev pub AskedAs : SlowPathRequest kinds → Leaving → Leaving → Offering (SlowPathRequest kinds) → Offering (SlowPathRequest kinds) → Type 0
 AskedAs q old new slow slow' = ((slow' ≡ gave slow q) × (new ≡ old)) ⊎ ((slow' ≡ kept slow q) × DroppedAs q.arrival.link cause.AnswerFull old new)
 
 abbrev pub first_leaving : Config → List (Offering (Outgoing kinds)) → List (Sender (Unit {0})) → Leaving
@@ -45,22 +45,22 @@ first_leaving c links free = record { config = c; links = links; free = free; sh
 
 -- what the decision makes of a packet: it is offered to its leaving link's pipe, or asked about, or dropped; what a full pipe
 -- refuses is dropped
-abbrev pub After : Decision kinds → Arrival kinds → Leaving → Leaving → Offering (Question kinds) → Offering (Question kinds) → Type 0
+abbrev pub After : Decision kinds → Arrival kinds → Leaving → Leaving → Offering (SlowPathRequest kinds) → Offering (SlowPathRequest kinds) → Type 0
 After (Sends l y) x old new slow slow' = SentAs (out x l y) old new × (slow' ≡ slow)
 After (Asks p) x old new slow slow' = AskedAs (asking x p) old new slow slow'
 After (Drops why) x old new slow slow' = DroppedAs x.link why old new × (slow' ≡ slow)
 
-abbrev pub PassedOn : Arrival kinds → Leaving → Leaving → Offering (Question kinds) → Offering (Question kinds) → Type 0
+abbrev pub PassedOn : Arrival kinds → Leaving → Leaving → Offering (SlowPathRequest kinds) → Offering (SlowPathRequest kinds) → Type 0
 PassedOn x old new slow slow' = After (decided old.config x.datagram) x old new slow slow'
 
 module _ {G : Type 0} where
   abbrev pub with_taker : Taker (Arrival kinds) → Option (Arrival kinds) → Working G → Working G
   with_taker taker hand w = record { gate = w.gate; index = w.index; taker = taker; hand = hand; slow = w.slow; side = w.side }
 
-  abbrev pub with_ends : Offering (Question kinds) → Leaving → Working G → Working G
+  abbrev pub with_ends : Offering (SlowPathRequest kinds) → Leaving → Working G → Working G
   with_ends slow side w = record { gate = w.gate; index = w.index; taker = w.taker; hand = w.hand; slow = slow; side = side }
 
-  abbrev pub first_working : G → ℕ → Taker (Arrival kinds) → Offering (Question kinds) → Leaving → Working G
+  abbrev pub first_working : G → ℕ → Taker (Arrival kinds) → Offering (SlowPathRequest kinds) → Leaving → Working G
   first_working gate index taker slow side = record { gate = gate; index = index; taker = taker; hand = None; slow = slow; side = side }
 
   -- its counts are posted
@@ -110,7 +110,7 @@ module _ {G : Type 0} where
         ⊎ ((old.hand ≡ None) × (ends_in old.taker.taken < old.taker.producers) × Takes turn old new)
 
 -- the law of a processor, which goes on until its end
-pub record KeepsWorking (named : Option Config) (taker : Taker (Arrival kinds)) (hand : Option (Arrival kinds)) (slow : Offering (Question kinds)) (side : Leaving) : Type 0 where
+pub record KeepsWorking (named : Option Config) (taker : Taker (Arrival kinds)) (hand : Option (Arrival kinds)) (slow : Offering (SlowPathRequest kinds)) (side : Leaving) : Type 0 where
   pub config : named ≡ Some side.config
   pub law : IsWorking side.config taker hand (senders side.links) slow.sender side.share
   pub unended : ends_in taker.taken < taker.producers → AreOpen side.links × (slow.ended ≡ false)

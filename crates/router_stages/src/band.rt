@@ -5,14 +5,14 @@ ghost use Rattle.ruled_pipe.specs.Gathered.{end_of, ends_in};
 ghost use Rattle.router_stages.specs.Forwarding.{IsOver, Met, MetIf, band, closes, end_mark};
 
 use ruled_pipe::{Consumer, Entry, Load, Mark};
-use stage_parts::{Parcel, Router};
+use stage_parts::{EgressPacket, Router};
 use std::marker::Model;
 use std::sync::Wait;
 
 /// A consumer that counts the end marks that it took, and keeps whether a closing mark was taken.
 #[derive(Drop)]
 pub struct Band<N: Router> {
-    consumer: Consumer<Parcel<N>>,
+    consumer: Consumer<EgressPacket<N>>,
     producers: usize,
     // At most as many as the producers.
     ends: usize,
@@ -59,7 +59,7 @@ fn counted(mark: Mark, ends: usize, most: usize) -> usize
 
 impl<N: Router> Band<N> {
     /// The pipe of a consumer that took nothing yet, with so many producers.
-    pub fn of(consumer: Consumer<Parcel<N>>, producers: usize) -> Band<N>
+    pub fn of(consumer: Consumer<EgressPacket<N>>, producers: usize) -> Band<N>
         requires fresh { consumer.taken ≡ [] }
         requires producers { consumer.producers ≡ producers }
         ensures { result ≡ band consumer false }
@@ -86,13 +86,13 @@ impl<N: Router> Band<N> {
         self.shut
     }
 
-    /// Takes the entry at the front: none, a mark, or a parcel.
-    pub fn take<R: Wait>(&mut self, rt: &R) -> Option<Option<Parcel<N>>>
+    /// Takes the entry at the front: none, a mark, or a packet.
+    pub fn take<R: Wait>(&mut self, rt: &R) -> Option<Option<EgressPacket<N>>>
         ensures { Met result self.old self.new }
     {
         let Entry { from: _, load } = self.consumer.take(rt)?;
         match load {
-            Load::Payload(parcel) => Some(Some(parcel)),
+            Load::Payload(egress_packet) => Some(Some(egress_packet)),
             Load::Marked(mark) => {
                 self.ends = counted(mark, self.ends, self.producers);
                 self.shut = either(self.shut, closes(mark));
@@ -102,13 +102,13 @@ impl<N: Router> Band<N> {
     }
 
     /// The same where the pipe is used; else nothing is done.
-    pub fn take_if<R: Wait>(&mut self, rt: &R, used: bool) -> Option<Option<Parcel<N>>>
+    pub fn take_if<R: Wait>(&mut self, rt: &R, used: bool) -> Option<Option<EgressPacket<N>>>
         ensures { MetIf used result self.old self.new }
     {
         if used { self.take(rt) } else { None }
     }
 
-    pub fn into_consumer(self) -> Consumer<Parcel<N>>
+    pub fn into_consumer(self) -> Consumer<EgressPacket<N>>
         ensures { result ≡ self.taker }
     {
         let Band {

@@ -11,7 +11,7 @@ use packet_ledger::{Book, Share};
 use process_packet::Cause;
 use router_rules::Shared;
 use ruled_pipe::Producer;
-use stage_parts::{Buffer, Parcel, Router, Sink};
+use stage_parts::{Buffer, EgressPacket, Router, Sink};
 use std::alloc::Global;
 use std::marker::Model;
 use std::sync::{Arc, Wait};
@@ -74,48 +74,51 @@ impl<N: Router, R: Wait + Copy, K: Sink> Delivery<N, R, K> {
         self.shared.ports.two_bands(link)
     }
 
-    /// Hands a parcel to the sink, or sweeps it where its pipe was closed.
-    pub fn deliver(&mut self, shut: bool, parcel: Parcel<N>)
+    /// Hands a packet to the sink, or sweeps it where its pipe was closed.
+    pub fn deliver(&mut self, shut: bool, egress_packet: EgressPacket<N>)
         requires sink { K.failed self.old.sink < 2 ^ 64 - 1 }
         requires room { MayRaise self.old.share.counts }
-        ensures { Delivered K.told K.failed shut parcel self.old self.new }
+        ensures { Delivered K.told K.failed shut egress_packet self.old self.new }
     {
         if shut {
-            self.sweep(parcel)
+            self.sweep(egress_packet)
         } else {
-            self.hand_on(parcel)
+            self.hand_on(egress_packet)
         }
     }
 
     /// Passes on what was met in a pipe that is shut, or not.
-    pub fn pass(&mut self, shut: bool, met: Option<Parcel<N>>)
+    pub fn pass(&mut self, shut: bool, met: Option<EgressPacket<N>>)
         requires sink { K.failed self.old.sink < 2 ^ 64 - 1 }
         requires room { MayRaise self.old.share.counts }
         ensures { PassedMet K.told K.failed shut met self.old self.new }
     {
-        if let Some(parcel) = met {
-            self.deliver(shut, parcel);
+        if let Some(egress_packet) = met {
+            self.deliver(shut, egress_packet);
         }
     }
 
-    fn hand_on(&mut self, parcel: Parcel<N>)
+    fn hand_on(&mut self, egress_packet: EgressPacket<N>)
         requires sink { K.failed self.old.sink < 2 ^ 64 - 1 }
         requires room { MayRaise self.old.share.counts }
-        ensures { HandedOn K.told K.failed parcel self.old self.new }
+        ensures { HandedOn K.told K.failed egress_packet self.old self.new }
     {
-        let link = parcel.arrived();
-        let took = self.sink.send(&parcel.named(), parcel.bytes()).is_ok();
-        count(&mut self.share, took, parcel.is_answer());
-        give_back(&self.rt, &mut self.free, link, parcel.into_buffer());
+        let link = egress_packet.arrived();
+        let took = self
+            .sink
+            .send(&egress_packet.named(), egress_packet.bytes())
+            .is_ok();
+        count(&mut self.share, took, egress_packet.is_answer());
+        give_back(&self.rt, &mut self.free, link, egress_packet.into_buffer());
     }
 
-    fn sweep(&mut self, parcel: Parcel<N>)
+    fn sweep(&mut self, egress_packet: EgressPacket<N>)
         requires { MayRaise self.old.share.counts }
-        ensures { Swept parcel self.old self.new }
+        ensures { Swept egress_packet self.old self.new }
     {
-        let link = parcel.arrived();
+        let link = egress_packet.arrived();
         self.share.fate(Cause::Closed);
-        give_back(&self.rt, &mut self.free, link, parcel.into_buffer());
+        give_back(&self.rt, &mut self.free, link, egress_packet.into_buffer());
     }
 
     /// Posts the counts.

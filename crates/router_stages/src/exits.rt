@@ -12,7 +12,9 @@ use packet_ledger::{Book, Share};
 use process_packet::{Cause, Decision};
 use router_rules::{Shared, rules_are_lawful};
 use ruled_pipe::{Full, Producer};
-use stage_parts::{Buffer, Outlet, Packet, Parcel, Question, Router, end_at, offer_at};
+use stage_parts::{
+    Buffer, EgressPacket, Outlet, Packet, Router, SlowPathRequest, end_at, offer_at,
+};
 use std::alloc::Global;
 use std::marker::Model;
 use std::sync::{Arc, Wait};
@@ -22,7 +24,7 @@ use std::sync::{Arc, Wait};
 pub struct Exits<N: Router, R> {
     pub(crate) rt: R,
     pub(crate) shared: Arc<Shared, Global>,
-    pub(crate) links: Vec<Outlet<Parcel<N>>>,
+    pub(crate) links: Vec<Outlet<EgressPacket<N>>>,
     pub(crate) free: Vec<Producer<Buffer>>,
     pub(crate) share: Share<N>,
 }
@@ -54,11 +56,11 @@ pub(crate) fn give_back<R: Wait>(
 }
 
 // The place of the pipe for what leaves.
-fn pipe_for<N: Router>(shared: &Shared, parcel: &Parcel<N>) -> usize
-    ensures { result ≡ pipe_for shared.now.config parcel.now }
+fn pipe_for<N: Router>(shared: &Shared, egress_packet: &EgressPacket<N>) -> usize
+    ensures { result ≡ pipe_for shared.now.config egress_packet.now }
 {
-    let link = parcel.link();
-    let high = shared.ports.two_bands(link) && parcel.is_urgent();
+    let link = egress_packet.link();
+    let high = shared.ports.two_bands(link) && egress_packet.is_urgent();
     2 * usize::from(link) + usize::from(high)
 }
 
@@ -80,22 +82,22 @@ impl<N: Router, R: Wait + Copy> Exits<N, R> {
     }
 
     /// Offers what leaves to its pipe; where that is full, it is dropped.
-    pub fn send(&mut self, parcel: Parcel<N>)
-        requires link { parcel.link < link_count self.old.config }
+    pub fn send(&mut self, egress_packet: EgressPacket<N>)
+        requires link { egress_packet.link < link_count self.old.config }
         requires unended { AreOpen self.old.links }
         requires room { MayRaise self.old.share.counts }
-        ensures { SentAs parcel self.old self.new }
+        ensures { SentAs egress_packet self.old self.new }
     {
-        let at = pipe_for(&self.shared, &parcel);
-        if let Err(parcel) = offer_at(&self.rt, &mut self.links, at, parcel) {
-            let link = parcel.arrived();
-            give_back(&self.rt, &mut self.free, link, parcel.into_buffer());
+        let at = pipe_for(&self.shared, &egress_packet);
+        if let Err(egress_packet) = offer_at(&self.rt, &mut self.links, at, egress_packet) {
+            let link = egress_packet.arrived();
+            give_back(&self.rt, &mut self.free, link, egress_packet.into_buffer());
             self.share.fate(Cause::LinkFull);
         }
     }
 
     /// Passes a packet on as the rules decide.
-    pub fn pass_on(&mut self, slow: &mut Outlet<Question<N>>, packet: Packet<N>)
+    pub fn pass_on(&mut self, slow: &mut Outlet<SlowPathRequest<N>>, packet: Packet<N>)
         requires unended { AreOpen self.old.links × (slow.old.ended ≡ false) }
         requires room { MayRaise self.old.share.counts }
         ensures some { 0 < length self.old.links }
@@ -107,23 +109,23 @@ impl<N: Router, R: Wait + Copy> Exits<N, R> {
         match packet.decide(&self.shared.config) {
             Decision::Send { link, to } => {
                 let link = self.shared.ports.number(link);
-                self.send(packet.into_parcel(link, to));
+                self.send(packet.into_egress_packet(link, to));
             }
-            Decision::Answer(problem) => self.ask(slow, packet.into_question(problem)),
+            Decision::Answer(problem) => self.ask(slow, packet.into_request(problem)),
             Decision::Drop(why) => self.drop_for(link, packet.into_buffer(), why),
         }
     }
 
-    // Offers a question to the slow path; where its pipe is full, the packet is dropped.
-    fn ask(&mut self, slow: &mut Outlet<Question<N>>, question: Question<N>)
-        requires link { question.arrival.link < link_count self.old.config }
+    // Offers a request to the slow path; where its pipe is full, the packet is dropped.
+    fn ask(&mut self, slow: &mut Outlet<SlowPathRequest<N>>, request: SlowPathRequest<N>)
+        requires link { request.arrival.link < link_count self.old.config }
         requires unended { slow.old.ended ≡ false }
         requires room { MayRaise self.old.share.counts }
-        ensures { AskedAs question self.old self.new slow.old slow.new }
+        ensures { AskedAs request self.old self.new slow.old slow.new }
     {
-        if let Err(Full(question)) = slow.offer(&self.rt, question) {
-            let link = question.link();
-            self.drop_for(link, question.into_buffer(), Cause::AnswerFull);
+        if let Err(Full(request)) = slow.offer(&self.rt, request) {
+            let link = request.link();
+            self.drop_for(link, request.into_buffer(), Cause::AnswerFull);
         }
     }
 
@@ -135,7 +137,13 @@ impl<N: Router, R: Wait + Copy> Exits<N, R> {
     }
 
     /// The ends of pipes, and the counts.
-    pub fn into_parts(self) -> (Vec<Outlet<Parcel<N>>>, Vec<Producer<Buffer>>, Share<N>)
+    pub fn into_parts(
+        self,
+    ) -> (
+        Vec<Outlet<EgressPacket<N>>>,
+        Vec<Producer<Buffer>>,
+        Share<N>,
+    )
         ensures { (result.0.items ≡ self.links) × (result.1.items ≡ self.free) × (result.2 ≡ self.share) }
     {
         let Exits {

@@ -15,7 +15,7 @@ use crate::turn::Turn;
 use packet_ledger::{Book, Share};
 use router_rules::Shared;
 use ruled_pipe::{Consumer, Producer};
-use stage_parts::{Buffer, Parcel, Router, Sink};
+use stage_parts::{Buffer, EgressPacket, Router, Sink};
 use std::alloc::Global;
 use std::marker::Model;
 use std::sync::{Arc, Wait};
@@ -151,8 +151,8 @@ impl<N: Router, R: Wait + Copy, K: Sink> Forwarder<N, R, K> {
         self,
     ) -> (
         K,
-        Consumer<Parcel<N>>,
-        Consumer<Parcel<N>>,
+        Consumer<EgressPacket<N>>,
+        Consumer<EgressPacket<N>>,
         Vec<Producer<Buffer>>,
         Share<N>,
     )

@@ -14,7 +14,7 @@ use crate::turn::Turn;
 use packet_ledger::{Book, Share};
 use router_rules::{Shared, Worker};
 use ruled_pipe::{Load, Producer};
-use stage_parts::{Buffer, Gate, Inlet, Outlet, Packet, Parcel, Question, Router};
+use stage_parts::{Buffer, EgressPacket, Gate, Inlet, Outlet, Packet, Router, SlowPathRequest};
 use std::alloc::Global;
 use std::marker::Model;
 use std::sync::{Arc, Wait};
@@ -27,7 +27,7 @@ pub struct Processor<N: Router, R, G: Gate> {
     index: u8,
     from: Inlet<Packet<N>>,
     hand: Option<Packet<N>>,
-    slow: Outlet<Question<N>>,
+    slow: Outlet<SlowPathRequest<N>>,
     exits: Exits<N, R>,
 }
 
@@ -57,8 +57,8 @@ impl<N: Router, R: Wait + Copy, G: Gate + Drop> Processor<N, R, G> {
         index: u8,
         gate: Arc<G, Global>,
         from: Inlet<Packet<N>>,
-        links: Vec<Outlet<Parcel<N>>>,
-        slow: Outlet<Question<N>>,
+        links: Vec<Outlet<EgressPacket<N>>>,
+        slow: Outlet<SlowPathRequest<N>>,
         free: Vec<Producer<Buffer>>,
         share: Share<N>,
     ) -> Processor<N, R, G>
@@ -165,8 +165,8 @@ impl<N: Router, R: Wait + Copy, G: Gate + Drop> Processor<N, R, G> {
         self,
     ) -> (
         Inlet<Packet<N>>,
-        Vec<Outlet<Parcel<N>>>,
-        Outlet<Question<N>>,
+        Vec<Outlet<EgressPacket<N>>>,
+        Outlet<SlowPathRequest<N>>,
         Vec<Producer<Buffer>>,
         Share<N>,
     )

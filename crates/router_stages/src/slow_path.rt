@@ -15,17 +15,17 @@ use crate::turn::Turn;
 use packet_ledger::{Book, Share};
 use router_rules::Shared;
 use ruled_pipe::{Load, Producer};
-use stage_parts::{Buffer, Inlet, Outlet, Parcel, Question, Router, Withheld};
+use stage_parts::{Buffer, EgressPacket, Inlet, Outlet, Router, SlowPathRequest, Withheld};
 use std::alloc::Global;
 use std::marker::Model;
 use std::sync::{Arc, Wait};
 
-/// Takes questions from its pipe, and sends the answer to each back by the link by which its packet
+/// Takes requests from its pipe, and sends the answer to each back by the link by which its packet
 /// came.
 #[derive(Drop)]
 pub struct SlowPath<N: Router, R> {
     rt: R,
-    from: Inlet<Question<N>>,
+    from: Inlet<SlowPathRequest<N>>,
     exits: Exits<N, R>,
 }
 
@@ -40,15 +40,15 @@ impl<N: Router, R> Model for SlowPath<N, R> {
 }
 
 impl<N: Router, R: Wait + Copy> Exits<N, R> {
-    // Sends the answer to a question, or drops its packet where there is none.
-    fn reply(&mut self, question: Question<N>)
+    // Sends the answer to a request, or drops its packet where there is none.
+    fn reply(&mut self, request: SlowPathRequest<N>)
         requires unended { AreOpen self.old.links }
         requires room { MayRaise self.old.share.counts }
         ensures some { 0 < length self.old.links }
-        ensures replied { RepliedTo question self.old self.new }
+        ensures replied { RepliedTo request self.old self.new }
     {
-        let link = question.link();
-        match question.answer(&self.shared) {
+        let link = request.link();
+        match request.answer(&self.shared) {
             Ok(answer) => self.send(answer),
             Err(Withheld { cause, buffer }) => self.drop_for(link, buffer, cause),
         }
@@ -61,8 +61,8 @@ impl<N: Router, R: Wait + Copy> SlowPath<N, R> {
     pub fn new(
         rt: R,
         shared: Arc<Shared, Global>,
-        from: Inlet<Question<N>>,
-        links: Vec<Outlet<Parcel<N>>>,
+        from: Inlet<SlowPathRequest<N>>,
+        links: Vec<Outlet<EgressPacket<N>>>,
         free: Vec<Producer<Buffer>>,
         share: Share<N>,
     ) -> SlowPath<N, R>
@@ -90,7 +90,7 @@ impl<N: Router, R: Wait + Copy> SlowPath<N, R> {
         self.exits.has_room()
     }
 
-    /// Takes a question and sends its answer. After the last end mark of its pipe it tries the end marks
+    /// Takes a request and sends its answer. After the last end mark of its pipe it tries the end marks
     /// that it owes.
     pub fn turn(&mut self) -> Turn
         requires { HasRoom self.old.side.share.counts }
@@ -102,8 +102,8 @@ impl<N: Router, R: Wait + Copy> SlowPath<N, R> {
         match self.from.take(&self.rt) {
             None => Turn::Quiet,
             Some(Load::Marked(_)) => Turn::Did,
-            Some(Load::Payload(question)) => {
-                self.exits.reply(question);
+            Some(Load::Payload(request)) => {
+                self.exits.reply(request);
                 Turn::Did
             }
         }
@@ -140,8 +140,8 @@ impl<N: Router, R: Wait + Copy> SlowPath<N, R> {
     pub fn into_parts(
         self,
     ) -> (
-        Inlet<Question<N>>,
-        Vec<Outlet<Parcel<N>>>,
+        Inlet<SlowPathRequest<N>>,
+        Vec<Outlet<EgressPacket<N>>>,
         Vec<Producer<Buffer>>,
         Share<N>,
     )

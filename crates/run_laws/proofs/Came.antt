@@ -1,9 +1,9 @@
 -- What the workers that came back give the running theorem.
 use Rattle.std.proofs.Common.{◌≡◌, ℕ, zero, suc, ◌+◌, ◌*◌, Bool, true, false, List, [], ◌∷◌, ◌++◌, map, length, Option, Some, None, slice_get, refl, sym, ◌∙◌, ap, subst, arith}
 use Rattle.std.proofs.lemmas.List.{length-map}
-use Rattle.pipe_order.specs.Deeds.{Each, has_mark, payloads}
-use Rattle.pipe_order.specs.Item.{Arrival, Outgoing}
-use Rattle.pipe_order.specs.Settled.{Question}
+use Rattle.pipeline_laws.specs.Deeds.{Each, has_mark, payloads}
+use Rattle.pipeline_laws.specs.Item.{Arrival, Outgoing}
+use Rattle.pipeline_laws.specs.Settled.{SlowPathRequest}
 use Rattle.process_packet.specs.declared.config.Config.{Config}
 use Rattle.ruled_pipe.specs.Producer.{Sender}
 use Rattle.ruled_pipe.specs.Consumer.{Taker}
@@ -195,7 +195,7 @@ module _ {S G K : Type 0} (inner : ReadsColumns (Arrival kinds)) (outer : ReadsC
     controller_count = length-map new.shutters (λ (h : Shutting (Outgoing kinds)). h.end) ∙ (each_ends_long old.shutters new.shutters back.shutters ∙ (shutters_long (are_used c) 0 (c.processors + 1) p.outer old.shutters is.shutters ∙ is.pipes.links));
     inner = λ i q at. subst (λ (rows : List (List (Sender (Arrival kinds)))). (row : List (Sender (Arrival kinds))) × IsColumn i rows row × TookAll row (pushes q.taker.taken)) inner_are
         (inner (inner_rows new) p.inner (inner_takers new) settled.inner i q.taker (read_other processor_back (λ (w : Working G). w.taker) (λ (x : ProcessorBack). x.taker) (λ w. refl) new.processors i q at));
-    middle = subst (λ (row : List (Sender (Question kinds))). TookAll row (pushes a.taker.taken)) middle_are (settled.middle a.taker (ap (map (λ (x : Answering). x.taker)) one)).took;
+    middle = subst (λ (row : List (Sender (SlowPathRequest kinds))). TookAll row (pushes a.taker.taken)) middle_are (settled.middle a.taker (ap (map (λ (x : Answering). x.taker)) one)).took;
     low = λ l f at. let g = found_at (forwarder_back shown failed) new.forwarders l f at in
         let low : g.0.low.taker ≡ f.low = ap (λ (x : ForwarderBack Told). x.low) g.1.1 in
         column (2 * l) f.low (low_at new.forwarders l g.0 g.1.0 ∙ ap (λ (t : Taker (Outgoing kinds)). Some t) low);

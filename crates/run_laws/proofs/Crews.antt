@@ -1,8 +1,8 @@
 -- Crews that came back: their pipes have ended.
 use Rattle.std.proofs.Common.{◌≡◌, ℕ, zero, suc, ◌+◌, ◌*◌, Bool, true, false, List, [], ◌∷◌, ◌++◌, map, length, refl, sym, ◌∙◌, ap, subst, arith, length-append}
 use Rattle.std.proofs.lemmas.List.{length-map}
-use Rattle.pipe_order.specs.Item.{Arrival, Outgoing}
-use Rattle.pipe_order.specs.Settled.{Question}
+use Rattle.pipeline_laws.specs.Item.{Arrival, Outgoing}
+use Rattle.pipeline_laws.specs.Settled.{SlowPathRequest}
 use Rattle.process_packet.specs.declared.config.Config.{Config}
 use Rattle.ruled_pipe.specs.Producer.{Sender}
 use Rattle.ruled_pipe.specs.Consumer.{Taker}
@@ -30,12 +30,12 @@ module _ (c : Config) (p : Piping) where
   one_slow (a ∷ b ∷ xs) ys are back = absurd are
   one_slow (a ∷ []) ys are back = back_long (A c p) (a ∷ []) ys back
 
-  middle_taken : (xs ys : List Answering) (t : Taker (Question kinds)) → AreAnswering c p xs → AreBack (A c p) xs ys → map (λ (a : Answering). a.taker) ys ≡ t ∷ [] → HasTaken true p.middle t
+  middle_taken : (xs ys : List Answering) (t : Taker (SlowPathRequest kinds)) → AreAnswering c p xs → AreBack (A c p) xs ys → map (λ (a : Answering). a.taker) ys ≡ t ∷ [] → HasTaken true p.middle t
   middle_taken [] ys t are back same = absurd are
   middle_taken (a ∷ b ∷ xs) ys t are back same = absurd are
   middle_taken (a ∷ []) [] t are back same = absurd back
   middle_taken (a ∷ []) (b ∷ d ∷ ys) t are back same = absurd back.1
-  middle_taken (a ∷ []) (b ∷ []) t are back same = let e : b.taker ≡ t = cc in subst (λ (u : Taker (Question kinds)). HasTaken true p.middle u) e (slow_taken c p a b are back.0)
+  middle_taken (a ∷ []) (b ∷ []) t are back same = let e : b.taker ≡ t = cc in subst (λ (u : Taker (SlowPathRequest kinds)). HasTaken true p.middle u) e (slow_taken c p a b are back.0)
 
 module _ {S G K : Type 0} (f : Finishes (Arrival kinds)) (g : Finishes (Outgoing kinds)) (h : ShuttersFinish (Outgoing kinds)) (c : Config) (p : Piping) (old new : Crew S G K) (is : IsCrew c p old) (back : IsBack old new) (marked : HasMarked new) where
   worked : length new.processors ≡ c.processors
@@ -69,7 +69,7 @@ module _ {S G K : Type 0} (f : Finishes (Arrival kinds)) (g : Finishes (Outgoing
     taken = subst (λ (n : ℕ). AreTaken (λ j. true) 0 n p.inner (inner_takers new)) (inner_count bs same) (inner_taken c p 0 (link_count c) 0 p.inner old.processors new.processors is.pipes.inner is.processors back.processors);
   }
 
-  middle : (t : Taker (Question kinds)) → middle_takers new ≡ t ∷ [] → IsEnded true p.middle (middle_row new) t
+  middle : (t : Taker (SlowPathRequest kinds)) → middle_takers new ≡ t ∷ [] → IsEnded true p.middle (middle_row new) t
   middle t same = record {
     count = length-map new.processors (λ (w : Working G). w.slow.sender) ∙ (worked ∙ sym is.pipes.middle);
     ends = middle_ends c p 0 p.inner old.processors new.processors is.processors back.processors marked.processors;

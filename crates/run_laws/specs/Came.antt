@@ -1,8 +1,8 @@
 -- What a router's workers, as they came back, give the running theorem.
 use Rattle.std.specs.Prelude.{◌≡◌, ◌*◌, ◌+◌, ℕ, zero, suc, Bool, false, List, [], ◌∷◌, map, Option, Some, slice_get}
-use Rattle.pipe_order.specs.Deeds.{Each, has_mark}
-use Rattle.pipe_order.specs.Item.{Arrival, Outgoing}
-use Rattle.pipe_order.specs.Settled.{Question}
+use Rattle.pipeline_laws.specs.Deeds.{Each, has_mark}
+use Rattle.pipeline_laws.specs.Item.{Arrival, Outgoing}
+use Rattle.pipeline_laws.specs.Settled.{SlowPathRequest}
 use Rattle.process_packet.specs.declared.config.Config.{Config}
 use Rattle.ruled_pipe.specs.Producer.{Sender}
 use Rattle.ruled_pipe.specs.Consumer.{Taker}
@@ -60,7 +60,7 @@ module _ {S G K : Type 0} (told : S → Option (List Heard)) (shown : K → Opti
 -- All pipes were gathered.
 pub record HasSettled {S G K : Type 0} (p : Piping) (w : Crew S G K) : Type 0 where
   pub inner : AreSettled 0 (inner_rows w) p.inner (inner_takers w)
-  pub middle : (t : Taker (Question kinds)) → middle_takers w ≡ t ∷ [] → IsDone p.middle (middle_row w) t
+  pub middle : (t : Taker (SlowPathRequest kinds)) → middle_takers w ≡ t ∷ [] → IsDone p.middle (middle_row w) t
   pub outer : AreSettled 0 (outer_rows w) p.outer (takers_of w.forwarders)
 
 abbrev pub CrewsReturn : Type 0 → Type 0 → Type 0 → Type 0

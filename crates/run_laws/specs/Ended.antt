@@ -1,8 +1,8 @@
 -- A router's workers as they come back, and that their pipes can be gathered then.
 use Rattle.std.specs.Prelude.{◌≡◌, List, [], ◌∷◌, ◌++◌, map, true}
-use Rattle.pipe_order.specs.Deeds.{Each}
-use Rattle.pipe_order.specs.Item.{Arrival, Outgoing}
-use Rattle.pipe_order.specs.Settled.{Question}
+use Rattle.pipeline_laws.specs.Deeds.{Each}
+use Rattle.pipeline_laws.specs.Item.{Arrival, Outgoing}
+use Rattle.pipeline_laws.specs.Settled.{SlowPathRequest}
 use Rattle.process_packet.specs.declared.config.Config.{Config}
 use Rattle.ruled_pipe.specs.Producer.{Sender}
 use Rattle.ruled_pipe.specs.Consumer.{Taker}
@@ -44,10 +44,10 @@ module _ {S G K : Type 0} where
   abbrev pub inner_takers : Crew S G K → List (Taker (Arrival kinds))
   inner_takers w = map (λ (p : Working G). p.taker) w.processors
 
-  abbrev pub middle_row : Crew S G K → List (Sender (Question kinds))
+  abbrev pub middle_row : Crew S G K → List (Sender (SlowPathRequest kinds))
   middle_row w = map (λ (p : Working G). p.slow.sender) w.processors
 
-  abbrev pub middle_takers : Crew S G K → List (Taker (Question kinds))
+  abbrev pub middle_takers : Crew S G K → List (Taker (SlowPathRequest kinds))
   middle_takers w = map (λ (a : Answering). a.taker) w.slow
 
   abbrev pub outer_rows : Crew S G K → List (List (Sender (Outgoing kinds)))
@@ -62,7 +62,7 @@ module _ {K : Type 0} where
 -- So all pipes have ended.
 pub record PipesEnd {S G K : Type 0} (p : Piping) (w : Crew S G K) : Type 0 where
   pub inner : (bundles : List (Row (Arrival kinds))) → rows_of bundles ≡ inner_rows w → HaveEnded p.inner bundles (inner_takers w)
-  pub middle : (t : Taker (Question kinds)) → middle_takers w ≡ t ∷ [] → IsEnded true p.middle (middle_row w) t
+  pub middle : (t : Taker (SlowPathRequest kinds)) → middle_takers w ≡ t ∷ [] → IsEnded true p.middle (middle_row w) t
   pub outer : (bundles : List (Row (Outgoing kinds))) → rows_of bundles ≡ outer_rows w → HaveEnded p.outer bundles (takers_of w.forwarders)
 
 abbrev pub CrewsEnd : Type 0 → Type 0 → Type 0 → Type 0

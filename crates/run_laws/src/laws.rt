@@ -1,6 +1,6 @@
 //! Laws of a router's workers as they came back.
 
-ghost use Rattle.pipe_order.specs.Item.{Arrival, Outgoing};
+ghost use Rattle.pipeline_laws.specs.Item.{Arrival, Outgoing};
 ghost use Rattle.router_rules.specs.Rules.{kinds};
 ghost use Rattle.run_laws.specs.Ended.{CrewsEnd};
 ghost use Rattle.run_laws.specs.Came.{CrewsReturn};

@@ -1,7 +1,7 @@
 -- New ends and new shares, one by one.
 use Rattle.std.proofs.Common.{◌≡◌, ℕ, suc, ◌+◌, List, [], ◌∷◌, length, Some, slice_get, refl, sym, ◌∙◌, ap, subst, arith}
 use Rattle.std.specs.List.{All}
-use Rattle.pipe_order.specs.Deeds.{Each}
+use Rattle.pipeline_laws.specs.Deeds.{Each}
 use Rattle.packet_ledger.specs.Share.{Held, new_share}
 use Rattle.ruled_pipe.specs.Producer.{Sender, new_sender}
 use Rattle.ruled_pipe.specs.Consumer.{Taker}

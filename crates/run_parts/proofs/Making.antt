@@ -1,9 +1,9 @@
 -- A worker made of what is next of each list.
 use Rattle.std.proofs.Common.{◌≡◌, ℕ, zero, suc, ◌+◌, List, [], ◌∷◌, ◌++◌, length, Some, slice_get, sym, ◌∙◌, ap, subst, arith, length-append}
 use Rattle.packet_ledger.specs.Share.{Held, new_share}
-use Rattle.pipe_order.specs.Deeds.{Each}
-use Rattle.pipe_order.specs.Item.{Arrival, Outgoing}
-use Rattle.pipe_order.specs.Settled.{Question}
+use Rattle.pipeline_laws.specs.Deeds.{Each}
+use Rattle.pipeline_laws.specs.Item.{Arrival, Outgoing}
+use Rattle.pipeline_laws.specs.Settled.{SlowPathRequest}
 use Rattle.process_packet.specs.declared.config.Config.{Config}
 use Rattle.ruled_pipe.specs.Producer.{Sender}
 use Rattle.ruled_pipe.specs.Consumer.{Taker}
@@ -42,7 +42,7 @@ module _ {T : Type 0} where
   bundle_long n p k pipes ends same is long = same ∙ (ap length is ∙ (fresh_long T p pipes ∙ long))
 
 module _ {G : Type 0} where
-  pub working_there : (c : Config) (inner outer : List Shape) (middle : Shape) (i : ℕ) (t : Taker (Arrival kinds)) (s : Sender (Question kinds)) (links : List (Offering (Outgoing kinds))) (w : Working G)
+  pub working_there : (c : Config) (inner outer : List Shape) (middle : Shape) (i : ℕ) (t : Taker (Arrival kinds)) (s : Sender (SlowPathRequest kinds)) (links : List (Offering (Outgoing kinds))) (w : Working G)
       → IsTakerThere inner i t → IsNewEnd middle i s → AreEndsOf i outer (senders links)
       → w.side.config ≡ c → (w.taker ≡ t) × (w.slow.sender ≡ s) × (w.side.links ≡ links) → AreFresh w.side.links → IsWorkingThere c (piping inner middle outer) i w
   working_there c inner outer middle i t s links w there end are config same fresh =
@@ -53,7 +53,7 @@ module _ {G : Type 0} where
         works = record {
           config = config;
           taker = (ap (λ (x : Taker (Arrival kinds)). x.pipe) is, ap (λ (x : Taker (Arrival kinds)). x.producers) is, ap (λ (x : Taker (Arrival kinds)). x.capacity) is);
-          slow = subst (λ (x : Sender (Question kinds)). IsEndOf middle i x) (sym same.1) end.0;
+          slow = subst (λ (x : Sender (SlowPathRequest kinds)). IsEndOf middle i x) (sym same.1) end.0;
           links = subst (λ (xs : List (Offering (Outgoing kinds))). AreEndsOf i outer (senders xs)) (sym same.2) are;
           fresh = fresh;
         };

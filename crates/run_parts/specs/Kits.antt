@@ -1,6 +1,6 @@
 -- What workers with devices are made of, but for their devices; and workers by their numbers.
 use Rattle.std.specs.Prelude.{◌≡◌, ◌+◌, ◌*◌, ℕ, List, [], ◌∷◌, Some, slice_get}
-use Rattle.pipe_order.specs.Item.{Arrival, Outgoing}
+use Rattle.pipeline_laws.specs.Item.{Arrival, Outgoing}
 use Rattle.process_packet.specs.declared.config.Config.{Config}
 use Rattle.ruled_pipe.specs.Producer.{Sender}
 use Rattle.ruled_pipe.specs.Consumer.{Taker}

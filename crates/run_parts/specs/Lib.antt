@@ -2,4 +2,4 @@ pub mod Rest
 pub mod Dealing
 pub mod Kits
 pub mod Room
-pub mod Makings
+pub mod WorkerParts

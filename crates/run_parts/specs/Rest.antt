@@ -1,6 +1,6 @@
 -- Lists whose elements have a property each, by their numbers.
 use Rattle.std.specs.Prelude.{◌≡◌, ◌+◌, ◌≤◌, ℕ, List, length}
-use Rattle.pipe_order.specs.Deeds.{Each}
+use Rattle.pipeline_laws.specs.Deeds.{Each}
 use Rattle.packet_ledger.specs.Share.{Held, new_share}
 use Rattle.router_laws.specs.Returned.{AllAt}
 

@@ -1,8 +1,8 @@
 -- Room for all that comes back.
 use Rattle.std.specs.Prelude.{◌≡◌, ◌+◌, ◌*◌, ◌≤◌, ℕ, List, [], length}
-use Rattle.pipe_order.specs.Deeds.{Each}
-use Rattle.pipe_order.specs.Item.{Arrival, Outgoing}
-use Rattle.pipe_order.specs.Settled.{Question}
+use Rattle.pipeline_laws.specs.Deeds.{Each}
+use Rattle.pipeline_laws.specs.Item.{Arrival, Outgoing}
+use Rattle.pipeline_laws.specs.Settled.{SlowPathRequest}
 use Rattle.router_rules.specs.Rules.{kinds}
 use Rattle.router_ends.specs.Rows.{Row}
 
@@ -11,7 +11,7 @@ abbrev pub IsRoomy : {T : Type 0} → ℕ → Row T → Type 0
 IsRoomy n r = (r.ends ≡ []) × (n ≤ r.room)
 
 -- for how many workers there is room
-pub record Berths : Type 0 where
+pub record WorkerSlots : Type 0 where
   pub receivers : ℕ
   pub processors : ℕ
   pub slow : ℕ
@@ -22,7 +22,7 @@ pub record Space : Type 0 where
   pub inner_rows : List (Row (Arrival kinds))
   pub inner_bundles : ℕ
   pub inner_takers : ℕ
-  pub middle_row : Row (Question kinds)
+  pub middle_row : Row (SlowPathRequest kinds)
   pub outer_rows : List (Row (Outgoing kinds))
   pub outer_bundles : ℕ
   pub outer_takers : ℕ
@@ -32,7 +32,7 @@ pub record Space : Type 0 where
   pub sinks : ℕ
 
 -- of a router with so many links and processors
-pub record HaveBerths (links processors : ℕ) (r : Berths) : Type 0 where
+pub record HaveWorkerSlots (links processors : ℕ) (r : WorkerSlots) : Type 0 where
   pub receivers_fit : links ≤ r.receivers
   pub processors_fit : processors ≤ r.processors
   pub slow_fits : 1 ≤ r.slow

@@ -3,7 +3,7 @@
 ghost use Rattle.std.specs.Prelude.{◌≡◌, ◌≤◌, ◌<◌, ℕ, List, IfOk, [], Some, length, vec_capacity};
 ghost use Rattle.std.specs.Arc.{arc_value};
 ghost use Rattle.packet_ledger.specs.Share.{new_share};
-ghost use Rattle.pipe_order.specs.Deeds.{Each};
+ghost use Rattle.pipeline_laws.specs.Deeds.{Each};
 ghost use Rattle.router_laws.specs.Heard.{ToldNothing};
 ghost use Rattle.router_rules.specs.Links.{link_count};
 ghost use Rattle.router_stages.specs.Receiving.{first_receiving};

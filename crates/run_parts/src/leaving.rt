@@ -3,7 +3,7 @@
 ghost use Rattle.std.specs.Prelude.{◌≡◌, ◌+◌, ◌*◌, ◌≤◌, ◌<◌, IfOk, [], Some, length, false, vec_capacity};
 ghost use Rattle.std.specs.Arc.{arc_value};
 ghost use Rattle.packet_ledger.specs.Share.{new_share};
-ghost use Rattle.pipe_order.specs.Deeds.{Each};
+ghost use Rattle.pipeline_laws.specs.Deeds.{Each};
 ghost use Rattle.router_laws.specs.Heard.{ToldNothing};
 ghost use Rattle.router_rules.specs.Links.{link_count};
 ghost use Rattle.router_stages.specs.Forwarding.{band, first_delivery, first_forwarding};
@@ -18,7 +18,7 @@ use router_ends::Ends;
 use router_rules::{Shared, link_count};
 use router_stages::{Band, Forwarder};
 use ruled_pipe::{Consumer, Pipe, Producer};
-use stage_parts::{Buffer, Parcel, Router, Sink};
+use stage_parts::{Buffer, EgressPacket, Router, Sink};
 use std::alloc::{AllocError, Global};
 use std::marker::Model;
 use std::sync::{Arc, Wait};
@@ -70,8 +70,8 @@ fn leaving_at<N: Router>(
     shared: &Arc<Shared, Global>,
     link: u16,
     producers: usize,
-    low: Consumer<Parcel<N>>,
-    high: Consumer<Parcel<N>>,
+    low: Consumer<EgressPacket<N>>,
+    high: Consumer<EgressPacket<N>>,
     free: Ends<Buffer>,
     share: Share<N>,
 ) -> Result<Leaving<N>, AllocError>
@@ -98,8 +98,8 @@ fn leaving_at<N: Router>(
 pub fn all_leaving<N: Router>(
     alloc: Global,
     shared: &Arc<Shared, Global>,
-    pipes: &Vec<Pipe<Parcel<N>>>,
-    takers: Vec<Consumer<Parcel<N>>>,
+    pipes: &Vec<Pipe<EgressPacket<N>>>,
+    takers: Vec<Consumer<EgressPacket<N>>>,
     free: &mut Line<Ends<Buffer>>,
     shares: &mut Line<Share<N>>,
 ) -> Result<Vec<Leaving<N>>, AllocError>

@@ -5,19 +5,19 @@
 mod entering;
 mod leaving;
 mod line;
-mod makings;
 mod middle;
 mod pipes;
 mod preparing;
 mod reserve;
 mod results;
 mod waking;
+mod worker_parts;
 
 pub use entering::receivers_of;
 pub use leaving::forwarders_of;
 pub use line::Line;
-pub use makings::Makings;
 pub use pipes::Pipes;
 pub use preparing::{Prepared, prepare};
-pub use reserve::{Berths, Space};
+pub use reserve::{Space, WorkerSlots};
 pub use waking::{notify_all, notify_one};
+pub use worker_parts::WorkerParts;

@@ -20,7 +20,7 @@ use router_ends::{Ends, outlets};
 use router_rules::{Shared, link_count};
 use router_stages::{Processor, SlowPath};
 use ruled_pipe::{Consumer, Pipe, Producer};
-use stage_parts::{Buffer, Gate, Inlet, Outlet, Packet, Parcel, Question, Router};
+use stage_parts::{Buffer, EgressPacket, Gate, Inlet, Outlet, Packet, Router, SlowPathRequest};
 use std::alloc::{AllocError, Global};
 use std::marker::Model;
 use std::sync::{Arc, Wait};
@@ -28,7 +28,7 @@ use std::sync::{Arc, Wait};
 /// A worker's ends of the links' pipes and of those of free buffers, and its share.
 #[derive(Drop)]
 pub struct Ways<N: Router> {
-    links: Vec<Outlet<Parcel<N>>>,
+    links: Vec<Outlet<EgressPacket<N>>>,
     free: Vec<Producer<Buffer>>,
     share: Share<N>,
 }
@@ -49,7 +49,7 @@ impl<N: Router> Model for Ways<N> {
 // What the next worker has.
 fn next_ways<N: Router>(
     alloc: Global,
-    bundle: Ends<Parcel<N>>,
+    bundle: Ends<EgressPacket<N>>,
     free: Ends<Buffer>,
     share: Share<N>,
     events: &Events,
@@ -75,7 +75,7 @@ fn processor_at<N: Router, G: Gate + Drop, R: Wait + Copy>(
     index: u8,
     producers: usize,
     taker: Consumer<Packet<N>>,
-    asking: Producer<Question<N>>,
+    asking: Producer<SlowPathRequest<N>>,
     ways: Ways<N>,
     events: &Events,
 ) -> Result<Processor<N, R, G>, AllocError>
@@ -104,11 +104,11 @@ fn processors_of<N: Router, G: Gate + Drop, R: Wait + Copy>(
     shared: &Arc<Shared, Global>,
     gate: &Arc<G, Global>,
     inner: &Vec<Pipe<Packet<N>>>,
-    middle: &Pipe<Question<N>>,
-    outer: &Vec<Pipe<Parcel<N>>>,
+    middle: &Pipe<SlowPathRequest<N>>,
+    outer: &Vec<Pipe<EgressPacket<N>>>,
     takers: Vec<Consumer<Packet<N>>>,
-    asking: Vec<Producer<Question<N>>>,
-    links: &mut Line<Ends<Parcel<N>>>,
+    asking: Vec<Producer<SlowPathRequest<N>>>,
+    links: &mut Line<Ends<EgressPacket<N>>>,
     free: &mut Line<Ends<Buffer>>,
     shares: &mut Line<Share<N>>,
     events: &Events,
@@ -159,7 +159,7 @@ fn processors_of<N: Router, G: Gate + Drop, R: Wait + Copy>(
 fn slow_path_of<N: Router, R: Wait + Copy>(
     rt: R,
     shared: &Arc<Shared, Global>,
-    taker: Consumer<Question<N>>,
+    taker: Consumer<SlowPathRequest<N>>,
     ways: Ways<N>,
 ) -> Result<SlowPath<N, R>, AllocError>
     requires config { N.config ≡ Some (arc_value shared.now).config }
@@ -181,8 +181,8 @@ fn slow_path_with<N: Router, R: Wait + Copy>(
     rt: R,
     alloc: Global,
     shared: &Arc<Shared, Global>,
-    taker: Consumer<Question<N>>,
-    bundle: Ends<Parcel<N>>,
+    taker: Consumer<SlowPathRequest<N>>,
+    bundle: Ends<EgressPacket<N>>,
     free: Ends<Buffer>,
     share: Share<N>,
     events: &Events,
@@ -218,9 +218,9 @@ pub fn deciding_of<N: Router, G: Gate + Drop, R: Wait + Copy>(
     gate: G,
     pipes: &Pipes<N>,
     packets: Vec<Consumer<Packet<N>>>,
-    asking: Vec<Producer<Question<N>>>,
-    asked: Consumer<Question<N>>,
-    links: &mut Line<Ends<Parcel<N>>>,
+    asking: Vec<Producer<SlowPathRequest<N>>>,
+    asked: Consumer<SlowPathRequest<N>>,
+    links: &mut Line<Ends<EgressPacket<N>>>,
     free: &mut Line<Ends<Buffer>>,
     shares: &mut Line<Share<N>>,
     events: &Events,

@@ -9,7 +9,7 @@ ghost use Rattle.run_parts.specs.Rest.{IsRest};
 use router_ends::{Dealt, Ends, Opened, deal, open_pipes, take_last};
 use router_rules::{Shared, link_count};
 use ruled_pipe::{Consumer, Pipe, Producer};
-use stage_parts::{Buffer, Packet, Parcel, Question, Router};
+use stage_parts::{Buffer, EgressPacket, Packet, Router, SlowPathRequest};
 use std::alloc::{AllocError, Global};
 use std::sync::Wait;
 
@@ -36,7 +36,10 @@ fn capacity_at(shared: &Shared, at: usize) -> usize
     }
 }
 
-fn open_outer<N: Router>(alloc: Global, shared: &Shared) -> Result<Opened<Parcel<N>>, AllocError>
+fn open_outer<N: Router>(
+    alloc: Global,
+    shared: &Shared,
+) -> Result<Opened<EgressPacket<N>>, AllocError>
     ensures producers { IfOk result (λ o. o.producers ≡ shared.now.config.processors + 2) }
     ensures count { IfOk result (λ o. length o.pipes ≡ 2 * link_count shared.now.config) }
 {
@@ -51,7 +54,10 @@ fn open_outer<N: Router>(alloc: Global, shared: &Shared) -> Result<Opened<Parcel
 
 /// The links' pipes, two of each, with processors, slow path and controller as their producers. The high
 /// band's of a link with one band isn't used.
-fn outer_pipes<N: Router>(alloc: Global, shared: &Shared) -> Result<Dealt<Parcel<N>>, AllocError>
+fn outer_pipes<N: Router>(
+    alloc: Global,
+    shared: &Shared,
+) -> Result<Dealt<EgressPacket<N>>, AllocError>
     ensures { IfOk result (λ d. IsDealing (shared.now.config.processors + 2) (2 * link_count shared.now.config) d.pipes.items d.rooms.items d.takers.items d.bundles.items) }
 {
     let opened = open_outer(alloc, shared)?;
@@ -117,9 +123,9 @@ fn fill_one<R: Wait>(
 pub struct Pipes<N: Router> {
     pub inner: Vec<Pipe<Packet<N>>>,
     pub inner_rooms: Vec<Ends<Packet<N>>>,
-    pub middle: Pipe<Question<N>>,
-    pub outer: Vec<Pipe<Parcel<N>>>,
-    pub outer_rooms: Vec<Ends<Parcel<N>>>,
+    pub middle: Pipe<SlowPathRequest<N>>,
+    pub outer: Vec<Pipe<EgressPacket<N>>>,
+    pub outer_rooms: Vec<Ends<EgressPacket<N>>>,
 }
 
 /// The slow path's pipe, with the processors as its producers.
@@ -128,9 +134,9 @@ fn middle_pipe<N: Router>(
     shared: &Shared,
 ) -> Result<
     (
-        Pipe<Question<N>>,
-        Vec<Producer<Question<N>>>,
-        Consumer<Question<N>>,
+        Pipe<SlowPathRequest<N>>,
+        Vec<Producer<SlowPathRequest<N>>>,
+        Consumer<SlowPathRequest<N>>,
     ),
     AllocError,
 >
@@ -153,13 +159,13 @@ pub struct AllPipes<N: Router> {
     /// The processors' consumers.
     pub packets: Vec<Consumer<Packet<N>>>,
     /// The processors' ends of the slow path's pipe.
-    pub asking: Vec<Producer<Question<N>>>,
+    pub asking: Vec<Producer<SlowPathRequest<N>>>,
     /// The slow path's consumer.
-    pub asked: Consumer<Question<N>>,
+    pub asked: Consumer<SlowPathRequest<N>>,
     /// The processors', the slow path's and the controller's ends of the links' pipes.
-    pub to_links: Vec<Ends<Parcel<N>>>,
+    pub to_links: Vec<Ends<EgressPacket<N>>>,
     /// The forwarders' consumers.
-    pub parcels: Vec<Consumer<Parcel<N>>>,
+    pub egress_packets: Vec<Consumer<EgressPacket<N>>>,
     pub free: Free,
 }
 
@@ -173,7 +179,7 @@ pub fn all_pipes<N: Router, R: Wait>(
     ensures middle { IfOk result (λ a. a.pipes.middle.producers ≡ shared.now.config.processors) }
     ensures asking { IfOk result (λ a. IsRest (IsNewEnd a.pipes.middle) 0 shared.now.config.processors a.asking.items) }
     ensures asked { IfOk result (λ a. IsTakerOf a.pipes.middle a.asked × (a.asked.taken ≡ [])) }
-    ensures outer { IfOk result (λ a. IsDealing (shared.now.config.processors + 2) (2 * link_count shared.now.config) a.pipes.outer.items a.pipes.outer_rooms.items a.parcels.items a.to_links.items) }
+    ensures outer { IfOk result (λ a. IsDealing (shared.now.config.processors + 2) (2 * link_count shared.now.config) a.pipes.outer.items a.pipes.outer_rooms.items a.egress_packets.items a.to_links.items) }
     ensures free { IfOk result (λ a. AreFree shared.now.config a.free.takers.items a.free.bundles.items) }
 {
     let inner = inner_pipes(alloc, shared)?;
@@ -193,7 +199,7 @@ pub fn all_pipes<N: Router, R: Wait>(
         asking,
         asked,
         to_links: outer.bundles,
-        parcels: outer.takers,
+        egress_packets: outer.takers,
         free,
     })
 }

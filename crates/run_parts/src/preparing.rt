@@ -5,13 +5,13 @@ ghost use Rattle.std.specs.Arc.{arc_value};
 ghost use Rattle.router_rules.specs.Links.{link_count};
 ghost use Rattle.run_parts.specs.Dealing.{piping};
 ghost use Rattle.run_parts.specs.Rest.{AreNewShares};
-ghost use Rattle.run_parts.specs.Room.{HaveBerths, HaveSpace};
-ghost use Rattle.run_parts.specs.Makings.{AreMakings};
+ghost use Rattle.run_parts.specs.Room.{HaveWorkerSlots, HaveSpace};
+ghost use Rattle.run_parts.specs.WorkerParts.{AreWorkerParts};
 
-use crate::makings::{Makings, make_all};
-use crate::reserve::{Berths, Space, berths_for, space_for};
+use crate::reserve::{Space, WorkerSlots, space_for, worker_slots_for};
 use crate::results::both;
 use crate::waking::{Events, events_for};
+use crate::worker_parts::{WorkerParts, make_all};
 use packet_ledger::{Blank, Book, Share};
 use process_packet::Config;
 use router_rules::{Shared, link_count};
@@ -24,18 +24,18 @@ use worker_threads::{HOLD, Handle, Orders, Work};
 
 /// Orders for the threads of workers of one kind, each with its worker's event if it has one, room for the workers and for the threads' handles.
 #[derive(Drop)]
-pub struct Desk<N: Router, W: Work<N>> {
+pub struct ThreadSetup<N: Router, W: Work<N>> {
     pub workers: Vec<W>,
     pub orders: Vec<Orders<N>>,
     pub room: Vec<Handle<N, W>>,
 }
 
-fn desk_for<N: Router, W: Work<N> + Drop>(
+fn thread_setup_for<N: Router, W: Work<N> + Drop>(
     alloc: Global,
     orders: &Orders<N>,
     events: &[Event],
     count: usize,
-) -> Result<Desk<N, W>, AllocError>
+) -> Result<ThreadSetup<N, W>, AllocError>
     ensures workers { IfOk result (λ d. (d.workers.items ≡ []) × (vec_capacity d.workers ≡ count)) }
     ensures room { IfOk result (λ d. (d.room.items ≡ []) × (vec_capacity d.room ≡ count)) }
 {
@@ -48,7 +48,7 @@ fn desk_for<N: Router, W: Work<N> + Drop>(
         })?;
     }
     let room = Vec::<Handle<N, W>>::with_capacity(alloc, count)?;
-    Ok(Desk {
+    Ok(ThreadSetup {
         workers,
         orders: each,
         room,
@@ -57,7 +57,7 @@ fn desk_for<N: Router, W: Work<N> + Drop>(
 
 /// The desks of all workers, and the forwarders' events.
 #[derive(Drop)]
-struct Desks<N, S, K, G, R>
+struct ThreadSetups<N, S, K, G, R>
 where
     N: Router,
     S: Source + Drop,
@@ -65,20 +65,20 @@ where
     G: Gate + Drop,
     R: Wait + Copy,
 {
-    receivers: Desk<N, Receiver<N, R, S>>,
-    processors: Desk<N, Processor<N, R, G>>,
-    slow: Desk<N, SlowPath<N, R>>,
-    forwarders: Desk<N, Forwarder<N, R, K>>,
+    receivers: ThreadSetup<N, Receiver<N, R, S>>,
+    processors: ThreadSetup<N, Processor<N, R, G>>,
+    slow: ThreadSetup<N, SlowPath<N, R>>,
+    forwarders: ThreadSetup<N, Forwarder<N, R, K>>,
     forwarder_events: Vec<Event>,
 }
 
-fn desks_for<N, S, K, G, R>(
+fn thread_setups_for<N, S, K, G, R>(
     alloc: Global,
     orders: &Orders<N>,
     events: Events,
     links: usize,
     processors: usize,
-) -> Result<Desks<N, S, K, G, R>, AllocError>
+) -> Result<ThreadSetups<N, S, K, G, R>, AllocError>
 where
     N: Router,
     S: Source + Drop,
@@ -95,11 +95,11 @@ where
         slow,
         forwarders: ends,
     } = events;
-    let receivers = desk_for(alloc, orders, &[], links)?;
-    let working = desk_for(alloc, orders, each.as_slice(), processors)?;
-    let answering = desk_for(alloc, orders, &[slow], 1)?;
-    let forwarders = desk_for(alloc, orders, ends.as_slice(), links)?;
-    Ok(Desks {
+    let receivers = thread_setup_for(alloc, orders, &[], links)?;
+    let working = thread_setup_for(alloc, orders, each.as_slice(), processors)?;
+    let answering = thread_setup_for(alloc, orders, &[slow], 1)?;
+    let forwarders = thread_setup_for(alloc, orders, ends.as_slice(), links)?;
+    Ok(ThreadSetups {
         receivers,
         processors: working,
         slow: answering,
@@ -160,12 +160,12 @@ where
     pub shared: Arc<Shared, Global>,
     pub orders: Orders<N>,
     pub forwarder_events: Vec<Event>,
-    pub makings: Makings<N, G, R>,
-    pub receivers: Desk<N, Receiver<N, R, S>>,
-    pub processors: Desk<N, Processor<N, R, G>>,
-    pub slow: Desk<N, SlowPath<N, R>>,
-    pub forwarders: Desk<N, Forwarder<N, R, K>>,
-    pub berths: Berths<N, S, K, G, R>,
+    pub worker_parts: WorkerParts<N, G, R>,
+    pub receivers: ThreadSetup<N, Receiver<N, R, S>>,
+    pub processors: ThreadSetup<N, Processor<N, R, G>>,
+    pub slow: ThreadSetup<N, SlowPath<N, R>>,
+    pub forwarders: ThreadSetup<N, Forwarder<N, R, K>>,
+    pub worker_slots: WorkerSlots<N, S, K, G, R>,
     pub space: Space<N, S, K>,
 }
 
@@ -196,8 +196,8 @@ where
 {
     shared: Arc<Shared, Global>,
     orders: Orders<N>,
-    makings: Makings<N, G, R>,
-    desks: Desks<N, S, K, G, R>,
+    worker_parts: WorkerParts<N, G, R>,
+    thread_setups: ThreadSetups<N, S, K, G, R>,
 }
 
 fn staff_for<N, S, K, G, R>(
@@ -221,11 +221,11 @@ where
     requires few { links ≤ 33 }
     requires workers { N.workers ≡ 2 * link_count config + config.processors + 1 }
     ensures shared { IfOk result (λ s. (arc_value s.shared).config ≡ config) }
-    ensures makings { IfOk result (λ s. AreMakings config (piping s.makings.pipes.inner.items s.makings.pipes.middle s.makings.pipes.outer.items) s.makings.pipes.inner_rooms.items s.makings.pipes.outer_rooms.items s.makings.receivers.items s.makings.processors.items s.makings.slow s.makings.forwarders.items s.makings.shutters.items) }
-    ensures receivers { IfOk result (λ s. (s.desks.receivers.workers.items ≡ []) × (vec_capacity s.desks.receivers.workers ≡ links) × (s.desks.receivers.room.items ≡ []) × (vec_capacity s.desks.receivers.room ≡ links)) }
-    ensures processors { IfOk result (λ s. (s.desks.processors.room.items ≡ []) × (vec_capacity s.desks.processors.room ≡ processors)) }
-    ensures slow { IfOk result (λ s. (s.desks.slow.workers.items ≡ []) × (vec_capacity s.desks.slow.workers ≡ 1) × (s.desks.slow.room.items ≡ []) × (vec_capacity s.desks.slow.room ≡ 1)) }
-    ensures forwarders { IfOk result (λ s. (s.desks.forwarders.workers.items ≡ []) × (vec_capacity s.desks.forwarders.workers ≡ links) × (s.desks.forwarders.room.items ≡ []) × (vec_capacity s.desks.forwarders.room ≡ links)) }
+    ensures worker_parts { IfOk result (λ s. AreWorkerParts config (piping s.worker_parts.pipes.inner.items s.worker_parts.pipes.middle s.worker_parts.pipes.outer.items) s.worker_parts.pipes.inner_rooms.items s.worker_parts.pipes.outer_rooms.items s.worker_parts.receivers.items s.worker_parts.processors.items s.worker_parts.slow s.worker_parts.forwarders.items s.worker_parts.shutters.items) }
+    ensures receivers { IfOk result (λ s. (s.thread_setups.receivers.workers.items ≡ []) × (vec_capacity s.thread_setups.receivers.workers ≡ links) × (s.thread_setups.receivers.room.items ≡ []) × (vec_capacity s.thread_setups.receivers.room ≡ links)) }
+    ensures processors { IfOk result (λ s. (s.thread_setups.processors.room.items ≡ []) × (vec_capacity s.thread_setups.processors.room ≡ processors)) }
+    ensures slow { IfOk result (λ s. (s.thread_setups.slow.workers.items ≡ []) × (vec_capacity s.thread_setups.slow.workers ≡ 1) × (s.thread_setups.slow.room.items ≡ []) × (vec_capacity s.thread_setups.slow.room ≡ 1)) }
+    ensures forwarders { IfOk result (λ s. (s.thread_setups.forwarders.workers.items ≡ []) × (vec_capacity s.thread_setups.forwarders.workers ≡ links) × (s.thread_setups.forwarders.room.items ≡ []) × (vec_capacity s.thread_setups.forwarders.room ≡ links)) }
 {
     let Common {
         shared,
@@ -234,15 +234,15 @@ where
         shares,
         events,
     } = common_for(alloc, blank, config, links)?;
-    let makings = make_all(rt, alloc, &shared, &word, gate, shares, &events);
+    let worker_parts = make_all(rt, alloc, &shared, &word, gate, shares, &events);
     let orders = Orders::new(word, book);
-    let desks = desks_for(alloc, &orders, events, links, processors);
-    let (makings, desks) = both(makings, desks)?;
+    let thread_setups = thread_setups_for(alloc, &orders, events, links, processors);
+    let (worker_parts, thread_setups) = both(worker_parts, thread_setups)?;
     Ok(Staff {
         shared,
         orders,
-        makings,
-        desks,
+        worker_parts,
+        thread_setups,
     })
 }
 
@@ -264,45 +264,45 @@ where
     requires config { N.config ≡ Some config }
     requires workers { N.workers ≡ 2 * link_count config + config.processors + 1 }
     ensures shared { IfOk result (λ p. (arc_value p.shared).config ≡ config) }
-    ensures makings { IfOk result (λ p. AreMakings config (piping p.makings.pipes.inner.items p.makings.pipes.middle p.makings.pipes.outer.items) p.makings.pipes.inner_rooms.items p.makings.pipes.outer_rooms.items p.makings.receivers.items p.makings.processors.items p.makings.slow p.makings.forwarders.items p.makings.shutters.items) }
+    ensures worker_parts { IfOk result (λ p. AreWorkerParts config (piping p.worker_parts.pipes.inner.items p.worker_parts.pipes.middle p.worker_parts.pipes.outer.items) p.worker_parts.pipes.inner_rooms.items p.worker_parts.pipes.outer_rooms.items p.worker_parts.receivers.items p.worker_parts.processors.items p.worker_parts.slow p.worker_parts.forwarders.items p.worker_parts.shutters.items) }
     ensures receivers { IfOk result (λ p. (p.receivers.workers.items ≡ []) × (vec_capacity p.receivers.workers ≡ link_count config) × (p.receivers.room.items ≡ []) × (vec_capacity p.receivers.room ≡ link_count config)) }
     ensures processors { IfOk result (λ p. (p.processors.room.items ≡ []) × (vec_capacity p.processors.room ≡ config.processors)) }
     ensures slow { IfOk result (λ p. (p.slow.workers.items ≡ []) × (vec_capacity p.slow.workers ≡ 1) × (p.slow.room.items ≡ []) × (vec_capacity p.slow.room ≡ 1)) }
     ensures forwarders { IfOk result (λ p. (p.forwarders.workers.items ≡ []) × (vec_capacity p.forwarders.workers ≡ link_count config) × (p.forwarders.room.items ≡ []) × (vec_capacity p.forwarders.room ≡ link_count config)) }
-    ensures berths { IfOk result (λ p. HaveBerths (link_count config) config.processors p.berths) }
+    ensures worker_slots { IfOk result (λ p. HaveWorkerSlots (link_count config) config.processors p.worker_slots) }
     ensures space { IfOk result (λ p. HaveSpace (link_count config) config.processors p.space) }
 {
     let links = link_count(&config);
     let processors = usize::from(config.processors);
     let room = both(
-        berths_for(alloc, links, processors),
+        worker_slots_for(alloc, links, processors),
         space_for(alloc, links, processors),
     );
     let staff = staff_for(rt, alloc, blank, config, gate, links, processors);
-    let (staff, (berths, space)) = both(staff, room)?;
+    let (staff, (worker_slots, space)) = both(staff, room)?;
     let Staff {
         shared,
         orders,
-        makings,
-        desks,
+        worker_parts,
+        thread_setups,
     } = staff;
-    let Desks {
+    let ThreadSetups {
         receivers,
         processors,
         slow,
         forwarders,
         forwarder_events,
-    } = desks;
+    } = thread_setups;
     Ok(Prepared {
         shared,
         orders,
         forwarder_events,
-        makings,
+        worker_parts,
         receivers,
         processors,
         slow,
         forwarders,
-        berths,
+        worker_slots,
         space,
     })
 }

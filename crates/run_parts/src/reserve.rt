@@ -1,21 +1,21 @@
 //! Room for all that comes back, taken before the first thread is made.
 
 ghost use Rattle.std.specs.Prelude.{◌≡◌, ◌≤◌, ◌+◌, ◌*◌, IfOk, length};
-ghost use Rattle.pipe_order.specs.Deeds.{Each};
-ghost use Rattle.run_parts.specs.Room.{HaveBerths, HaveSpace, IsRoomy};
+ghost use Rattle.pipeline_laws.specs.Deeds.{Each};
+ghost use Rattle.run_parts.specs.Room.{HaveWorkerSlots, HaveSpace, IsRoomy};
 
 use packet_ledger::Share;
 use router_ends::Ends;
 use router_stages::{Forwarder, Processor, Receiver, SlowPath};
 use ruled_pipe::Consumer;
-use stage_parts::{Gate, Packet, Parcel, Question, Router, Sink, Source};
+use stage_parts::{EgressPacket, Gate, Packet, Router, Sink, SlowPathRequest, Source};
 use std::alloc::{AllocError, Global};
 use std::marker::Model;
 use std::sync::Wait;
 
 /// Room for the workers.
 #[derive(Drop)]
-pub struct Berths<N, S, K, G, R>
+pub struct WorkerSlots<N, S, K, G, R>
 where
     N: Router,
     S: Source + Drop,
@@ -29,7 +29,7 @@ where
     pub forwarders: Vec<Forwarder<N, R, K>>,
 }
 
-impl<N, S, K, G, R> Model for Berths<N, S, K, G, R>
+impl<N, S, K, G, R> Model for WorkerSlots<N, S, K, G, R>
 where
     N: Router,
     S: Source + Drop,
@@ -38,7 +38,7 @@ where
     R: Wait + Copy,
 {
     ghost use Rattle.std.specs.Prelude.{◌≡◌, [], vec_capacity};
-    ghost use Rattle.run_parts.specs.Room.{Berths as Seen};
+    ghost use Rattle.run_parts.specs.Room.{WorkerSlots as Seen};
 
     ghost Value = { Seen };
 
@@ -53,10 +53,10 @@ pub struct Space<N: Router, S, K> {
     pub inner_rows: Vec<Ends<Packet<N>>>,
     pub inner_bundles: Vec<Ends<Packet<N>>>,
     pub inner_takers: Vec<Consumer<Packet<N>>>,
-    pub middle_row: Ends<Question<N>>,
-    pub outer_rows: Vec<Ends<Parcel<N>>>,
-    pub outer_bundles: Vec<Ends<Parcel<N>>>,
-    pub outer_takers: Vec<Consumer<Parcel<N>>>,
+    pub middle_row: Ends<SlowPathRequest<N>>,
+    pub outer_rows: Vec<Ends<EgressPacket<N>>>,
+    pub outer_bundles: Vec<Ends<EgressPacket<N>>>,
+    pub outer_takers: Vec<Consumer<EgressPacket<N>>>,
     pub shares: Vec<Share<N>>,
     pub sent: Vec<u128>,
     pub sources: Vec<S>,
@@ -86,24 +86,24 @@ fn rows_of<T: Drop>(alloc: Global, workers: usize, pipes: usize) -> Result<Vec<E
 }
 
 /// Room for the workers of a router with so many links and processors.
-pub fn berths_for<N, S, K, G, R>(
+pub fn worker_slots_for<N, S, K, G, R>(
     alloc: Global,
     links: usize,
     processors: usize,
-) -> Result<Berths<N, S, K, G, R>, AllocError>
+) -> Result<WorkerSlots<N, S, K, G, R>, AllocError>
 where
     N: Router,
     S: Source + Drop,
     K: Sink + Drop,
     G: Gate + Drop,
     R: Wait + Copy,
-    ensures { IfOk result (λ r. HaveBerths links processors r) }
+    ensures { IfOk result (λ r. HaveWorkerSlots links processors r) }
 {
     let receivers = Vec::<Receiver<N, R, S>>::with_capacity(alloc, links)?;
     let workers = Vec::<Processor<N, R, G>>::with_capacity(alloc, processors)?;
     let slow = Vec::<SlowPath<N, R>>::with_capacity(alloc, 1)?;
     let forwarders = Vec::<Forwarder<N, R, K>>::with_capacity(alloc, links)?;
-    Ok(Berths {
+    Ok(WorkerSlots {
         receivers,
         processors: workers,
         slow,
@@ -125,8 +125,8 @@ pub fn space_for<N: Router, S: Drop, K: Drop>(
     let inner_takers = Vec::<Consumer<Packet<N>>>::with_capacity(alloc, processors)?;
     let middle_row = Ends::with_room(alloc, processors)?;
     let outer_rows = rows_of(alloc, processors + 2, 2 * links)?;
-    let outer_bundles = Vec::<Ends<Parcel<N>>>::with_capacity(alloc, processors + 2)?;
-    let outer_takers = Vec::<Consumer<Parcel<N>>>::with_capacity(alloc, 2 * links)?;
+    let outer_bundles = Vec::<Ends<EgressPacket<N>>>::with_capacity(alloc, processors + 2)?;
+    let outer_takers = Vec::<Consumer<EgressPacket<N>>>::with_capacity(alloc, 2 * links)?;
     let shares = Vec::<Share<N>>::with_capacity(alloc, 2 * links + processors + 1)?;
     let sent = Vec::<u128>::with_capacity(alloc, links)?;
     let sources = Vec::<S>::with_capacity(alloc, links)?;

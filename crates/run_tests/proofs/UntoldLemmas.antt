@@ -1,6 +1,6 @@
 -- Lists of devices that have told nothing yet.
 use Rattle.std.proofs.Common.{◌≡◌, List, [], ◌∷◌, ◌++◌, ◌∙◌, sym, subst, Option, Some}
-use Rattle.pipe_order.specs.Deeds.{Each}
+use Rattle.pipeline_laws.specs.Deeds.{Each}
 use Rattle.router_laws.specs.Heard.{ToldNothing}
 
 module _ {X T : Type 0} (told : X → Option (List T)) where

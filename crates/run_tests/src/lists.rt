@@ -1,7 +1,7 @@
 //! An urgent datagram, and devices over lists.
 
 ghost use Rattle.std.specs.Prelude.{◌≡◌, IfOk};
-ghost use Rattle.pipe_order.specs.Deeds.{Each};
+ghost use Rattle.pipeline_laws.specs.Deeds.{Each};
 ghost use Rattle.router_laws.specs.Heard.{ToldNothing};
 
 use stage_parts::{ListSink, ListSource, Next};

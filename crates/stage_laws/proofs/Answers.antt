@@ -5,21 +5,21 @@ use Rattle.ruled_pipe.specs.declared.entry.Entry.{Entry}
 use Rattle.ruled_pipe.specs.declared.entry.Load.TheVariants.{Payload}
 use Rattle.ruled_pipe.specs.Producer.{Sender, entry, offered, refused}
 use Rattle.ruled_pipe.specs.Consumer.{Taker, took, looked}
-use Rattle.pipe_order.specs.Kinds.{Kinds}
-use Rattle.pipe_order.specs.Item.{Outgoing, Out}
-use Rattle.pipe_order.specs.Rules.{Rules, Reply, Replies, Withholds}
-use Rattle.pipe_order.specs.World.{home}
-use Rattle.pipe_order.specs.Deeds.{payload_of, payloads, Ending, Accepted, Refused, Counted, Deed}
-use Rattle.pipe_order.specs.Settled.{if_so, Question}
-use Rattle.pipe_order.specs.Counted.{place_of}
-use Rattle.pipe_order.proofs.Turns.{each_more}
+use Rattle.pipeline_laws.specs.Kinds.{Kinds}
+use Rattle.pipeline_laws.specs.Item.{Outgoing, Out}
+use Rattle.pipeline_laws.specs.Rules.{Rules, Reply, Replies, Withholds}
+use Rattle.pipeline_laws.specs.World.{home}
+use Rattle.pipeline_laws.specs.Deeds.{payload_of, payloads, Ending, Accepted, Refused, Counted, Deed}
+use Rattle.pipeline_laws.specs.Settled.{if_so, SlowPathRequest}
+use Rattle.pipeline_laws.specs.Counted.{place_of}
+use Rattle.pipeline_laws.proofs.Turns.{each_more}
 use Rattle.stage_laws.specs.Ends.{load_in, pushes, refusals_in, IsGrown}
 use Rattle.stage_laws.specs.Marks.{EachHasTried}
 use Rattle.stage_laws.specs.Works.{SentOn, TurnedAway, deed, LacksNothing}
 use Rattle.stage_laws.specs.Answers.{answer_to, replied_out, to_back, is_answered, IsAnswered, IsWithheld, Answered, KeepsAnswers}
 use Rattle.stage_laws.proofs.Works.{set_length, got_same, got_other, a_default, grown_none, grown_yes, grown_no, grown_tells, tried_tells, taken_more, items_more}
 
-module _ {K : Kinds} (R : Rules K) (x : Question K) (old : List (Sender (Outgoing K))) where
+module _ {K : Kinds} (R : Rules K) (x : SlowPathRequest K) (old : List (Sender (Outgoing K))) where
   module _ (k l : ℕ) (y : K.Parcel) (replies : R.reply x.arrival x.problem ≡ Replies l y) (at : home R (Out (answer_to x l y)) ≡ place_of R k) (some : 0 < length old) where
     abbrev d : Sender (Outgoing K)
     d = a_default old some
@@ -33,14 +33,14 @@ module _ {K : Kinds} (R : Rules K) (x : Question K) (old : List (Sender (Outgoin
     to : (j : ℕ) (b : Bool) → eqb (home R (Out o)) (place_of R j) ≡ b → to_back R (place_of R j) x ≡ if_so b (o ∷ [])
     to j b q = ap (λ (r : Reply K). replied_out R (place_of R j) x r) replies ∙ ap (λ (c : Bool). if_so c (o ∷ [])) q
 
-    one : (e : Ending K.Reason) (t : Sender (Outgoing K)) → IsGrown (to_back R (place_of R k)) (deed x e) s t → (j : ℕ) (u : Sender (Outgoing K)) → slice_get (slice_set old k t) j ≡ Some u
+    one : (e : Ending K.RuleCause) (t : Sender (Outgoing K)) → IsGrown (to_back R (place_of R k)) (deed x e) s t → (j : ℕ) (u : Sender (Outgoing K)) → slice_get (slice_set old k t) j ≡ Some u
         → (j ≡ k) ⊎ (j ≡ k → ⊥) → (w : Sender (Outgoing K)) × (slice_get old j ≡ Some w) × IsGrown (to_back R (place_of R j)) (deed x e) w u
     one e t g j u q (inl same) =
         let w = got_same old k t u d (subst (λ (i : ℕ). slice_get (slice_set old k t) i ≡ Some u) same q) in
         subst (λ (i : ℕ). (w : Sender (Outgoing K)) × (slice_get old i ≡ Some w) × IsGrown (to_back R (place_of R i)) (deed x e) w u) (sym same)
         (s, w.1, subst (λ (z : Sender (Outgoing K)). IsGrown (to_back R (place_of R k)) (deed x e) s z) w.0 g)
     one e t g j u q (inr other) =
-        (u, got_other old k j t u other q, grown_none K.Reason (to_back R (place_of R j)) x u e (to j false (ne_eqb (home R (Out o)) (place_of R j) (λ z. let w = sym at ∙ z in other (omega arith)))))
+        (u, got_other old k j t u other q, grown_none K.RuleCause (to_back R (place_of R j)) x u e (to j false (ne_eqb (home R (Out o)) (place_of R j) (λ z. let w = sym at ∙ z in other (omega arith)))))
 
     made : to_back R (place_of R k) x ≡ o ∷ []
     made = to k true (eq-eqb (home R (Out o)) (place_of R k) at)
@@ -50,7 +50,7 @@ module _ {K : Kinds} (R : Rules K) (x : Question K) (old : List (Sender (Outgoin
       just = tt;
       answered = subst is_answered (sym replies) tt;
       ample = tt;
-      links = λ j t got. one Accepted (offered s (entry s.number (Payload o))) (grown_yes K.Reason (to_back R (place_of R k)) x s o made) j t (subst (λ (xs : List (Sender (Outgoing K))). slice_get xs j ≡ Some t) (sent d) got) (cases_eq j k);
+      links = λ j t got. one Accepted (offered s (entry s.number (Payload o))) (grown_yes K.RuleCause (to_back R (place_of R k)) x s o made) j t (subst (λ (xs : List (Sender (Outgoing K))). slice_get xs j ≡ Some t) (sent d) got) (cases_eq j k);
       same = ap length (sent d) ∙ set_length old k (offered s (entry s.number (Payload o)));
     }
 
@@ -59,22 +59,22 @@ module _ {K : Kinds} (R : Rules K) (x : Question K) (old : List (Sender (Outgoin
       just = tt;
       answered = subst is_answered (sym replies) tt;
       ample = tt;
-      links = λ j t got. one Refused (refused s (entry s.number (Payload o))) (grown_no K.Reason (to_back R (place_of R k)) x s o made) j t (subst (λ (xs : List (Sender (Outgoing K))). slice_get xs j ≡ Some t) (sent d) got) (cases_eq j k);
+      links = λ j t got. one Refused (refused s (entry s.number (Payload o))) (grown_no K.RuleCause (to_back R (place_of R k)) x s o made) j t (subst (λ (xs : List (Sender (Outgoing K))). slice_get xs j ≡ Some t) (sent d) got) (cases_eq j k);
       same = ap length (sent d) ∙ set_length old k (refused s (entry s.number (Payload o)));
     }
 
-  pub did_withhold : (c : K.Reason) → R.reply x.arrival x.problem ≡ Withholds c → Answered R (deed x (Counted c)) old old
+  pub did_withhold : (c : K.RuleCause) → R.reply x.arrival x.problem ≡ Withholds c → Answered R (deed x (Counted c)) old old
   did_withhold c withholds = record {
     just = withholds;
     answered = tt;
     ample = tt;
-    links = λ j t at. (t, at, grown_none K.Reason (to_back R (place_of R j)) x t (Counted c) (ap (λ (r : Reply K). replied_out R (place_of R j) x r) withholds));
+    links = λ j t at. (t, at, grown_none K.RuleCause (to_back R (place_of R j)) x t (Counted c) (ap (λ (r : Reply K). replied_out R (place_of R j) x r) withholds));
     same = refl;
   }
 
 module _ {K : Kinds} (R : Rules K) where
   -- nothing is done yet
-  pub answers_none : (taker : Taker (Question K)) (senders : List (Sender (Outgoing K))) → taker.taken ≡ [] → ((j : ℕ) (s : Sender (Outgoing K)) → slice_get senders j ≡ Some s → (s.offers ≡ []) × (s.refusals ≡ [])) → KeepsAnswers R [] taker senders
+  pub answers_none : (taker : Taker (SlowPathRequest K)) (senders : List (Sender (Outgoing K))) → taker.taken ≡ [] → ((j : ℕ) (s : Sender (Outgoing K)) → slice_get senders j ≡ Some s → (s.offers ≡ []) × (s.refusals ≡ [])) → KeepsAnswers R [] taker senders
   answers_none taker senders untaken fresh = record {
     took = ap (λ es. payloads (pushes es)) untaken;
     just = tt;
@@ -83,18 +83,18 @@ module _ {K : Kinds} (R : Rules K) where
     links = λ j s at. let f = fresh j s at in (ap (λ es. payloads (pushes es)) f.0, ap refusals_in f.1);
   }
 
-  -- a question is taken and worked on
-  pub answers_did : (log : List (Deed K.Reason (Question K))) (d : Deed K.Reason (Question K)) (e : Entry (Question K)) (taker : Taker (Question K)) (old new : List (Sender (Outgoing K))) → payload_of (load_in e.load) ≡ d.item ∷ [] → KeepsAnswers R log taker old → Answered R d old new → KeepsAnswers R (log ++ d ∷ []) (took taker e) new
+  -- a request is taken and worked on
+  pub answers_did : (log : List (Deed K.RuleCause (SlowPathRequest K))) (d : Deed K.RuleCause (SlowPathRequest K)) (e : Entry (SlowPathRequest K)) (taker : Taker (SlowPathRequest K)) (old new : List (Sender (Outgoing K))) → payload_of (load_in e.load) ≡ d.item ∷ [] → KeepsAnswers R log taker old → Answered R d old new → KeepsAnswers R (log ++ d ∷ []) (took taker e) new
   answers_did log d e taker old new is k w = record {
     took = taken_more taker.taken e ∙ ap (λ ys. payloads (pushes taker.taken) ++ ys) is ∙ ap (λ ys. ys ++ d.item ∷ []) k.took ∙ sym (items_more log d);
     just = each_more (IsWithheld R) log (d) k.just w.just;
     answered = each_more (IsAnswered R) log (d) k.answered w.answered;
-    ample = each_more (λ (d : Deed K.Reason (Question K)). LacksNothing d.end) log (d) k.ample w.ample;
+    ample = each_more (λ (d : Deed K.RuleCause (SlowPathRequest K)). LacksNothing d.end) log (d) k.ample w.ample;
     links = λ j t at. let u = w.links j t at in grown_tells (to_back R (place_of R j)) log (d) u.0 t (k.links j u.0 u.1) u.2;
   }
 
   -- a mark is no deed
-  pub answers_mark : (log : List (Deed K.Reason (Question K))) (e : Entry (Question K)) (taker : Taker (Question K)) (senders : List (Sender (Outgoing K))) → payload_of (load_in e.load) ≡ [] → KeepsAnswers R log taker senders → KeepsAnswers R log (took taker e) senders
+  pub answers_mark : (log : List (Deed K.RuleCause (SlowPathRequest K))) (e : Entry (SlowPathRequest K)) (taker : Taker (SlowPathRequest K)) (senders : List (Sender (Outgoing K))) → payload_of (load_in e.load) ≡ [] → KeepsAnswers R log taker senders → KeepsAnswers R log (took taker e) senders
   answers_mark log e taker senders is k = record {
     took = taken_more taker.taken e ∙ ap (λ ys. payloads (pushes taker.taken) ++ ys) is ∙ append-nil (payloads (pushes taker.taken)) ∙ k.took;
     just = k.just;
@@ -104,11 +104,11 @@ module _ {K : Kinds} (R : Rules K) where
   }
 
   -- an empty look is none
-  pub answers_looked : (log : List (Deed K.Reason (Question K))) (taker : Taker (Question K)) (senders : List (Sender (Outgoing K))) → KeepsAnswers R log taker senders → KeepsAnswers R log (looked taker) senders
+  pub answers_looked : (log : List (Deed K.RuleCause (SlowPathRequest K))) (taker : Taker (SlowPathRequest K)) (senders : List (Sender (Outgoing K))) → KeepsAnswers R log taker senders → KeepsAnswers R log (looked taker) senders
   answers_looked log taker senders k = record { took = k.took; just = k.just; answered = k.answered; ample = k.ample; links = k.links }
 
   -- marks that were tried are none
-  pub answers_tried : (log : List (Deed K.Reason (Question K))) (taker : Taker (Question K)) (old new : List (Sender (Outgoing K))) → EachHasTried old new → KeepsAnswers R log taker old → KeepsAnswers R log taker new
+  pub answers_tried : (log : List (Deed K.RuleCause (SlowPathRequest K))) (taker : Taker (SlowPathRequest K)) (old new : List (Sender (Outgoing K))) → EachHasTried old new → KeepsAnswers R log taker old → KeepsAnswers R log taker new
   answers_tried log taker old new tried k = record {
     took = k.took;
     just = k.just;

@@ -1,19 +1,19 @@
 -- What workers that have ended counted, cause by cause.
 use Rattle.std.proofs.Common.{◌≡◌, inl, inr, ℕ, zero, suc, ◌+◌, ◌*◌, ◌<◌, Bool, true, false, not, ◌&&◌, cond, List, [], ◌∷◌, ◌++◌, map, length, refl, sym, ◌∙◌, ap, arith, length-append}
 use Rattle.std.specs.List.{flat_map}
-use Rattle.pipe_order.specs.Kinds.{Kinds}
-use Rattle.pipe_order.specs.Item.{Arrival, Outgoing}
-use Rattle.pipe_order.specs.Rules.{Rules, Decision, Sends, Asks, Drops, IsLawful}
-use Rattle.pipe_order.specs.World.{Cause, link_pipe}
-use Rattle.pipe_order.specs.Sent.{IsMerge}
-use Rattle.pipe_order.specs.Counts.{total, count}
-use Rattle.pipe_order.specs.Deeds.{Pushed, payloads, from_mark, Each, Ending, Accepted, Refused, Lacked, Counted, Deed, if_refused, done_items, refused}
-use Rattle.pipe_order.specs.Settled.{Question, to_processor, to_link, to_slow, asked_of, Views, told, IsTold}
-use Rattle.pipe_order.specs.Counted.{sum_to, unsent, unsent_by, is_offer, IsOne, no_side, SlowViews, Tallied, place_of, link_pipes, full_processors, full_slow, IsCounted}
-use Rattle.pipe_order.proofs.Counted.{sum_below, sum_add, sum_zero, counts_once}
-use Rattle.pipe_order.proofs.Stages.{each_map}
-use Rattle.pipe_order.proofs.SettledOrder.{each_both}
-use Rattle.pipe_order.proofs.Sums.{total-append, count-total}
+use Rattle.pipeline_laws.specs.Kinds.{Kinds}
+use Rattle.pipeline_laws.specs.Item.{Arrival, Outgoing}
+use Rattle.pipeline_laws.specs.Rules.{Rules, Decision, Sends, Asks, Drops, IsLawful}
+use Rattle.pipeline_laws.specs.World.{Cause, link_pipe}
+use Rattle.pipeline_laws.specs.Sent.{IsMerge}
+use Rattle.pipeline_laws.specs.Counts.{total, count}
+use Rattle.pipeline_laws.specs.Deeds.{Pushed, payloads, from_mark, Each, Ending, Accepted, Refused, Lacked, Counted, Deed, if_refused, done_items, refused}
+use Rattle.pipeline_laws.specs.Settled.{SlowPathRequest, to_processor, to_link, to_slow, asked_of, Views, told, IsTold}
+use Rattle.pipeline_laws.specs.Counted.{sum_to, unsent, unsent_by, is_offer, IsOne, no_side, SlowViews, Tallied, place_of, link_pipes, full_processors, full_slow, IsCounted}
+use Rattle.pipeline_laws.proofs.Counted.{sum_below, sum_add, sum_zero, counts_once}
+use Rattle.pipeline_laws.proofs.Stages.{each_map}
+use Rattle.pipeline_laws.proofs.SettledOrder.{each_both}
+use Rattle.pipeline_laws.proofs.Sums.{total-append, count-total}
 use Rattle.stage_laws.specs.Receives.{lacks, was_lacked}
 use Rattle.stage_laws.specs.Works.{leaves, IsOffered, LacksNothing}
 use Rattle.stage_laws.specs.Answers.{to_back}
@@ -83,10 +83,10 @@ module _ {K : Kinds} (test : Count K → Bool) where
   abbrev f : Count K → ℕ
   f k = cond (test k) 1 0
 
-  abbrev ruled : K.Reason → Bool
+  abbrev ruled : K.RuleCause → Bool
   ruled c = test (Dropped (Cause.Ruled c))
 
-  dropped_are : (full without : Cause K) (o : Ending K.Reason) → total f (dropped_by full without o) ≡ when (test (Dropped full)) (was_turned o) + when (test (Dropped without)) (was_lacked o) + was_counted ruled o
+  dropped_are : (full without : Cause K) (o : Ending K.RuleCause) → total f (dropped_by full without o) ≡ when (test (Dropped full)) (was_turned o) + when (test (Dropped without)) (was_lacked o) + was_counted ruled o
   dropped_are full without Accepted = let a = when_zero (test (Dropped full)) in let b = when_zero (test (Dropped without)) in omega arith
   dropped_are full without Refused = let b = when_zero (test (Dropped without)) in omega arith
   dropped_are full without Lacked = let a = when_zero (test (Dropped full)) in omega arith
@@ -94,7 +94,7 @@ module _ {K : Kinds} (test : Count K → Bool) where
 
   -- ---- a receiver
 
-  receiving : (R : Rules K) (log : List (Deed K.Reason (Arrival K))) → Each (IsOne R.processors (to_processor R) (no_side {X = Arrival K} {Y = Question K})) log
+  receiving : (R : Rules K) (log : List (Deed K.RuleCause (Arrival K))) → Each (IsOne R.processors (to_processor R) (no_side {X = Arrival K} {Y = SlowPathRequest K})) log
       → total f (counted_receiving log) ≡ when (test Received) (length log) + when (test (Dropped Cause.ProcessorFull)) (sum_to R.processors (λ i. length (flat_map (refused (to_processor R i)) log)))
       + when (test (Dropped Cause.NoBuffer)) (lacks log) + counted_in ruled log
   receiving R [] one =
@@ -105,7 +105,7 @@ module _ {K : Kinds} (test : Count K → Bool) where
   receiving R (d ∷ log) one =
       let r = receiving R log one.1 in
       let t = turned_is R.processors (to_processor R) d.item d.end one.0 in
-      let g = turned_more R.processors (to_processor R) (no_side {X = Arrival K} {Y = Question K}) d log in
+      let g = turned_more R.processors (to_processor R) (no_side {X = Arrival K} {Y = SlowPathRequest K}) d log in
       let here = dropped_are Cause.ProcessorFull Cause.NoBuffer d.end in
       let all = total-append f (receiver_counts d) (counted_receiving log) in
       let a = when_add (test Received) 1 (length log) in
@@ -119,10 +119,10 @@ module _ {K : Kinds} (test : Count K → Bool) where
   -- ---- a processor
 
   module _ (R : Rules K) where
-    abbrev links_turned : List (Deed K.Reason (Arrival K)) → ℕ
+    abbrev links_turned : List (Deed K.RuleCause (Arrival K)) → ℕ
     links_turned log = sum_to (link_pipes R) (λ j. length (flat_map (refused (to_link R (place_of R j))) log))
 
-    worked_once : (x : Arrival K) (o : Ending K.Reason) (r : Decision K) → is_offer o (sum_to (link_pipes R) (λ j. length (to_link R (place_of R j) x)) + length (asked_of x r) ≡ 1) → LacksNothing o → is_offer o (leaves r)
+    worked_once : (x : Arrival K) (o : Ending K.RuleCause) (r : Decision K) → is_offer o (sum_to (link_pipes R) (λ j. length (to_link R (place_of R j) x)) + length (asked_of x r) ≡ 1) → LacksNothing o → is_offer o (leaves r)
         → total f (dropped_by (full_by r) Cause.NoMemory o)
         ≡ when (test (Dropped Cause.LinkFull)) (sum_to (link_pipes R) (λ j. length (if_refused o (to_link R (place_of R j) x)))) + when (test (Dropped Cause.AnswerFull)) (length (if_refused o (asked_of x r))) + was_counted ruled o
     worked_once x Accepted r one ample offers =
@@ -139,10 +139,10 @@ module _ {K : Kinds} (test : Count K → Bool) where
         let a = ap (when (test (Dropped Cause.LinkFull))) (sum_zero (link_pipes R)) ∙ when_zero (test (Dropped Cause.LinkFull)) in let b = when_zero (test (Dropped Cause.AnswerFull)) in omega arith
 
     -- what a processor's deeds are
-    abbrev IsWhole : Deed K.Reason (Arrival K) → Type 0
+    abbrev IsWhole : Deed K.RuleCause (Arrival K) → Type 0
     IsWhole d = IsOne (link_pipes R) (λ j. to_link R (place_of R j)) (to_slow R) d × LacksNothing d.end × IsOffered R d
 
-    working : (log : List (Deed K.Reason (Arrival K))) → Each IsWhole log
+    working : (log : List (Deed K.RuleCause (Arrival K))) → Each IsWhole log
         → total f (counted_working R log) ≡ when (test (Dropped Cause.LinkFull)) (links_turned log) + when (test (Dropped Cause.AnswerFull)) (length (flat_map (refused (to_slow R)) log)) + counted_in ruled log
     working [] whole =
         let a = ap (when (test (Dropped Cause.LinkFull))) (sum_zero (link_pipes R)) ∙ when_zero (test (Dropped Cause.LinkFull)) in let b = when_zero (test (Dropped Cause.AnswerFull)) in omega arith
@@ -159,13 +159,13 @@ module _ {K : Kinds} (test : Count K → Bool) where
 
     -- ---- the slow path
 
-    abbrev answers_turned : List (Deed K.Reason (Question K)) → ℕ
+    abbrev answers_turned : List (Deed K.RuleCause (SlowPathRequest K)) → ℕ
     answers_turned log = sum_to (link_pipes R) (λ j. length (flat_map (refused (to_back R (place_of R j))) log))
 
-    abbrev IsWholeAnswer : Deed K.Reason (Question K) → Type 0
-    IsWholeAnswer d = IsOne (link_pipes R) (λ j. to_back R (place_of R j)) (no_side {X = Question K} {Y = Question K}) d × LacksNothing d.end
+    abbrev IsWholeAnswer : Deed K.RuleCause (SlowPathRequest K) → Type 0
+    IsWholeAnswer d = IsOne (link_pipes R) (λ j. to_back R (place_of R j)) (no_side {X = SlowPathRequest K} {Y = SlowPathRequest K}) d × LacksNothing d.end
 
-    answered_once : (x : Question K) (o : Ending K.Reason) → is_offer o (sum_to (link_pipes R) (λ j. length (to_back R (place_of R j) x)) + 0 ≡ 1) → LacksNothing o
+    answered_once : (x : SlowPathRequest K) (o : Ending K.RuleCause) → is_offer o (sum_to (link_pipes R) (λ j. length (to_back R (place_of R j) x)) + 0 ≡ 1) → LacksNothing o
         → total f (dropped_by Cause.LinkFull Cause.NoMemory o) ≡ when (test (Dropped Cause.LinkFull)) (sum_to (link_pipes R) (λ j. length (if_refused o (to_back R (place_of R j) x)))) + was_counted ruled o
     answered_once x Accepted one ample = let a = ap (when (test (Dropped Cause.LinkFull))) (sum_zero (link_pipes R)) ∙ when_zero (test (Dropped Cause.LinkFull)) in omega arith
     answered_once x Refused one ample =
@@ -174,12 +174,12 @@ module _ {K : Kinds} (test : Count K → Bool) where
     answered_once x Lacked one ample = absurd ample
     answered_once x (Counted c) one ample = let a = ap (when (test (Dropped Cause.LinkFull))) (sum_zero (link_pipes R)) ∙ when_zero (test (Dropped Cause.LinkFull)) in omega arith
 
-    answering : (log : List (Deed K.Reason (Question K))) → Each IsWholeAnswer log → total f (counted_answering log) ≡ when (test (Dropped Cause.LinkFull)) (answers_turned log) + counted_in ruled log
+    answering : (log : List (Deed K.RuleCause (SlowPathRequest K))) → Each IsWholeAnswer log → total f (counted_answering log) ≡ when (test (Dropped Cause.LinkFull)) (answers_turned log) + counted_in ruled log
     answering [] whole = let a = ap (when (test (Dropped Cause.LinkFull))) (sum_zero (link_pipes R)) ∙ when_zero (test (Dropped Cause.LinkFull)) in omega arith
     answering (d ∷ log) whole =
         let r = answering log whole.1 in
         let here = answered_once d.item d.end whole.0.0 whole.0.1 in
-        let g = turned_more (link_pipes R) (λ j. to_back R (place_of R j)) (no_side {X = Question K} {Y = Question K}) d log in
+        let g = turned_more (link_pipes R) (λ j. to_back R (place_of R j)) (no_side {X = SlowPathRequest K} {Y = SlowPathRequest K}) d log in
         let all = total-append f (slow_counts d) (counted_answering log) in
         let one = sum_to (link_pipes R) (λ j. length (refused (to_back R (place_of R j)) d)) in
         let a = ap (when (test (Dropped Cause.LinkFull))) g ∙ when_add (test (Dropped Cause.LinkFull)) one (answers_turned log) in
@@ -297,14 +297,14 @@ module _ {K : Kinds} where
       go (h ∷ xs) = let r = go xs in let o = one h.took h.item.answer in omega arith
 
 module _ {K : Kinds} (R : Rules K) (v : Views K) (s : SlowViews K) (went : ℕ → List (Handed K)) (closed : ℕ → Bool) (lawful : IsLawful R (IsTold v)) (e : Ended R v s went closed) where
-  receiver_one : (p : ℕ) → p < R.links → Each (IsOne R.processors (to_processor R) (no_side {X = Arrival K} {Y = Question K})) (v.received p)
-  receiver_one p lt = each_map (λ d h. one_of R.processors (to_processor R) (no_side {X = Arrival K} {Y = Question K}) d h) (v.received p) ((weighed R v s went closed lawful e (λ a n. 1)).receivers p lt)
+  receiver_one : (p : ℕ) → p < R.links → Each (IsOne R.processors (to_processor R) (no_side {X = Arrival K} {Y = SlowPathRequest K})) (v.received p)
+  receiver_one p lt = each_map (λ d h. one_of R.processors (to_processor R) (no_side {X = Arrival K} {Y = SlowPathRequest K}) d h) (v.received p) ((weighed R v s went closed lawful e (λ a n. 1)).receivers p lt)
 
   worker_one : (i : ℕ) → i < R.processors → Each (IsOne (link_pipes R) (λ j. to_link R (place_of R j)) (to_slow R)) (v.worked i)
   worker_one i lt = each_map (λ d h. one_of (link_pipes R) (λ j. to_link R (place_of R j)) (to_slow R) d h) (v.worked i) ((weighed R v s went closed lawful e (λ a n. 1)).workers i lt)
 
-  slow_one : Each (IsOne (link_pipes R) (λ j. to_back R (place_of R j)) (no_side {X = Question K} {Y = Question K})) s.worked
-  slow_one = each_map (λ d h. one_of (link_pipes R) (λ j. to_back R (place_of R j)) (no_side {X = Question K} {Y = Question K}) d h) s.worked ((weighed R v s went closed lawful e (λ a n. 1)).slow)
+  slow_one : Each (IsOne (link_pipes R) (λ j. to_back R (place_of R j)) (no_side {X = SlowPathRequest K} {Y = SlowPathRequest K})) s.worked
+  slow_one = each_map (λ d h. one_of (link_pipes R) (λ j. to_back R (place_of R j)) (no_side {X = SlowPathRequest K} {Y = SlowPathRequest K}) d h) s.worked ((weighed R v s went closed lawful e (λ a n. 1)).slow)
 
   pub tallied : Tallied R v s
   tallied =
@@ -328,7 +328,7 @@ module _ {K : Kinds} (R : Rules K) (v : Views K) (s : SlowViews K) (went : ℕ �
   once = counts_once K R v s tallied
 
   module _ (test : Count K → Bool) where
-    abbrev ruled_by : K.Reason → Bool
+    abbrev ruled_by : K.RuleCause → Bool
     ruled_by c = test (Dropped (Cause.Ruled c))
 
     received_all : sum_to R.links (λ p. count test (counted_receiving (v.received p)))
@@ -366,11 +366,11 @@ module _ {K : Kinds} (R : Rules K) (v : Views K) (s : SlowViews K) (went : ℕ �
         one i lt =
             let law = e.settled.workers i lt in
             let a = count-total test (counted_working R (v.worked i)) in
-            let ample = each_both (λ (d : Deed K.Reason (Arrival K)). LacksNothing d.end) (IsOffered R) (v.worked i) (e.unlacked i lt) (e.offered i lt) in
-            let whole = each_map (λ (d : Deed K.Reason (Arrival K)) h. (h.0, h.1.0, h.1.1)) (v.worked i) (each_both _ _ (v.worked i) (worker_one i lt) ample) in
+            let ample = each_both (λ (d : Deed K.RuleCause (Arrival K)). LacksNothing d.end) (IsOffered R) (v.worked i) (e.unlacked i lt) (e.offered i lt) in
+            let whole = each_map (λ (d : Deed K.RuleCause (Arrival K)) h. (h.0, h.1.0, h.1.1)) (v.worked i) (each_both _ _ (v.worked i) (worker_one i lt) ample) in
             let b = working test R (v.worked i) whole in
             let c = ap (when (test (Dropped Cause.LinkFull))) (sum_below (link_pipes R) (λ j. length (v.leaving_full i (place_of R j))) (λ j. length (flat_map (refused (to_link R (place_of R j))) (v.worked i))) (λ j below. ap length (law.tells (place_of R j) (omega arith, omega arith)).1)) in
-            let g = ap (λ (xs : List (Question K)). when (test (Dropped Cause.AnswerFull)) (length xs)) law.slow.1 in
+            let g = ap (λ (xs : List (SlowPathRequest K)). when (test (Dropped Cause.AnswerFull)) (length xs)) law.slow.1 in
             omega arith
 
     answered_all : count test (counted_answering s.worked) ≡ when (test (Dropped Cause.LinkFull)) (sum_to (link_pipes R) (λ j. length (s.leaving_full (place_of R j)))) + counted_in ruled_by s.worked
@@ -407,8 +407,8 @@ module _ {K : Kinds} (R : Rules K) (v : Views K) (s : SlowViews K) (went : ℕ �
             let j = when_add (test (Dropped Cause.Closed)) (length (v.swept (place_of R (2 * l)))) (length (v.swept (place_of R (2 * l + 1)))) in
             let at_low : link_pipe R false l ≡ place_of R (2 * l) = omega arith in
             let at_high : link_pipe R true l ≡ place_of R (2 * l + 1) = omega arith in
-            let m = ap (λ (xs : List (Outgoing K)). when (test (Dropped Cause.Closed)) (length xs)) (sym (e.settled.forwarders (link_pipe R false l) (omega arith, omega arith)).behind ∙ ap v.swept at_low) in
-            let n = ap (λ (xs : List (Outgoing K)). when (test (Dropped Cause.Closed)) (length xs)) (sym (e.settled.forwarders (link_pipe R true l) (omega arith, omega arith)).behind ∙ ap v.swept at_high) in
+            let m = ap (λ (xs : List (Outgoing K)). when (test (Dropped Cause.Closed)) (length xs)) (sym (e.settled.forwarders (link_pipe R false l) (omega arith, omega arith)).after ∙ ap v.swept at_low) in
+            let n = ap (λ (xs : List (Outgoing K)). when (test (Dropped Cause.Closed)) (length xs)) (sym (e.settled.forwarders (link_pipe R true l) (omega arith, omega arith)).after ∙ ap v.swept at_high) in
             omega arith
 
     pub by_causes : all_counts R v s went test ≡ by_cause R v s went test

@@ -3,14 +3,14 @@ use Rattle.std.proofs.Common.{◌≡◌, ◌⊎◌, inl, inr, ℕ, zero, suc, �
 use Rattle.std.specs.List.{flat_map}
 use Rattle.std.proofs.lemmas.Bool.{cases_eq, lt-ltb}
 use Rattle.ruled_pipe.specs.Producer.{Sender}
-use Rattle.pipe_order.specs.Kinds.{Kinds}
-use Rattle.pipe_order.specs.Item.{Arrival, Outgoing}
-use Rattle.pipe_order.specs.Rules.{Rules, Reply, Replies, Withholds}
-use Rattle.pipe_order.specs.World.{link_pipe, slow_seat}
-use Rattle.pipe_order.specs.Deeds.{Pushed, payloads, of_producer, has_mark, Each, Deed, done_items, accepted, Tells}
-use Rattle.pipe_order.specs.Settled.{Question, if_so, to_link, IsLinkPipe, ReceiverLaw, ProcessorLaw, Views, Settled}
-use Rattle.pipe_order.specs.Counted.{place_of, link_pipes}
-use Rattle.pipe_order.proofs.SettledOrder.{each_join}
+use Rattle.pipeline_laws.specs.Kinds.{Kinds}
+use Rattle.pipeline_laws.specs.Item.{Arrival, Outgoing}
+use Rattle.pipeline_laws.specs.Rules.{Rules, Reply, Replies, Withholds}
+use Rattle.pipeline_laws.specs.World.{link_pipe, slow_seat}
+use Rattle.pipeline_laws.specs.Deeds.{Pushed, payloads, of_producer, has_mark, Each, Deed, done_items, accepted, Tells}
+use Rattle.pipeline_laws.specs.Settled.{SlowPathRequest, if_so, to_link, IsLinkPipe, ReceiverLaw, ProcessorLaw, Views, Settled}
+use Rattle.pipeline_laws.specs.Counted.{place_of, link_pipes}
+use Rattle.pipeline_laws.proofs.SettledOrder.{each_join}
 use Rattle.stage_laws.specs.Ends.{pushes, refusals_in, EndTells}
 use Rattle.stage_laws.specs.Works.{IsOffered, LacksNothing}
 use Rattle.stage_laws.specs.Receives.{IsClear}
@@ -146,7 +146,7 @@ module _ {K : Kinds} where
       ap (λ (m : ℕ). passed_at (g ∷ fs) m) n ∙ passed_high fs l f at
 
   -- an answer says so
-  answers_say : (R : Rules K) (q : ℕ) (x : Question K) → Each (λ (o : Outgoing K). o.answer ≡ true) (to_back R q x)
+  answers_say : (R : Rules K) (q : ℕ) (x : SlowPathRequest K) → Each (λ (o : Outgoing K). o.answer ≡ true) (to_back R q x)
   answers_say R q x = go (R.reply x.arrival x.problem)
     where
       one : (b : Bool) (o : Outgoing K) → o.answer ≡ true → Each (λ (o : Outgoing K). o.answer ≡ true) (if_so b (o ∷ []))
@@ -157,7 +157,7 @@ module _ {K : Kinds} where
       go (Replies l y) = one _ _ refl
       go (Withholds c) = tt
 
-  each_answer : (R : Rules K) (q : ℕ) (log : List (Deed K.Reason (Question K))) → Each (λ (o : Outgoing K). o.answer ≡ true) (flat_map (accepted (to_back R q)) log)
+  each_answer : (R : Rules K) (q : ℕ) (log : List (Deed K.RuleCause (SlowPathRequest K))) → Each (λ (o : Outgoing K). o.answer ≡ true) (flat_map (accepted (to_back R q)) log)
   each_answer R q [] = tt
   each_answer R q (d ∷ log) = each_join (λ (o : Outgoing K). o.answer ≡ true) (accepted (to_back R q) d) (flat_map (accepted (to_back R q)) log) (each_accepted (λ (o : Outgoing K). o.answer ≡ true) d.end (to_back R q d.item) (answers_say R q d.item)) (each_answer R q log)
 
@@ -194,14 +194,14 @@ module _ {K : Kinds} where
         subst (λ (p : ℕ). Tells (makes p) log (at_place R (offers_at senders) q) (at_place R (refusals_at senders) q)) n
         (ap payloads (at_link (offers_at senders) q at ∙ offers_is senders j f.0 f.1) ∙ t.0, at_link (refusals_at senders) q at ∙ refusals_is senders j f.0 f.1 ∙ t.1)
 
-    law_as : (log log' : List (Deed K.Reason (Arrival K))) (tk tk' : List (Pushed (Arrival K))) (ls ls' : List (Sender (Outgoing K))) (qs qs' : List (Pushed (Question K))) (fs fs' : List (Question K)) → log' ≡ log → tk' ≡ tk → ls' ≡ ls → qs' ≡ qs → fs' ≡ fs
+    law_as : (log log' : List (Deed K.RuleCause (Arrival K))) (tk tk' : List (Pushed (Arrival K))) (ls ls' : List (Sender (Outgoing K))) (qs qs' : List (Pushed (SlowPathRequest K))) (fs fs' : List (SlowPathRequest K)) → log' ≡ log → tk' ≡ tk → ls' ≡ ls → qs' ≡ qs → fs' ≡ fs
         → ProcessorLaw R log tk (λ q. at_place R (offers_at ls) q) (λ q. at_place R (refusals_at ls) q) qs fs → ProcessorLaw R log' tk' (λ q. at_place R (offers_at ls') q) (λ q. at_place R (refusals_at ls') q) qs' fs'
     law_as log log' tk tk' ls ls' qs qs' fs fs' a b c d e law =
-        subst (λ (x : List (Deed K.Reason (Arrival K))). ProcessorLaw R x tk' (λ q. at_place R (offers_at ls') q) (λ q. at_place R (refusals_at ls') q) qs' fs') (sym a)
+        subst (λ (x : List (Deed K.RuleCause (Arrival K))). ProcessorLaw R x tk' (λ q. at_place R (offers_at ls') q) (λ q. at_place R (refusals_at ls') q) qs' fs') (sym a)
         (subst (λ (x : List (Pushed (Arrival K))). ProcessorLaw R log x (λ q. at_place R (offers_at ls') q) (λ q. at_place R (refusals_at ls') q) qs' fs') (sym b)
         (subst (λ (x : List (Sender (Outgoing K))). ProcessorLaw R log tk (λ q. at_place R (offers_at x) q) (λ q. at_place R (refusals_at x) q) qs' fs') (sym c)
-        (subst (λ (x : List (Pushed (Question K))). ProcessorLaw R log tk (λ q. at_place R (offers_at ls) q) (λ q. at_place R (refusals_at ls) q) x fs') (sym d)
-        (subst (λ (x : List (Question K)). ProcessorLaw R log tk (λ q. at_place R (offers_at ls) q) (λ q. at_place R (refusals_at ls) q) qs x) (sym e) law))))
+        (subst (λ (x : List (Pushed (SlowPathRequest K))). ProcessorLaw R log tk (λ q. at_place R (offers_at ls) q) (λ q. at_place R (refusals_at ls) q) x fs') (sym d)
+        (subst (λ (x : List (SlowPathRequest K)). ProcessorLaw R log tk (λ q. at_place R (offers_at ls) q) (λ q. at_place R (refusals_at ls) q) qs x) (sym e) law))))
 
 module _ {K : Kinds} (R : Rules K) (w : Workers K) (closed : ℕ → Bool) (h : HaveEnded R w closed) where
   abbrev v : Views K
@@ -229,7 +229,7 @@ module _ {K : Kinds} (R : Rules K) (w : Workers K) (closed : ℕ → Bool) (h : 
         just = k.0.just;
         tells = λ i below. let g = there r.senders i (let n = k.1 in omega arith) in let t = k.0.ends i g.0 g.1 in (ap payloads (offers_is r.senders i g.0 g.1) ∙ t.0, refusals_is r.senders i g.0 g.1 ∙ t.1);
       } in
-      subst (λ (x : List (Deed K.Reason (Arrival K))). ReceiverLaw R p x (v.arrived p) (v.arrived_full p)) (sym (read_is (λ (r : Receiver K). r.log) w.receivers p r f.1))
+      subst (λ (x : List (Deed K.RuleCause (Arrival K))). ReceiverLaw R p x (v.arrived p) (v.arrived_full p)) (sym (read_is (λ (r : Receiver K). r.log) w.receivers p r f.1))
       (subst (λ (x : List (Sender (Arrival K))). ReceiverLaw R p r.log (λ i. offers_at x i) (λ i. refusals_at x i)) (sym (read_is (λ (r : Receiver K). r.senders) w.receivers p r f.1)) law)
 
   workers : (i : ℕ) → i < R.processors → ProcessorLaw R (v.worked i) (v.taken i) (v.leaving i) (v.leaving_full i) (v.asked i) (v.asked_full i)
@@ -325,7 +325,7 @@ module _ {K : Kinds} (R : Rules K) (w : Workers K) (closed : ℕ → Bool) (h : 
   settled = record {
     receivers = receivers;
     workers = workers;
-    forwarders = λ q at. record { sent = refl; behind = refl; mark = refl };
+    forwarders = λ q at. record { sent = refl; after = refl; mark = refl };
     inner = inner;
     inner_only = inner_only;
     outer = outer;
@@ -374,8 +374,8 @@ module _ {K : Kinds} (R : Rules K) (w : Workers K) (closed : ℕ → Bool) (h : 
   pub has_ended : Ended R v (slow_views R w) (went_at w) closed
   has_ended = record {
     settled = settled;
-    clear = λ p lt. let f = receiver p lt in subst (λ (x : List (Deed K.Reason (Arrival K))). Each (IsClear R) x) (sym (read_is (λ (r : Receiver K). r.log) w.receivers p f.0 f.1)) (h.receivers p f.0 f.1).0.clear;
-    offered = λ i lt. let f = processor i lt in subst (λ (x : List (Deed K.Reason (Arrival K))). Each (IsOffered R) x) (sym (read_is (λ (p : Processor K). p.log) w.processors i f.0 f.1)) (h.processors i f.0 f.1).0.offers;
+    clear = λ p lt. let f = receiver p lt in subst (λ (x : List (Deed K.RuleCause (Arrival K))). Each (IsClear R) x) (sym (read_is (λ (r : Receiver K). r.log) w.receivers p f.0 f.1)) (h.receivers p f.0 f.1).0.clear;
+    offered = λ i lt. let f = processor i lt in subst (λ (x : List (Deed K.RuleCause (Arrival K))). Each (IsOffered R) x) (sym (read_is (λ (p : Processor K). p.log) w.processors i f.0 f.1)) (h.processors i f.0 f.1).0.offers;
     slow = slow;
     middle = λ i lt. h.middle.0 i (let n = map_long (λ (p : Processor K). p.slow) w.processors in let m = h.processor_count in omega arith);
     middle_only = λ i ge. h.middle.1 i (let n = map_long (λ (p : Processor K). p.slow) w.processors in let m = h.processor_count in omega arith);
@@ -386,7 +386,7 @@ module _ {K : Kinds} (R : Rules K) (w : Workers K) (closed : ℕ → Bool) (h : 
     low_shut = λ l lt. let m = marks_are (2 * l) (omega arith) in ap has_mark (low_passed l) ∙ m.1.1 ∙ h.closes (2 * l) m.0 m.1.0;
     high_shut = λ l lt. let m = marks_are (2 * l + 1) (omega arith) in ap has_mark (high_passed l) ∙ m.1.1 ∙ h.closes (2 * l + 1) m.0 m.1.0;
     unlacked = λ i lt. let f = processor i lt in
-        subst (λ (x : List (Deed K.Reason (Arrival K))). Each (λ (d : Deed K.Reason (Arrival K)). LacksNothing d.end) x) (sym (read_is (λ (p : Processor K). p.log) w.processors i f.0 f.1)) (h.processors i f.0 f.1).0.ample;
+        subst (λ (x : List (Deed K.RuleCause (Arrival K))). Each (λ (d : Deed K.RuleCause (Arrival K)). LacksNothing d.end) x) (sym (read_is (λ (p : Processor K). p.log) w.processors i f.0 f.1)) (h.processors i f.0 f.1).0.ample;
     unlacked_slow = h.slow.0.ample;
   }
 

@@ -3,16 +3,16 @@ use Rattle.std.proofs.Common.{◌≡◌, ℕ, ◌+◌, Bool, true, false, ◌||�
 use Rattle.std.specs.List.{flat_map}
 use Rattle.std.proofs.lemmas.Grind.{flat_map-append}
 use Rattle.std.proofs.lemmas.List.{map-append}
-use Rattle.pipe_order.specs.Kinds.{Kinds}
-use Rattle.pipe_order.specs.Item.{Arrival, Outgoing}
-use Rattle.pipe_order.specs.Rules.{Rules}
-use Rattle.pipe_order.specs.World.{Cause}
-use Rattle.pipe_order.specs.Counts.{total}
-use Rattle.pipe_order.specs.Deeds.{Pushed, payload_of, payloads, closes, has_mark, from_mark, Deed}
-use Rattle.pipe_order.specs.Settled.{Question}
-use Rattle.pipe_order.proofs.Sums.{total-append}
-use Rattle.pipe_order.proofs.Turns.{from_more}
-use Rattle.pipe_order.proofs.Joints.{never_closed}
+use Rattle.pipeline_laws.specs.Kinds.{Kinds}
+use Rattle.pipeline_laws.specs.Item.{Arrival, Outgoing}
+use Rattle.pipeline_laws.specs.Rules.{Rules}
+use Rattle.pipeline_laws.specs.World.{Cause}
+use Rattle.pipeline_laws.specs.Counts.{total}
+use Rattle.pipeline_laws.specs.Deeds.{Pushed, payload_of, payloads, closes, has_mark, from_mark, Deed}
+use Rattle.pipeline_laws.specs.Settled.{SlowPathRequest}
+use Rattle.pipeline_laws.proofs.Sums.{total-append}
+use Rattle.pipeline_laws.proofs.Turns.{from_more}
+use Rattle.pipeline_laws.proofs.Joints.{never_closed}
 use Rattle.stage_laws.specs.Forwards.{Handed}
 use Rattle.stage_laws.specs.Counting.{Count, Dropped, receiver_counts, processor_counts, slow_counts, handed_count, swept_counts, counted_receiving, counted_working, counted_answering, counted_forwarding}
 
@@ -20,13 +20,13 @@ one : {A B : Type 0} (g : A → List B) (xs : List A) (x : A) → flat_map g (xs
 one g xs x = flat_map-append g xs (x ∷ []) ∙ ap (λ (ys : List _). flat_map g xs ++ ys) (append-nil (g x))
 
 module _ {K : Kinds} where
-  pub receiving_more : (log : List (Deed K.Reason (Arrival K))) (d : Deed K.Reason (Arrival K)) → counted_receiving {K = K} (log ++ d ∷ []) ≡ counted_receiving {K = K} log ++ receiver_counts {K = K} d
+  pub receiving_more : (log : List (Deed K.RuleCause (Arrival K))) (d : Deed K.RuleCause (Arrival K)) → counted_receiving {K = K} (log ++ d ∷ []) ≡ counted_receiving {K = K} log ++ receiver_counts {K = K} d
   receiving_more log d = one (receiver_counts {K = K}) log d
 
-  pub working_more : (R : Rules K) (log : List (Deed K.Reason (Arrival K))) (d : Deed K.Reason (Arrival K)) → counted_working R (log ++ d ∷ []) ≡ counted_working R log ++ processor_counts R d
+  pub working_more : (R : Rules K) (log : List (Deed K.RuleCause (Arrival K))) (d : Deed K.RuleCause (Arrival K)) → counted_working R (log ++ d ∷ []) ≡ counted_working R log ++ processor_counts R d
   working_more R log d = one (processor_counts R) log d
 
-  pub answering_more : (log : List (Deed K.Reason (Question K))) (d : Deed K.Reason (Question K)) → counted_answering {K = K} (log ++ d ∷ []) ≡ counted_answering {K = K} log ++ slow_counts {K = K} d
+  pub answering_more : (log : List (Deed K.RuleCause (SlowPathRequest K))) (d : Deed K.RuleCause (SlowPathRequest K)) → counted_answering {K = K} (log ++ d ∷ []) ≡ counted_answering {K = K} log ++ slow_counts {K = K} d
   answering_more log d = one (slow_counts {K = K}) log d
 
   -- an entry after the closing mark

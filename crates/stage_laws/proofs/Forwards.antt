@@ -2,14 +2,14 @@
 use Rattle.std.proofs.Common.{◌≡◌, inl, inr, ℕ, ◌+◌, Bool, true, false, not, ◌||◌, cond, List, [], ◌∷◌, ◌++◌, map, Option, Some, refl, sym, ◌∙◌, ap, subst, arith, append-nil}
 use Rattle.std.proofs.lemmas.Grind.{flat_map-append}
 use Rattle.std.proofs.lemmas.List.{map-append}
-use Rattle.pipe_order.specs.Kinds.{Kinds}
-use Rattle.pipe_order.specs.Item.{Outgoing}
-use Rattle.pipe_order.specs.Sent.{IsMerge}
-use Rattle.pipe_order.proofs.Sent.{merge-append}
-use Rattle.pipe_order.specs.Deeds.{Load, Payload, CloseMark, EndMark, Pushed, payload_of, payloads, closes, has_mark, before_mark}
-use Rattle.pipe_order.proofs.Turns.{before_more, shut_more}
-use Rattle.pipe_order.specs.Counts.{total}
-use Rattle.pipe_order.proofs.Sums.{count-total, total-append}
+use Rattle.pipeline_laws.specs.Kinds.{Kinds}
+use Rattle.pipeline_laws.specs.Item.{Outgoing}
+use Rattle.pipeline_laws.specs.Sent.{IsMerge}
+use Rattle.pipeline_laws.proofs.Sent.{merge-append}
+use Rattle.pipeline_laws.specs.Deeds.{Load, Payload, CloseMark, EndMark, Pushed, payload_of, payloads, closes, has_mark, before_mark}
+use Rattle.pipeline_laws.proofs.Turns.{before_more, shut_more}
+use Rattle.pipeline_laws.specs.Counts.{total}
+use Rattle.pipeline_laws.proofs.Sums.{count-total, total-append}
 use Rattle.stage_laws.specs.Forwards.{Handed, AddsTo, WentOn, handed_items, refusals_of, KeepsForwarder}
 
 module _ {K : Kinds} where

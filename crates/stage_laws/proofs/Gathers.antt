@@ -5,19 +5,19 @@ use Rattle.ruled_pipe.specs.Rule as rule
 use Rattle.ruled_pipe.specs.Producer.{Sender}
 use Rattle.ruled_pipe.specs.Gathered.{IsSettled}
 use Rattle.ruled_pipe.proofs.Drained.{drained, of_here, settles}
-use Rattle.pipe_order.specs.Kinds.{Kinds}
-use Rattle.pipe_order.specs.Item.{Arrival, Outgoing, Out}
-use Rattle.pipe_order.specs.Rules.{Rules, Decision, Sends, Asks}
-use Rattle.pipe_order.specs.World.{home}
-use Rattle.pipe_order.specs.Counts.{total}
-use Rattle.pipe_order.specs.Deeds.{Pushed, closes, has_mark, of_producer}
-use Rattle.pipe_order.specs.Settled.{if_so, sent_out, to_link, to_slow, asked_of}
-use Rattle.pipe_order.specs.Counted.{sum_to, place_of, link_pipes}
-use Rattle.pipe_order.proofs.Counted.{sum_below, sum_zero, sum_one}
+use Rattle.pipeline_laws.specs.Kinds.{Kinds}
+use Rattle.pipeline_laws.specs.Item.{Arrival, Outgoing, Out}
+use Rattle.pipeline_laws.specs.Rules.{Rules, Decision, Sends, Asks}
+use Rattle.pipeline_laws.specs.World.{home}
+use Rattle.pipeline_laws.specs.Counts.{total}
+use Rattle.pipeline_laws.specs.Deeds.{Pushed, closes, has_mark, of_producer}
+use Rattle.pipeline_laws.specs.Settled.{if_so, sent_out, to_link, to_slow, asked_of}
+use Rattle.pipeline_laws.specs.Counted.{sum_to, place_of, link_pipes}
+use Rattle.pipeline_laws.proofs.Counted.{sum_below, sum_zero, sum_one}
 use Rattle.std.proofs.lemmas.Bool.{cases_eq, cases_lt, ne_eqb, eq-eqb}
 use Rattle.stage_laws.specs.Ends.{pushed_in, pushes}
 use Rattle.stage_laws.specs.Gathers.{offers_at, TookAll, Drains, StaysEmpty}
-use Rattle.stage_laws.specs.Weighed.{question_weight, outgoing_weight}
+use Rattle.stage_laws.specs.Weighed.{request_weight, outgoing_weight}
 
 module _ {X : Type 0} where
   -- the entries of a producer, read either way
@@ -124,21 +124,21 @@ module _ {K : Kinds} (R : Rules K) (w : (link number : ℕ) → ℕ) (x : Arriva
   W = w x.link x.number
 
   pub send_weighed : (l k : ℕ) (y : K.Parcel) → R.decide x ≡ Sends l y → home R (Out (record { arrived = x.link; number = x.number; answer = false; link = l; parcel = y })) ≡ place_of R k → k < link_pipes R
-      → sum_to (link_pipes R) (λ j. total (outgoing_weight w) (to_link R (place_of R j) x)) + total (question_weight w) (to_slow R x) ≡ W
+      → sum_to (link_pipes R) (λ j. total (outgoing_weight w) (to_link R (place_of R j) x)) + total (request_weight w) (to_slow R x) ≡ W
   send_weighed l k y sends at lt =
       let o : Outgoing K = record { arrived = x.link; number = x.number; answer = false; link = l; parcel = y } in
       let one : (j : ℕ) → total (outgoing_weight w) (to_link R (place_of R j) x) ≡ cond (eqb k j) W 0 =
       λ j. ap (λ (r : Decision K). total (outgoing_weight w) (sent_out R (place_of R j) x r)) sends ∙ picked R (outgoing_weight w) o (home R (Out o)) k at j (cases_eq k j) in
-      let none : total (question_weight w) (to_slow R x) ≡ 0 = ap (λ (r : Decision K). total (question_weight w) (asked_of x r)) sends in
+      let none : total (request_weight w) (to_slow R x) ≡ 0 = ap (λ (r : Decision K). total (request_weight w) (asked_of x r)) sends in
       let s = sum_below (link_pipes R) (λ j. total (outgoing_weight w) (to_link R (place_of R j) x)) (λ j. cond (eqb k j) W 0) (λ j b. one j) in
       let t = sum_one (link_pipes R) k W lt in
       omega arith
 
   pub ask_weighed : (p : K.Problem) → R.decide x ≡ Asks p
-      → sum_to (link_pipes R) (λ j. total (outgoing_weight w) (to_link R (place_of R j) x)) + total (question_weight w) (to_slow R x) ≡ W
+      → sum_to (link_pipes R) (λ j. total (outgoing_weight w) (to_link R (place_of R j) x)) + total (request_weight w) (to_slow R x) ≡ W
   ask_weighed p asks =
       let none : (j : ℕ) → total (outgoing_weight w) (to_link R (place_of R j) x) ≡ 0 = λ j. ap (λ (r : Decision K). total (outgoing_weight w) (sent_out R (place_of R j) x r)) asks in
-      let one : total (question_weight w) (to_slow R x) ≡ W + 0 = ap (λ (r : Decision K). total (question_weight w) (asked_of x r)) asks in
+      let one : total (request_weight w) (to_slow R x) ≡ W + 0 = ap (λ (r : Decision K). total (request_weight w) (asked_of x r)) asks in
       let s = sum_below (link_pipes R) (λ j. total (outgoing_weight w) (to_link R (place_of R j) x)) (λ j. 0) (λ j b. none j) in
       let z = sum_zero (link_pipes R) in
       omega arith

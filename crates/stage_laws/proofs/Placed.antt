@@ -1,16 +1,16 @@
 -- The premises of the sums, from those that the workers give.
 use Rattle.std.proofs.Common.{◌≡◌, ℕ, ◌+◌, ◌*◌, ◌<◌, Bool, true, false, eqb, cond, [], ◌∷◌, refl, ◌∙◌, ap, subst, arith}
 use Rattle.std.proofs.lemmas.Bool.{cases_eq}
-use Rattle.pipe_order.specs.Kinds.{Kinds}
-use Rattle.pipe_order.specs.Item.{Arrival, Outgoing, Out}
-use Rattle.pipe_order.specs.Rules.{Rules, Decision, Sends, Asks, Drops, Reply, Replies, Withholds, IsLawful}
-use Rattle.pipe_order.specs.World.{home, is_high, link_pipe}
-use Rattle.pipe_order.specs.Counts.{total}
-use Rattle.pipe_order.specs.Deeds.{Ending, Accepted, Refused, Lacked, Counted, Deed}
-use Rattle.pipe_order.specs.Settled.{Question, if_so, to_processor, to_link, to_slow}
-use Rattle.pipe_order.specs.Counted.{sum_to, is_offer, place_of, link_pipes, no_side}
-use Rattle.pipe_order.proofs.Counted.{sum_below, sum_one}
-use Rattle.stage_laws.specs.Weighed.{IsWeighed, arrival_weight, question_weight, outgoing_weight}
+use Rattle.pipeline_laws.specs.Kinds.{Kinds}
+use Rattle.pipeline_laws.specs.Item.{Arrival, Outgoing, Out}
+use Rattle.pipeline_laws.specs.Rules.{Rules, Decision, Sends, Asks, Drops, Reply, Replies, Withholds, IsLawful}
+use Rattle.pipeline_laws.specs.World.{home, is_high, link_pipe}
+use Rattle.pipeline_laws.specs.Counts.{total}
+use Rattle.pipeline_laws.specs.Deeds.{Ending, Accepted, Refused, Lacked, Counted, Deed}
+use Rattle.pipeline_laws.specs.Settled.{SlowPathRequest, if_so, to_processor, to_link, to_slow}
+use Rattle.pipeline_laws.specs.Counted.{sum_to, is_offer, place_of, link_pipes, no_side}
+use Rattle.pipeline_laws.proofs.Counted.{sum_below, sum_one}
+use Rattle.stage_laws.specs.Weighed.{IsWeighed, arrival_weight, request_weight, outgoing_weight}
 use Rattle.stage_laws.specs.Works.{leaves, IsOffered}
 use Rattle.stage_laws.specs.Answers.{is_answered, IsAnswered, answer_to, replied_out, to_back}
 use Rattle.stage_laws.proofs.Gathers.{picked, send_weighed, ask_weighed}
@@ -37,7 +37,7 @@ home_at R o l is lt = go (is_high R o) refl
 
 module _ {K : Kinds} (R : Rules K) (w : (link number : ℕ) → ℕ) (Arrives : Arrival K → Type 0) (lawful : IsLawful R Arrives) where
   -- a receiver's offer has one processor
-  pub receiver_weighed : (d : Deed K.Reason (Arrival K)) → IsWeighed R.processors (to_processor R) (no_side {X = Arrival K} {Y = Question K}) (arrival_weight w) (arrival_weight w) (question_weight w) d
+  pub receiver_weighed : (d : Deed K.RuleCause (Arrival K)) → IsWeighed R.processors (to_processor R) (no_side {X = Arrival K} {Y = SlowPathRequest K}) (arrival_weight w) (arrival_weight w) (request_weight w) d
   receiver_weighed d = go d.end
     where
       x : Arrival K
@@ -56,19 +56,19 @@ module _ {K : Kinds} (R : Rules K) (w : (link number : ℕ) → ℕ) (Arrives : 
           let t = sum_one R.processors (R.processor (R.key d.item)) (w d.item.link d.item.number) (lawful.processors (R.key d.item)) in
           omega arith
 
-      go : (o : Ending K.Reason) → is_offer o (sum_to R.processors (λ i. total (arrival_weight w) (to_processor R i d.item)) + 0 ≡ w d.item.link d.item.number)
+      go : (o : Ending K.RuleCause) → is_offer o (sum_to R.processors (λ i. total (arrival_weight w) (to_processor R i d.item)) + 0 ≡ w d.item.link d.item.number)
       go Accepted = all
       go Refused = all
       go Lacked = tt
       go (Counted c) = tt
 
   -- a processor's offer has one pipe
-  pub processor_weighed : (d : Deed K.Reason (Arrival K)) → Arrives d.item → IsOffered R d
-      → IsWeighed (link_pipes R) (λ j. to_link R (place_of R j)) (to_slow R) (arrival_weight w) (outgoing_weight w) (question_weight w) d
+  pub processor_weighed : (d : Deed K.RuleCause (Arrival K)) → Arrives d.item → IsOffered R d
+      → IsWeighed (link_pipes R) (λ j. to_link R (place_of R j)) (to_slow R) (arrival_weight w) (outgoing_weight w) (request_weight w) d
   processor_weighed d arrives offered = map_offer d.end (λ l. go (R.decide d.item) refl l) offered
     where
       go : (r : Decision K) → R.decide d.item ≡ r → leaves (R.decide d.item)
-          → sum_to (link_pipes R) (λ j. total (outgoing_weight w) (to_link R (place_of R j) d.item)) + total (question_weight w) (to_slow R d.item) ≡ w d.item.link d.item.number
+          → sum_to (link_pipes R) (λ j. total (outgoing_weight w) (to_link R (place_of R j) d.item)) + total (request_weight w) (to_slow R d.item) ≡ w d.item.link d.item.number
       go (Sends l y) e v =
           let h = home_at R (record { arrived = d.item.link; number = d.item.number; answer = false; link = l; parcel = y }) l refl (lawful.sends d.item l y arrives e) in
           send_weighed R w d.item l h.0 y e h.1.0 h.1.1
@@ -77,7 +77,7 @@ module _ {K : Kinds} (R : Rules K) (w : (link number : ℕ) → ℕ) (Arrives : 
 
 -- The slow path's offer has one pipe.
 module _ {K : Kinds} (R : Rules K) (w : (link number : ℕ) → ℕ) (Arrives : Arrival K → Type 0) (lawful : IsLawful R Arrives) where
-  back_sum : (x : Question K) (l k : ℕ) (y : K.Parcel) → R.reply x.arrival x.problem ≡ Replies l y → home R (Out (answer_to x l y)) ≡ place_of R k → k < link_pipes R
+  back_sum : (x : SlowPathRequest K) (l k : ℕ) (y : K.Parcel) → R.reply x.arrival x.problem ≡ Replies l y → home R (Out (answer_to x l y)) ≡ place_of R k → k < link_pipes R
       → sum_to (link_pipes R) (λ j. total (outgoing_weight w) (to_back R (place_of R j) x)) + 0 ≡ w x.arrival.link x.arrival.number
   back_sum x l k y replies at lt =
       let o : Outgoing K = answer_to x l y in
@@ -87,8 +87,8 @@ module _ {K : Kinds} (R : Rules K) (w : (link number : ℕ) → ℕ) (Arrives : 
       let t = sum_one (link_pipes R) k (w x.arrival.link x.arrival.number) lt in
       omega arith
 
-  pub slow_weighed : (d : Deed K.Reason (Question K)) → Arrives d.item.arrival → R.decide d.item.arrival ≡ Asks d.item.problem → IsAnswered R d
-      → IsWeighed (link_pipes R) (λ j. to_back R (place_of R j)) (no_side {X = Question K} {Y = Question K}) (question_weight w) (outgoing_weight w) (question_weight w) d
+  pub slow_weighed : (d : Deed K.RuleCause (SlowPathRequest K)) → Arrives d.item.arrival → R.decide d.item.arrival ≡ Asks d.item.problem → IsAnswered R d
+      → IsWeighed (link_pipes R) (λ j. to_back R (place_of R j)) (no_side {X = SlowPathRequest K} {Y = SlowPathRequest K}) (request_weight w) (outgoing_weight w) (request_weight w) d
   slow_weighed d arrives asks answered = map_offer d.end (λ a. go (R.reply d.item.arrival d.item.problem) refl a) answered
     where
       go : (r : Reply K) → R.reply d.item.arrival d.item.problem ≡ r → is_answered (R.reply d.item.arrival d.item.problem)

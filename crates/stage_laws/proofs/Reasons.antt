@@ -1,15 +1,15 @@
 -- Reasons, refusals and bands of workers that have ended.
 use Rattle.std.proofs.Common.{◌≡◌, inl, inr, ℕ, ◌+◌, ◌<◌, ◌&&◌, Bool, true, false, eqb, List, [], ◌∷◌, ◌++◌, refl, sym, ◌∙◌, ap, subst, arith}
-use Rattle.pipe_order.specs.Kinds.{Kinds}
-use Rattle.pipe_order.specs.Item.{Arrival, Outgoing, Out}
-use Rattle.pipe_order.specs.Rules.{Rules, IsLawful}
-use Rattle.pipe_order.specs.World.{home, is_high, link_pipe}
-use Rattle.pipe_order.specs.Sent.{IsMerge}
-use Rattle.pipe_order.specs.Deeds.{payloads, before_mark, Each, Ending, Accepted, Refused, Lacked, Counted, Deed, if_counted, refused}
-use Rattle.pipe_order.specs.Settled.{Question, if_so, to_processor, to_link, to_slow, Views, told, In, IsTold, IsLinkPipe, AreNumbered}
-use Rattle.pipe_order.specs.Counted.{SlowViews}
-use Rattle.pipe_order.proofs.Stages.{each_map}
-use Rattle.pipe_order.proofs.SettledOrder.{each_both, each_in, each_items, each_split, known}
+use Rattle.pipeline_laws.specs.Kinds.{Kinds}
+use Rattle.pipeline_laws.specs.Item.{Arrival, Outgoing, Out}
+use Rattle.pipeline_laws.specs.Rules.{Rules, IsLawful}
+use Rattle.pipeline_laws.specs.World.{home, is_high, link_pipe}
+use Rattle.pipeline_laws.specs.Sent.{IsMerge}
+use Rattle.pipeline_laws.specs.Deeds.{payloads, before_mark, Each, Ending, Accepted, Refused, Lacked, Counted, Deed, if_counted, refused}
+use Rattle.pipeline_laws.specs.Settled.{SlowPathRequest, if_so, to_processor, to_link, to_slow, Views, told, In, IsTold, IsLinkPipe, AreNumbered}
+use Rattle.pipeline_laws.specs.Counted.{SlowViews}
+use Rattle.pipeline_laws.proofs.Stages.{each_map}
+use Rattle.pipeline_laws.proofs.SettledOrder.{each_both, each_in, each_items, each_split, known}
 use Rattle.stage_laws.specs.Receives.{IsSeen}
 use Rattle.stage_laws.specs.Works.{IsJust}
 use Rattle.stage_laws.specs.Answers.{IsWithheld, to_back}
@@ -34,20 +34,20 @@ counted_as Lacked f p = tt
 counted_as (Counted c) f p = f c p
 
 module _ {K : Kinds} (R : Rules K) (v : Views K) (s : SlowViews K) (went : ℕ → List (Handed K)) (closed : ℕ → Bool) (lawful : IsLawful R (IsTold v)) (e : Ended R v s went closed) where
-  told_each : (p : ℕ) → p < R.links → Each (λ (d : Deed K.Reason (Arrival K)). IsTold v d.item) (v.received p)
+  told_each : (p : ℕ) → p < R.links → Each (λ (d : Deed K.RuleCause (Arrival K)). IsTold v d.item) (v.received p)
   told_each p lt =
       let numbered = (e.settled.receivers p lt).numbered in
-      each_items (IsTold v) (λ (d : Deed K.Reason (Arrival K)). d.item) (v.received p)
+      each_items (IsTold v) (λ (d : Deed K.RuleCause (Arrival K)). d.item) (v.received p)
       (each_map (λ x h. subst (λ (q : ℕ). In x (told v q)) (sym h.1) h.0) (told v p) (each_both (λ x. In x (told v p)) (λ (x : Arrival K). x.link ≡ p) (told v p) (each_self (told v p)) (each_link p 1 (told v p) numbered)))
 
   receivers : (p : ℕ) → p < R.links → Each (IsDropped R v) (v.received p)
   receivers p lt =
-      each_map (λ (d : Deed K.Reason (Arrival K)) h. (h.0, counted_as d.end (λ c is. lawful.faults d.item c h.0 is) h.1)) (v.received p)
-      (each_both (λ (d : Deed K.Reason (Arrival K)). IsTold v d.item) (IsSeen R) (v.received p) (told_each p lt) (e.settled.receivers p lt).just)
+      each_map (λ (d : Deed K.RuleCause (Arrival K)) h. (h.0, counted_as d.end (λ c is. lawful.faults d.item c h.0 is) h.1)) (v.received p)
+      (each_both (λ (d : Deed K.RuleCause (Arrival K)). IsTold v d.item) (IsSeen R) (v.received p) (told_each p lt) (e.settled.receivers p lt).just)
 
   processors : (i : ℕ) → i < R.processors → Each (IsDropped R v) (v.worked i)
   processors i lt =
-      each_map (λ (d : Deed K.Reason (Arrival K)) h. (h.0.1, h.1)) (v.worked i)
+      each_map (λ (d : Deed K.RuleCause (Arrival K)) h. (h.0.1, h.1)) (v.worked i)
       (each_both _ (IsJust R) (v.worked i) (known R v lawful e.settled i lt) (e.settled.workers i lt).just)
 
   slow : Each (IsUnanswered R v) s.worked
@@ -64,7 +64,7 @@ module _ {K : Kinds} (R : Rules K) (v : Views K) (s : SlowViews K) (went : ℕ �
   full_processor p i lt lti =
       let P : Arrival K → Type 0 = λ x. IsTold v x × (R.processor (R.key x) ≡ i) in
       subst (λ (xs : List (Arrival K)). Each P xs) (sym ((e.settled.receivers p lt).tells i lti).1)
-      (each_in P (refused (to_processor R i)) (v.received p) (each_map (λ (d : Deed K.Reason (Arrival K)) t. each_refused P d.end (to_processor R i d.item) (for_processor i d.item t)) (v.received p) (told_each p lt)))
+      (each_in P (refused (to_processor R i)) (v.received p) (each_map (λ (d : Deed K.RuleCause (Arrival K)) t. each_refused P d.end (to_processor R i d.item) (for_processor i d.item t)) (v.received p) (told_each p lt)))
 
   full_link : (i q : ℕ) → i < R.processors → IsLinkPipe R q → Each (λ (o : Outgoing K). IsPacketOf R v o × (home R (Out o) ≡ q)) (v.leaving_full i q)
   full_link i q lt at =
@@ -72,7 +72,7 @@ module _ {K : Kinds} (R : Rules K) (v : Views K) (s : SlowViews K) (went : ℕ �
       each_map (λ o h. (h.0, h.2)) (v.leaving_full i q)
       (subst (λ (xs : List (Outgoing K)). Each P xs) (sym ((e.settled.workers i lt).tells q at).1)
       (each_in P (refused (to_link R q)) (v.worked i)
-      (each_map (λ (d : Deed K.Reason (Arrival K)) k. each_refused P d.end (to_link R q d.item) (sent_right R v s went closed lawful e q d.item k.1)) (v.worked i) (known R v lawful e.settled i lt))))
+      (each_map (λ (d : Deed K.RuleCause (Arrival K)) k. each_refused P d.end (to_link R q d.item) (sent_right R v s went closed lawful e q d.item k.1)) (v.worked i) (known R v lawful e.settled i lt))))
 
   full_answer : (q : ℕ) → IsLinkPipe R q → Each (λ (o : Outgoing K). IsAnswerTo R v o × (home R (Out o) ≡ q)) (s.leaving_full q)
   full_answer q at =
@@ -80,13 +80,13 @@ module _ {K : Kinds} (R : Rules K) (v : Views K) (s : SlowViews K) (went : ℕ �
       each_map (λ o h. (h.1, h.2)) (s.leaving_full q)
       (subst (λ (xs : List (Outgoing K)). Each P xs) (sym (e.slow.tells q at).1)
       (each_in P (refused (to_back R q)) s.worked
-      (each_map (λ (d : Deed K.Reason (Question K)) k. each_refused P d.end (to_back R q d.item) (replied_right R v s went closed lawful e q d.item k)) s.worked (askable R v s went closed lawful e))))
+      (each_map (λ (d : Deed K.RuleCause (SlowPathRequest K)) k. each_refused P d.end (to_back R q d.item) (replied_right R v s went closed lawful e q d.item k)) s.worked (askable R v s went closed lawful e))))
 
   full_slow : (i : ℕ) → i < R.processors → Each (IsAskedOf R v) (v.asked_full i)
   full_slow i lt =
-      subst (λ (xs : List (Question K)). Each (IsAskedOf R v) xs) (sym (e.settled.workers i lt).slow.1)
+      subst (λ (xs : List (SlowPathRequest K)). Each (IsAskedOf R v) xs) (sym (e.settled.workers i lt).slow.1)
       (each_in (IsAskedOf R v) (refused (to_slow R)) (v.worked i)
-      (each_map (λ (d : Deed K.Reason (Arrival K)) k. each_refused (IsAskedOf R v) d.end (to_slow R d.item) (asked_right R v s went closed lawful e d.item k.1)) (v.worked i) (known R v lawful e.settled i lt)))
+      (each_map (λ (d : Deed K.RuleCause (Arrival K)) k. each_refused (IsAskedOf R v) d.end (to_slow R d.item) (asked_right R v s went closed lawful e d.item k.1)) (v.worked i) (known R v lawful e.settled i lt)))
 
   pub has_reasons : HasReasons R v s
   has_reasons = record { receivers = receivers; processors = processors; slow = slow; full_processor = full_processor; full_link = full_link; full_answer = full_answer; full_slow = full_slow }

@@ -3,13 +3,13 @@ use Rattle.std.proofs.Common.{◌≡◌, ◌⊎◌, inl, inr, ℕ, ◌+◌, ◌<
 use Rattle.std.proofs.lemmas.Bool.{cases_eq, ne_eqb, eq-eqb}
 use Rattle.ruled_pipe.specs.declared.entry.Load.TheVariants.{Payload}
 use Rattle.ruled_pipe.specs.Producer.{Sender, entry, offered, refused}
-use Rattle.pipe_order.specs.Kinds.{Kinds}
-use Rattle.pipe_order.specs.Item.{Arrival}
-use Rattle.pipe_order.specs.Rules.{Rules}
-use Rattle.pipe_order.specs.Deeds.{Ending, Accepted, Refused, Lacked, Counted, if_accepted, if_refused, Deed, payloads, done_items}
-use Rattle.pipe_order.specs.Settled.{if_so, to_processor, AreNumbered}
-use Rattle.pipe_order.proofs.Sums.{total-append}
-use Rattle.pipe_order.proofs.Turns.{each_more, numbered_more}
+use Rattle.pipeline_laws.specs.Kinds.{Kinds}
+use Rattle.pipeline_laws.specs.Item.{Arrival}
+use Rattle.pipeline_laws.specs.Rules.{Rules}
+use Rattle.pipeline_laws.specs.Deeds.{Ending, Accepted, Refused, Lacked, Counted, if_accepted, if_refused, Deed, payloads, done_items}
+use Rattle.pipeline_laws.specs.Settled.{if_so, to_processor, AreNumbered}
+use Rattle.pipeline_laws.proofs.Sums.{total-append}
+use Rattle.pipeline_laws.proofs.Turns.{each_more, numbered_more}
 use Rattle.stage_laws.specs.Ends.{pushes, refusals_in, IsGrown}
 use Rattle.stage_laws.specs.Marks.{EachHasTried}
 use Rattle.stage_laws.specs.Works.{SentOn, TurnedAway, deed}
@@ -24,14 +24,14 @@ module _ {K : Kinds} (R : Rules K) (x : Arrival K) (old : List (Sender (Arrival 
     abbrev s : Sender (Arrival K)
     s = slice_index_or old k d
 
-    one : (e : Ending K.Reason) (t : Sender (Arrival K)) → IsGrown (to_processor R k) (deed x e) s t → (j : ℕ) (u : Sender (Arrival K)) → slice_get (slice_set old k t) j ≡ Some u
+    one : (e : Ending K.RuleCause) (t : Sender (Arrival K)) → IsGrown (to_processor R k) (deed x e) s t → (j : ℕ) (u : Sender (Arrival K)) → slice_get (slice_set old k t) j ≡ Some u
         → (j ≡ k) ⊎ (j ≡ k → ⊥) → (w : Sender (Arrival K)) × (slice_get old j ≡ Some w) × IsGrown (to_processor R j) (deed x e) w u
     one e t g j u q (inl same) =
         let w = got_same old k t u d (subst (λ (i : ℕ). slice_get (slice_set old k t) i ≡ Some u) same q) in
         subst (λ (i : ℕ). (w : Sender (Arrival K)) × (slice_get old i ≡ Some w) × IsGrown (to_processor R i) (deed x e) w u) (sym same)
         (s, w.1, subst (λ (z : Sender (Arrival K)). IsGrown (to_processor R k) (deed x e) s z) w.0 g)
     one e t g j u q (inr other) =
-        (u, got_other old k j t u other q, grown_none K.Reason (to_processor R j) x u e (ap (λ (b : Bool). if_so b (x ∷ [])) (ne_eqb (R.processor (R.key x)) j (λ z. other (sym z ∙ at)))))
+        (u, got_other old k j t u other q, grown_none K.RuleCause (to_processor R j) x u e (ap (λ (b : Bool). if_so b (x ∷ [])) (ne_eqb (R.processor (R.key x)) j (λ z. other (sym z ∙ at)))))
 
     made : to_processor R k x ≡ x ∷ []
     made = ap (λ (b : Bool). if_so b (x ∷ [])) (eq-eqb (R.processor (R.key x)) k at)
@@ -40,7 +40,7 @@ module _ {K : Kinds} (R : Rules K) (x : Arrival K) (old : List (Sender (Arrival 
     passed_on new sent = record {
       just = tt;
       clear = clear;
-      ends = λ j t got. one Accepted (offered s (entry s.number (Payload x))) (grown_yes K.Reason (to_processor R k) x s x made) j t (subst (λ (xs : List (Sender (Arrival K))). slice_get xs j ≡ Some t) (sent d) got) (cases_eq j k);
+      ends = λ j t got. one Accepted (offered s (entry s.number (Payload x))) (grown_yes K.RuleCause (to_processor R k) x s x made) j t (subst (λ (xs : List (Sender (Arrival K))). slice_get xs j ≡ Some t) (sent d) got) (cases_eq j k);
       same = ap length (sent d) ∙ set_length old k (offered s (entry s.number (Payload x)));
     }
 
@@ -48,21 +48,21 @@ module _ {K : Kinds} (R : Rules K) (x : Arrival K) (old : List (Sender (Arrival 
     passed_full new sent = record {
       just = tt;
       clear = clear;
-      ends = λ j t got. one Refused (refused s (entry s.number (Payload x))) (grown_no K.Reason (to_processor R k) x s x made) j t (subst (λ (xs : List (Sender (Arrival K))). slice_get xs j ≡ Some t) (sent d) got) (cases_eq j k);
+      ends = λ j t got. one Refused (refused s (entry s.number (Payload x))) (grown_no K.RuleCause (to_processor R k) x s x made) j t (subst (λ (xs : List (Sender (Arrival K))). slice_get xs j ≡ Some t) (sent d) got) (cases_eq j k);
       same = ap length (sent d) ∙ set_length old k (refused s (entry s.number (Payload x)));
     }
 
-lost_none : {K : Kinds} (R : Rules K) (i : ℕ) (x : Arrival K) (s : Sender (Arrival K)) (o : Ending K.Reason) → if_accepted o (to_processor R i x) ≡ [] → if_refused o (to_processor R i x) ≡ [] → IsGrown (to_processor R i) (deed x o) s s
+lost_none : {K : Kinds} (R : Rules K) (i : ℕ) (x : Arrival K) (s : Sender (Arrival K)) (o : Ending K.RuleCause) → if_accepted o (to_processor R i x) ≡ [] → if_refused o (to_processor R i x) ≡ [] → IsGrown (to_processor R i) (deed x o) s s
 lost_none R i x s o a r = ([], [], sym (append-nil s.offers), sym (append-nil s.refusals), sym a, sym r)
 
 -- no buffer was there
 pub passed_none : {K : Kinds} (R : Rules K) (x : Arrival K) (old : List (Sender (Arrival K))) → Passed R (deed x Lacked) old old
 passed_none R x old = record { just = tt; clear = tt; ends = λ i t at. (t, at, lost_none R i x t Lacked refl refl); same = refl }
 
-pub passed_fault : {K : Kinds} (R : Rules K) (x : Arrival K) (c : K.Reason) (old : List (Sender (Arrival K))) → R.inspect x ≡ Some c → Passed R (deed x (Counted c)) old old
+pub passed_fault : {K : Kinds} (R : Rules K) (x : Arrival K) (c : K.RuleCause) (old : List (Sender (Arrival K))) → R.inspect x ≡ Some c → Passed R (deed x (Counted c)) old old
 passed_fault R x c old is = record { just = is; clear = tt; ends = λ i t at. (t, at, lost_none R i x t (Counted c) refl refl); same = refl }
 
-pub keeps_passed : {K : Kinds} (R : Rules K) (a : ℕ) (log : List (Deed K.Reason (Arrival K))) (d : Deed K.Reason (Arrival K)) (old new : List (Sender (Arrival K)))
+pub keeps_passed : {K : Kinds} (R : Rules K) (a : ℕ) (log : List (Deed K.RuleCause (Arrival K))) (d : Deed K.RuleCause (Arrival K)) (old new : List (Sender (Arrival K)))
     → d.item.link ≡ a → d.item.number ≡ 1 + length (done_items log) → KeepsReceiver R a log old → Passed R d old new → KeepsReceiver R a (log ++ d ∷ []) new
 keeps_passed R a log d old new link number k w = record {
   numbered = subst (λ (xs : List (Arrival _)). AreNumbered a 1 xs) (sym (items_more log d)) (numbered_more a 1 (done_items log) d.item k.numbered link number);
@@ -81,7 +81,7 @@ receives_none R a senders fresh = record {
 }
 
 -- marks that were tried are no deeds
-pub receives_tried : {K : Kinds} (R : Rules K) (a : ℕ) (log : List (Deed K.Reason (Arrival K))) (old new : List (Sender (Arrival K))) → EachHasTried old new → KeepsReceiver R a log old → KeepsReceiver R a log new
+pub receives_tried : {K : Kinds} (R : Rules K) (a : ℕ) (log : List (Deed K.RuleCause (Arrival K))) (old new : List (Sender (Arrival K))) → EachHasTried old new → KeepsReceiver R a log old → KeepsReceiver R a log new
 receives_tried R a log old new tried k = record {
   numbered = k.numbered;
   just = k.just;

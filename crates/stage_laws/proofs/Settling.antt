@@ -2,16 +2,16 @@
 use Rattle.std.proofs.Common.{◌*◌, ◌≡◌, ◌⊎◌, inl, inr, ℕ, suc, ◌+◌, ◌-◌, ◌<◌, ◌≤◌, Bool, true, false, List, [], ◌∷◌, ◌++◌, refl, sym, ◌∙◌, ap, ap₂, subst, arith, eqb}
 use Rattle.std.proofs.lemmas.Bool.{cases_lt, cases_eq, ne_eqb}
 use Rattle.std.proofs.lemmas.Grind.{flat_map-append}
-use Rattle.pipe_order.specs.Kinds.{Kinds}
-use Rattle.pipe_order.specs.Item.{Arrival, Outgoing, Out}
-use Rattle.pipe_order.specs.Rules.{Rules, Decision, Sends, Asks, Drops, Reply, Replies, Withholds, IsLawful}
-use Rattle.pipe_order.specs.World.{link_pipe, home, slow_seat}
-use Rattle.pipe_order.specs.Deeds.{Pushed, payload_of, payloads, of_producer, Each, Ending, Accepted, Refused, Lacked, Counted, Deed, if_accepted, if_refused, accepted, before_mark, from_mark}
-use Rattle.pipe_order.specs.Settled.{Question, if_so, to_link, sent_out, to_slow, asked_of, Views, IsTold, IsLinkPipe, SettlesInOrder}
-use Rattle.pipe_order.specs.Counted.{SlowViews, place_of, link_pipes}
-use Rattle.pipe_order.proofs.Joints.{by_producer, split_mark}
-use Rattle.pipe_order.proofs.Stages.{each_map}
-use Rattle.pipe_order.proofs.SettledOrder.{each_both, each_in, each_out, each_items, known, settles_order}
+use Rattle.pipeline_laws.specs.Kinds.{Kinds}
+use Rattle.pipeline_laws.specs.Item.{Arrival, Outgoing, Out}
+use Rattle.pipeline_laws.specs.Rules.{Rules, Decision, Sends, Asks, Drops, Reply, Replies, Withholds, IsLawful}
+use Rattle.pipeline_laws.specs.World.{link_pipe, home, slow_seat}
+use Rattle.pipeline_laws.specs.Deeds.{Pushed, payload_of, payloads, of_producer, Each, Ending, Accepted, Refused, Lacked, Counted, Deed, if_accepted, if_refused, accepted, before_mark, from_mark}
+use Rattle.pipeline_laws.specs.Settled.{SlowPathRequest, if_so, to_link, sent_out, to_slow, asked_of, Views, IsTold, IsLinkPipe, SettlesInOrder}
+use Rattle.pipeline_laws.specs.Counted.{SlowViews, place_of, link_pipes}
+use Rattle.pipeline_laws.proofs.Joints.{by_producer, split_mark}
+use Rattle.pipeline_laws.proofs.Stages.{each_map}
+use Rattle.pipeline_laws.proofs.SettledOrder.{each_both, each_in, each_out, each_items, known, settles_order}
 use Rattle.stage_laws.specs.Weighed.{IsPlaced}
 use Rattle.stage_laws.specs.Answers.{to_back, answer_to, replied_out}
 use Rattle.stage_laws.specs.Forwards.{Handed}
@@ -44,8 +44,8 @@ each_all P h [] = tt
 each_all P h (x ∷ xs) = (h x, each_all P h xs)
 
 module _ {K : Kinds} (R : Rules K) (v : Views K) (s : SlowViews K) (went : ℕ → List (Handed K)) (closed : ℕ → Bool) (lawful : IsLawful R (IsTold v)) (e : Ended R v s went closed) where
-  -- a question is about a packet that was told, by its decision
-  abbrev pub IsAskable : Question K → Type 0
+  -- a request is about a packet that was told, by its decision
+  abbrev pub IsAskable : SlowPathRequest K → Type 0
   IsAskable q = IsTold v q.arrival × (R.decide q.arrival ≡ Asks q.problem)
 
   pub asked_right : (x : Arrival K) → IsTold v x → Each IsAskable (to_slow R x)
@@ -59,18 +59,18 @@ module _ {K : Kinds} (R : Rules K) (v : Views K) (s : SlowViews K) (went : ℕ �
   asked_by : (i : ℕ) → i < R.processors → Each IsAskable (payloads (of_producer i s.taken))
   asked_by i lt =
       let law = e.settled.workers i lt in
-      let each = each_in IsAskable (accepted (to_slow R)) (v.worked i) (each_map (λ (d : Deed K.Reason (Arrival K)) k. each_accepted IsAskable d.end (to_slow R d.item) (asked_right d.item k.1)) (v.worked i) (known R v lawful e.settled i lt)) in
-      subst (λ (xs : List (Question K)). Each IsAskable xs) (sym (ap payloads (e.middle i lt) ∙ law.slow.0)) each
+      let each = each_in IsAskable (accepted (to_slow R)) (v.worked i) (each_map (λ (d : Deed K.RuleCause (Arrival K)) k. each_accepted IsAskable d.end (to_slow R d.item) (asked_right d.item k.1)) (v.worked i) (known R v lawful e.settled i lt)) in
+      subst (λ (xs : List (SlowPathRequest K)). Each IsAskable xs) (sym (ap payloads (e.middle i lt) ∙ law.slow.0)) each
 
-  pub askable : Each (λ (d : Deed K.Reason (Question K)). IsAskable d.item) s.worked
+  pub askable : Each (λ (d : Deed K.RuleCause (SlowPathRequest K)). IsAskable d.item) s.worked
   askable =
-      let P : Pushed (Question K) → Type 0 = λ p. Each IsAskable (payload_of p.load) in
-      let each : Each P s.taken = by_producer P s.taken (λ i. go P i (cases_lt i R.processors) (λ lt. each_out IsAskable (λ (p : Pushed (Question K)). payload_of p.load) (of_producer i s.taken) (asked_by i lt))) in
-      each_items IsAskable (λ (d : Deed K.Reason (Question K)). d.item) s.worked (subst (λ (xs : List (Question K)). Each IsAskable xs) e.slow.took (each_in IsAskable (λ (p : Pushed (Question K)). payload_of p.load) s.taken each))
+      let P : Pushed (SlowPathRequest K) → Type 0 = λ p. Each IsAskable (payload_of p.load) in
+      let each : Each P s.taken = by_producer P s.taken (λ i. go P i (cases_lt i R.processors) (λ lt. each_out IsAskable (λ (p : Pushed (SlowPathRequest K)). payload_of p.load) (of_producer i s.taken) (asked_by i lt))) in
+      each_items IsAskable (λ (d : Deed K.RuleCause (SlowPathRequest K)). d.item) s.worked (subst (λ (xs : List (SlowPathRequest K)). Each IsAskable xs) e.slow.took (each_in IsAskable (λ (p : Pushed (SlowPathRequest K)). payload_of p.load) s.taken each))
     where
-      go : (P : Pushed (Question K) → Type 0) (i : ℕ) → (i < R.processors) ⊎ (R.processors ≤ i) → (i < R.processors → Each P (of_producer i s.taken)) → Each P (of_producer i s.taken)
+      go : (P : Pushed (SlowPathRequest K) → Type 0) (i : ℕ) → (i < R.processors) ⊎ (R.processors ≤ i) → (i < R.processors → Each P (of_producer i s.taken)) → Each P (of_producer i s.taken)
       go P i (inl lt) h = h lt
-      go P i (inr ge) h = subst (λ (xs : List (Pushed (Question K))). Each P xs) (sym (e.middle_only i ge)) tt
+      go P i (inr ge) h = subst (λ (xs : List (Pushed (SlowPathRequest K))). Each P xs) (sym (e.middle_only i ge)) tt
 
   pub weighed : (w : (link number : ℕ) → ℕ) → AreWeighed R v s (to_back R) w
   weighed w = record {
@@ -120,7 +120,7 @@ module _ {K : Kinds} (R : Rules K) (v : Views K) (s : SlowViews K) (went : ℕ �
       all (Asks p) is = tt
       all (Drops c) is = tt
 
-  pub replied_right : (q : ℕ) (x : Question K) → IsAskable x → Each (IsRight q) (to_back R q x)
+  pub replied_right : (q : ℕ) (x : SlowPathRequest K) → IsAskable x → Each (IsRight q) (to_back R q x)
   replied_right q x t = all (R.reply x.arrival x.problem) refl
     where
       one : (b : Bool) (l : ℕ) (y : K.Parcel) → R.reply x.arrival x.problem ≡ Replies l y → eqb (home R (Out (answer_to x l y))) q ≡ b → Each (IsRight q) (if_so b (answer_to x l y ∷ []))
@@ -137,12 +137,12 @@ module _ {K : Kinds} (R : Rules K) (v : Views K) (s : SlowViews K) (went : ℕ �
       let q = place_of R j in
       let law = e.settled.workers i below in
       subst (λ (xs : List (Outgoing K)). Each (IsRight (place_of R j)) xs) (sym (ap payloads (e.settled.outer q i (omega arith, omega arith) below) ∙ (law.tells q (omega arith, omega arith)).0))
-      (each_in (IsRight (place_of R j)) (accepted (to_link R q)) (v.worked i) (each_map (λ (d : Deed K.Reason (Arrival K)) k. each_accepted (IsRight (place_of R j)) d.end (to_link R q d.item) (sent_right q d.item k.1)) (v.worked i) (known R v lawful e.settled i below)))
+      (each_in (IsRight (place_of R j)) (accepted (to_link R q)) (v.worked i) (each_map (λ (d : Deed K.RuleCause (Arrival K)) k. each_accepted (IsRight (place_of R j)) d.end (to_link R q d.item) (sent_right q d.item k.1)) (v.worked i) (known R v lawful e.settled i below)))
   right_by j lt i (inr ge) (inl b) c =
       let q = place_of R j in
       let mine : of_producer i (v.forwarded q) ≡ s.leaving q = ap (λ (k : ℕ). of_producer k (v.forwarded q)) b ∙ e.outer_slow j lt in
       subst (λ (xs : List (Outgoing K)). Each (IsRight (place_of R j)) xs) (sym (ap payloads mine ∙ (e.slow.tells q (omega arith, omega arith)).0))
-      (each_in (IsRight (place_of R j)) (accepted (to_back R q)) s.worked (each_map (λ (d : Deed K.Reason (Question K)) k. each_accepted (IsRight (place_of R j)) d.end (to_back R q d.item) (replied_right q d.item k)) s.worked askable))
+      (each_in (IsRight (place_of R j)) (accepted (to_back R q)) s.worked (each_map (λ (d : Deed K.RuleCause (SlowPathRequest K)) k. each_accepted (IsRight (place_of R j)) d.end (to_back R q d.item) (replied_right q d.item k)) s.worked askable))
   right_by j lt i (inr ge) (inr b) (inl c) =
       subst (λ (xs : List (Outgoing K)). Each (IsRight (place_of R j)) xs) (sym (ap (λ (k : ℕ). payloads (of_producer k (v.forwarded (place_of R j)))) c ∙ joined.outer_marks j lt)) tt
   right_by j lt i (inr ge) (inr b) (inr c) =
@@ -170,7 +170,7 @@ module _ {K : Kinds} (R : Rules K) (v : Views K) (s : SlowViews K) (went : ℕ �
       let each : Each P es = by_producer P es (λ i. each_out (IsRight (place_of R j)) (λ (p : Pushed (Outgoing K)). payload_of p.load) (of_producer i es) (right_by j lt i (cases_lt i R.processors) (cases_eq i R.processors) (cases_eq i (suc R.processors)))) in
       let all : Each (IsRight (place_of R j)) (payloads es) = each_in (IsRight (place_of R j)) (λ (p : Pushed (Outgoing K)). payload_of p.load) es each in
       let split : payloads es ≡ v.handed q ++ v.swept q =
-      ap payloads (sym (split_mark es)) ∙ flat_map-append (λ (p : Pushed (Outgoing K)). payload_of p.load) (before_mark es) (from_mark es) ∙ ap₂ (λ (xs ys : List (Outgoing K)). xs ++ ys) (sym law.sent) (sym law.behind) in
+      ap payloads (sym (split_mark es)) ∙ flat_map-append (λ (p : Pushed (Outgoing K)). payload_of p.load) (before_mark es) (from_mark es) ∙ ap₂ (λ (xs ys : List (Outgoing K)). xs ++ ys) (sym law.sent) (sym law.after) in
       subst (λ (xs : List (Outgoing K)). Each (IsRight (place_of R j)) xs) split all
 
   pub right_at : (q : ℕ) → IsLinkPipe R q → Each (IsRight q) (v.handed q ++ v.swept q)

@@ -2,28 +2,28 @@
 use Rattle.std.proofs.Common.{◌≡◌, ℕ, suc, ◌+◌, ◌<◌, ◌≤◌, Bool, true, false, eqb, cond, List, [], ◌∷◌, ◌++◌, refl, sym, ◌∙◌, ap, arith}
 use Rattle.std.specs.List.{flat_map}
 use Rattle.std.proofs.lemmas.Grind.{flat_map-append}
-use Rattle.pipe_order.specs.Kinds.{Kinds}
-use Rattle.pipe_order.specs.Item.{Arrival, Outgoing}
-use Rattle.pipe_order.specs.Rules.{Rules}
-use Rattle.pipe_order.specs.Counts.{total}
-use Rattle.pipe_order.specs.Deeds.{Pushed, payload_of, payloads, of_producer, before_mark, from_mark, Each, Ending, Accepted, Refused, Lacked, Counted, Deed, if_accepted, if_refused, done_items, accepted, refused, Tells}
-use Rattle.pipe_order.specs.Settled.{Question, to_processor, to_link, to_slow, IsLinkPipe, Views, Settled}
-use Rattle.pipe_order.specs.Counted.{sum_to, is_offer, SlowViews, place_of, link_pipes, no_side}
-use Rattle.pipe_order.proofs.Sums.{total-append}
-use Rattle.pipe_order.proofs.Joints.{split_mark}
-use Rattle.pipe_order.proofs.Counted.{sum_below, sum_add, sum_zero, sum_swap, sum_one, all_below}
-use Rattle.stage_laws.specs.Weighed.{lost_by, lost, IsWeighed, arrival_weight, question_weight, outgoing_weight, IsPlaced, numbered, through_processors, through_slow, through_links}
+use Rattle.pipeline_laws.specs.Kinds.{Kinds}
+use Rattle.pipeline_laws.specs.Item.{Arrival, Outgoing}
+use Rattle.pipeline_laws.specs.Rules.{Rules}
+use Rattle.pipeline_laws.specs.Counts.{total}
+use Rattle.pipeline_laws.specs.Deeds.{Pushed, payload_of, payloads, of_producer, before_mark, from_mark, Each, Ending, Accepted, Refused, Lacked, Counted, Deed, if_accepted, if_refused, done_items, accepted, refused, Tells}
+use Rattle.pipeline_laws.specs.Settled.{SlowPathRequest, to_processor, to_link, to_slow, IsLinkPipe, Views, Settled}
+use Rattle.pipeline_laws.specs.Counted.{sum_to, is_offer, SlowViews, place_of, link_pipes, no_side}
+use Rattle.pipeline_laws.proofs.Sums.{total-append}
+use Rattle.pipeline_laws.proofs.Joints.{split_mark}
+use Rattle.pipeline_laws.proofs.Counted.{sum_below, sum_add, sum_zero, sum_swap, sum_one, all_below}
+use Rattle.stage_laws.specs.Weighed.{lost_by, lost, IsWeighed, arrival_weight, request_weight, outgoing_weight, IsPlaced, numbered, through_processors, through_slow, through_links}
 
 -- The weights that workers keep.
-pub record AreWeighed {K : Kinds} (R : Rules K) (v : Views K) (s : SlowViews K) (back : ℕ → Question K → List (Outgoing K)) (w : (link number : ℕ) → ℕ) : Type 0 where
+pub record AreWeighed {K : Kinds} (R : Rules K) (v : Views K) (s : SlowViews K) (back : ℕ → SlowPathRequest K → List (Outgoing K)) (w : (link number : ℕ) → ℕ) : Type 0 where
   pub receivers : (p : ℕ) → p < R.links
-      → Each (IsWeighed R.processors (to_processor R) (no_side {X = Arrival K} {Y = Question K}) (arrival_weight w) (arrival_weight w) (question_weight w)) (v.received p)
+      → Each (IsWeighed R.processors (to_processor R) (no_side {X = Arrival K} {Y = SlowPathRequest K}) (arrival_weight w) (arrival_weight w) (request_weight w)) (v.received p)
   pub workers : (i : ℕ) → i < R.processors
-      → Each (IsWeighed (link_pipes R) (λ j. to_link R (place_of R j)) (to_slow R) (arrival_weight w) (outgoing_weight w) (question_weight w)) (v.worked i)
-  pub slow : Each (IsWeighed (link_pipes R) (λ j. back (place_of R j)) (no_side {X = Question K} {Y = Question K}) (question_weight w) (outgoing_weight w) (question_weight w)) s.worked
+      → Each (IsWeighed (link_pipes R) (λ j. to_link R (place_of R j)) (to_slow R) (arrival_weight w) (outgoing_weight w) (request_weight w)) (v.worked i)
+  pub slow : Each (IsWeighed (link_pipes R) (λ j. back (place_of R j)) (no_side {X = SlowPathRequest K} {Y = SlowPathRequest K}) (request_weight w) (outgoing_weight w) (request_weight w)) s.worked
 
--- The gathered views, joined by their pipes, with what the slow path makes of a question for the link's pipe at a place.
-pub record Joined {K : Kinds} (R : Rules K) (v : Views K) (s : SlowViews K) (back : ℕ → Question K → List (Outgoing K)) : Type 0 where
+-- The gathered views, joined by their pipes, with what the slow path makes of a request for the link's pipe at a place.
+pub record Joined {K : Kinds} (R : Rules K) (v : Views K) (s : SlowViews K) (back : ℕ → SlowPathRequest K → List (Outgoing K)) : Type 0 where
   pub settled : Settled R v
   pub slow_took : payloads s.taken ≡ done_items s.worked
   pub slow_tells : (q : ℕ) → IsLinkPipe R q → Tells (back q) s.worked (s.leaving q) (s.leaving_full q)
@@ -35,7 +35,7 @@ pub record Joined {K : Kinds} (R : Rules K) (v : Views K) (s : SlowViews K) (bac
 
 -- Each packet that a receiver numbered stands at one place when the workers have ended.
 abbrev pub PlacesEach : Kinds → Type 0
-PlacesEach K = (R : Rules K) (v : Views K) (s : SlowViews K) (back : ℕ → Question K → List (Outgoing K)) (t : Joined R v s back) (w : (link number : ℕ) → ℕ) → AreWeighed R v s back w → IsPlaced w R v s
+PlacesEach K = (R : Rules K) (v : Views K) (s : SlowViews K) (back : ℕ → SlowPathRequest K → List (Outgoing K)) (t : Joined R v s back) (w : (link number : ℕ) → ℕ) → AreWeighed R v s back w → IsPlaced w R v s
 
 module _ {T : Type 0} (f : T → ℕ) where
   -- what was taken, by its producers
@@ -109,7 +109,7 @@ module _ {C X Y : Type 0} (h : Y → ℕ) where
       go (Counted c) r = r
 
 module _ {K : Kinds} where
-  module _ (R : Rules K) (v : Views K) (s : SlowViews K) (back : ℕ → Question K → List (Outgoing K)) (t : Joined R v s back) (w : (link number : ℕ) → ℕ) (kept : AreWeighed R v s back w) where
+  module _ (R : Rules K) (v : Views K) (s : SlowViews K) (back : ℕ → SlowPathRequest K → List (Outgoing K)) (t : Joined R v s back) (w : (link number : ℕ) → ℕ) (kept : AreWeighed R v s back w) where
     abbrev N : ℕ
     N = R.links
 
@@ -125,8 +125,8 @@ module _ {K : Kinds} where
     abbrev A : Arrival K → ℕ
     A = arrival_weight w
 
-    abbrev Q : Question K → ℕ
-    Q = question_weight w
+    abbrev Q : SlowPathRequest K → ℕ
+    Q = request_weight w
 
     abbrev O : Outgoing K → ℕ
     O = outgoing_weight w
@@ -140,7 +140,7 @@ module _ {K : Kinds} where
     received_are : (p : ℕ) → p < N → total A (done_items (v.received p)) ≡ sum_to P (λ i. in_ p i) + sum_to P (λ i. total A (v.arrived_full p i)) + lost A (v.received p)
     received_are p lt =
         let law = t.settled.receivers p lt in
-        let d = deeds P (to_processor R) (no_side {X = Arrival K} {Y = Question K}) A A Q (v.received p) (kept.receivers p lt) in
+        let d = deeds P (to_processor R) (no_side {X = Arrival K} {Y = SlowPathRequest K}) A A Q (v.received p) (kept.receivers p lt) in
         let z = none_accepted {X = Arrival K} Q (v.received p) in
         let y = none_refused {X = Arrival K} Q (v.received p) in
         let a = sum_below P (λ i. in_ p i) (λ i. total A (flat_map (accepted (to_processor R i)) (v.received p))) (λ i b. ap (total A) (law.tells i b).0) in
@@ -171,13 +171,13 @@ module _ {K : Kinds} where
     slow_are =
         ap (total Q) (sym t.slow_took)
         ∙ by_number Q P s.taken (all_below P s.taken t.middle_only)
-        ∙ sum_below P (λ i. total Q (payloads (of_producer i s.taken))) (λ i. total Q (payloads (v.asked i))) (λ i below. ap (λ (es : List (Pushed (Question K))). total Q (payloads es)) (t.middle i below))
+        ∙ sum_below P (λ i. total Q (payloads (of_producer i s.taken))) (λ i. total Q (payloads (v.asked i))) (λ i below. ap (λ (es : List (Pushed (SlowPathRequest K))). total Q (payloads es)) (t.middle i below))
 
     slow_split : total Q (done_items s.worked) ≡ sum_to L (λ l. total O (payloads (s.leaving (at l)))) + sum_to L (λ l. total O (s.leaving_full (at l))) + lost Q s.worked
     slow_split =
-        let d = deeds L (λ j. back (at j)) (no_side {X = Question K} {Y = Question K}) Q O Q s.worked kept.slow in
-        let z = none_accepted {X = Question K} Q s.worked in
-        let y = none_refused {X = Question K} Q s.worked in
+        let d = deeds L (λ j. back (at j)) (no_side {X = SlowPathRequest K} {Y = SlowPathRequest K}) Q O Q s.worked kept.slow in
+        let z = none_accepted {X = SlowPathRequest K} Q s.worked in
+        let y = none_refused {X = SlowPathRequest K} Q s.worked in
         let a = sum_below L (λ l. total O (payloads (s.leaving (at l)))) (λ l. total O (flat_map (accepted (back (at l))) s.worked)) (λ l b. ap (total O) (t.slow_tells (at l) (omega arith, omega arith)).0) in
         let c = sum_below L (λ l. total O (s.leaving_full (at l))) (λ l. total O (flat_map (refused (back (at l))) s.worked)) (λ l b. ap (total O) (t.slow_tells (at l) (omega arith, omega arith)).1) in
         omega arith
@@ -189,7 +189,7 @@ module _ {K : Kinds} where
         let whole : total O (payloads (before_mark es)) + total O (payloads (from_mark es)) ≡ total O (payloads es) =
         sym (total-append O (payloads (before_mark es)) (payloads (from_mark es))) ∙ ap (total O) (sym (flat_map-append (λ (e : Pushed (Outgoing K)). payload_of e.load) (before_mark es) (from_mark es)) ∙ ap payloads (split_mark es)) in
         let x = ap (total O) law.sent in
-        let y = ap (total O) law.behind in
+        let y = ap (total O) law.after in
         omega arith
 
     handed_are : (l : ℕ) → l < L → total O (v.handed (at l)) + total O (v.swept (at l)) ≡ sum_to P (λ i. out_ i l) + total O (payloads (s.leaving (at l)))

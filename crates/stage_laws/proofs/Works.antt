@@ -11,14 +11,14 @@ use Rattle.ruled_pipe.specs.declared.entry.Mark.TheVariants as mark
 use Rattle.ruled_pipe.specs.declared.entry.Refusal.{Refusal}
 use Rattle.ruled_pipe.specs.Producer.{Sender, entry, offered, refused}
 use Rattle.ruled_pipe.specs.Consumer.{Taker, took, looked}
-use Rattle.pipe_order.specs.Kinds.{Kinds}
-use Rattle.pipe_order.specs.Item.{Arrival, Outgoing, Out}
-use Rattle.pipe_order.specs.Rules.{Rules, Decision, Sends, Asks, Drops}
-use Rattle.pipe_order.specs.World.{home}
-use Rattle.pipe_order.specs.Deeds.{Pushed, payload_of, Ending, Accepted, Refused, Lacked, Counted, if_accepted, if_refused, Deed, done_items, payloads, Tells}
-use Rattle.pipe_order.specs.Settled.{if_so, Question, sent_out, asked_of, to_link, to_slow}
-use Rattle.pipe_order.specs.Counted.{place_of}
-use Rattle.pipe_order.proofs.Turns.{tells_more, tells_mark, each_more}
+use Rattle.pipeline_laws.specs.Kinds.{Kinds}
+use Rattle.pipeline_laws.specs.Item.{Arrival, Outgoing, Out}
+use Rattle.pipeline_laws.specs.Rules.{Rules, Decision, Sends, Asks, Drops}
+use Rattle.pipeline_laws.specs.World.{home}
+use Rattle.pipeline_laws.specs.Deeds.{Pushed, payload_of, Ending, Accepted, Refused, Lacked, Counted, if_accepted, if_refused, Deed, done_items, payloads, Tells}
+use Rattle.pipeline_laws.specs.Settled.{if_so, SlowPathRequest, sent_out, asked_of, to_link, to_slow}
+use Rattle.pipeline_laws.specs.Counted.{place_of}
+use Rattle.pipeline_laws.proofs.Turns.{tells_more, tells_mark, each_more}
 use Rattle.stage_laws.specs.Ends.{mark_in, load_in, pushed_in, pushes, refusals_in, EndTells, IsGrown}
 use Rattle.stage_laws.specs.Marks.{HasTried, EachHasTried}
 use Rattle.stage_laws.specs.Works.{SentOn, TurnedAway, leaves, IsJust, IsOffered, LacksNothing, deed, Did, Keeps}
@@ -88,7 +88,7 @@ module _ (C : Type 0) {X Y : Type 0} (makes : X → List Y) (x : X) (s : Sender 
   pub grown_no : (y : Y) → makes x ≡ y ∷ [] → IsGrown makes (did Refused) s (refused s (entry s.number (Payload y)))
   grown_no y e = ([], record { entry = entry s.number (Payload y); before = length s.offers } ∷ [], sym (append-nil s.offers), refl, refl, sym e)
 
-module _ {K : Kinds} (R : Rules K) (x : Arrival K) (old : List (Sender (Outgoing K))) (slow : Sender (Question K)) where
+module _ {K : Kinds} (R : Rules K) (x : Arrival K) (old : List (Sender (Outgoing K))) (slow : Sender (SlowPathRequest K)) where
   abbrev pub leaving : ℕ → K.Parcel → Outgoing K
   leaving l y = record { arrived = x.link; number = x.number; answer = false; link = l; parcel = y }
 
@@ -105,17 +105,17 @@ module _ {K : Kinds} (R : Rules K) (x : Arrival K) (old : List (Sender (Outgoing
     to : (j : ℕ) (b : Bool) → eqb (home R (Out o)) (place_of R j) ≡ b → to_link R (place_of R j) x ≡ if_so b (o ∷ [])
     to j b q = ap (λ (r : Decision K). sent_out R (place_of R j) x r) sends ∙ ap (λ (c : Bool). if_so c (o ∷ [])) q
 
-    asks : (e : Ending K.Reason) → IsGrown (to_slow R) (deed x e) slow slow
-    asks e = grown_none K.Reason (to_slow R) x slow e (ap (λ (r : Decision K). asked_of x r) sends)
+    asks : (e : Ending K.RuleCause) → IsGrown (to_slow R) (deed x e) slow slow
+    asks e = grown_none K.RuleCause (to_slow R) x slow e (ap (λ (r : Decision K). asked_of x r) sends)
 
-    one : (e : Ending K.Reason) (t : Sender (Outgoing K)) → IsGrown (to_link R (place_of R k)) (deed x e) s t → (j : ℕ) (u : Sender (Outgoing K)) → slice_get (slice_set old k t) j ≡ Some u
+    one : (e : Ending K.RuleCause) (t : Sender (Outgoing K)) → IsGrown (to_link R (place_of R k)) (deed x e) s t → (j : ℕ) (u : Sender (Outgoing K)) → slice_get (slice_set old k t) j ≡ Some u
         → (j ≡ k) ⊎ (j ≡ k → ⊥) → (w : Sender (Outgoing K)) × (slice_get old j ≡ Some w) × IsGrown (to_link R (place_of R j)) (deed x e) w u
     one e t g j u q (inl same) =
         let w = got_same old k t u d (subst (λ (i : ℕ). slice_get (slice_set old k t) i ≡ Some u) same q) in
         subst (λ (i : ℕ). (w : Sender (Outgoing K)) × (slice_get old i ≡ Some w) × IsGrown (to_link R (place_of R i)) (deed x e) w u) (sym same)
         (s, w.1, subst (λ (z : Sender (Outgoing K)). IsGrown (to_link R (place_of R k)) (deed x e) s z) w.0 g)
     one e t g j u q (inr other) =
-        (u, got_other old k j t u other q, grown_none K.Reason (to_link R (place_of R j)) x u e (to j false (ne_eqb (home R (Out o)) (place_of R j) (λ z. let w = sym at ∙ z in other (omega arith)))))
+        (u, got_other old k j t u other q, grown_none K.RuleCause (to_link R (place_of R j)) x u e (to j false (ne_eqb (home R (Out o)) (place_of R j) (λ z. let w = sym at ∙ z in other (omega arith)))))
 
     made : to_link R (place_of R k) x ≡ o ∷ []
     made = to k true (eq-eqb (home R (Out o)) (place_of R k) at)
@@ -125,7 +125,7 @@ module _ {K : Kinds} (R : Rules K) (x : Arrival K) (old : List (Sender (Outgoing
       just = tt;
       offers = subst leaves (sym sends) tt;
       ample = tt;
-      links = λ j t got. one Accepted (offered s (entry s.number (Payload o))) (grown_yes K.Reason (to_link R (place_of R k)) x s o made) j t (subst (λ (xs : List (Sender (Outgoing K))). slice_get xs j ≡ Some t) (sent d) got) (cases_eq j k);
+      links = λ j t got. one Accepted (offered s (entry s.number (Payload o))) (grown_yes K.RuleCause (to_link R (place_of R k)) x s o made) j t (subst (λ (xs : List (Sender (Outgoing K))). slice_get xs j ≡ Some t) (sent d) got) (cases_eq j k);
       asks = asks Accepted;
       same = ap length (sent d) ∙ set_length old k (offered s (entry s.number (Payload o)));
     }
@@ -135,34 +135,34 @@ module _ {K : Kinds} (R : Rules K) (x : Arrival K) (old : List (Sender (Outgoing
       just = tt;
       offers = subst leaves (sym sends) tt;
       ample = tt;
-      links = λ j t got. one Refused (refused s (entry s.number (Payload o))) (grown_no K.Reason (to_link R (place_of R k)) x s o made) j t (subst (λ (xs : List (Sender (Outgoing K))). slice_get xs j ≡ Some t) (sent d) got) (cases_eq j k);
+      links = λ j t got. one Refused (refused s (entry s.number (Payload o))) (grown_no K.RuleCause (to_link R (place_of R k)) x s o made) j t (subst (λ (xs : List (Sender (Outgoing K))). slice_get xs j ≡ Some t) (sent d) got) (cases_eq j k);
       asks = asks Refused;
       same = ap length (sent d) ∙ set_length old k (refused s (entry s.number (Payload o)));
     }
 
   module _ (p : K.Problem) (is : R.decide x ≡ Asks p) where
-    unsent : (e : Ending K.Reason) (j : ℕ) (t : Sender (Outgoing K)) → slice_get old j ≡ Some t → (s : Sender (Outgoing K)) × (slice_get old j ≡ Some s) × IsGrown (to_link R (place_of R j)) (deed x e) s t
-    unsent e j t at = (t, at, grown_none K.Reason (to_link R (place_of R j)) x t e (ap (λ (r : Decision K). sent_out R (place_of R j) x r) is))
+    unsent : (e : Ending K.RuleCause) (j : ℕ) (t : Sender (Outgoing K)) → slice_get old j ≡ Some t → (s : Sender (Outgoing K)) × (slice_get old j ≡ Some s) × IsGrown (to_link R (place_of R j)) (deed x e) s t
+    unsent e j t at = (t, at, grown_none K.RuleCause (to_link R (place_of R j)) x t e (ap (λ (r : Decision K). sent_out R (place_of R j) x r) is))
 
-    abbrev pub question : Question K
-    question = record { arrival = x; problem = p }
+    abbrev pub request : SlowPathRequest K
+    request = record { arrival = x; problem = p }
 
-    asked : to_slow R x ≡ question ∷ []
+    asked : to_slow R x ≡ request ∷ []
     asked = ap (λ (r : Decision K). asked_of x r) is
 
-    pub did_ask : Did R (deed x Accepted) old old slow (offered slow (entry slow.number (Payload question)))
-    did_ask = record { just = tt; offers = subst leaves (sym is) tt; ample = tt; links = unsent Accepted; asks = grown_yes K.Reason (to_slow R) x slow question asked; same = refl }
+    pub did_ask : Did R (deed x Accepted) old old slow (offered slow (entry slow.number (Payload request)))
+    did_ask = record { just = tt; offers = subst leaves (sym is) tt; ample = tt; links = unsent Accepted; asks = grown_yes K.RuleCause (to_slow R) x slow request asked; same = refl }
 
-    pub did_not_ask : Did R (deed x Refused) old old slow (refused slow (entry slow.number (Payload question)))
-    did_not_ask = record { just = tt; offers = subst leaves (sym is) tt; ample = tt; links = unsent Refused; asks = grown_no K.Reason (to_slow R) x slow question asked; same = refl }
+    pub did_not_ask : Did R (deed x Refused) old old slow (refused slow (entry slow.number (Payload request)))
+    did_not_ask = record { just = tt; offers = subst leaves (sym is) tt; ample = tt; links = unsent Refused; asks = grown_no K.RuleCause (to_slow R) x slow request asked; same = refl }
 
-  pub did_drop : (c : K.Reason) → R.decide x ≡ Drops c → Did R (deed x (Counted c)) old old slow slow
+  pub did_drop : (c : K.RuleCause) → R.decide x ≡ Drops c → Did R (deed x (Counted c)) old old slow slow
   did_drop c drops = record {
     just = drops;
     offers = tt;
     ample = tt;
-    links = λ j t at. (t, at, grown_none K.Reason (to_link R (place_of R j)) x t (Counted c) (ap (λ (r : Decision K). sent_out R (place_of R j) x r) drops));
-    asks = grown_none K.Reason (to_slow R) x slow (Counted c) (ap (λ (r : Decision K). asked_of x r) drops);
+    links = λ j t at. (t, at, grown_none K.RuleCause (to_link R (place_of R j)) x t (Counted c) (ap (λ (r : Decision K). sent_out R (place_of R j) x r) drops));
+    asks = grown_none K.RuleCause (to_slow R) x slow (Counted c) (ap (λ (r : Decision K). asked_of x r) drops);
     same = refl;
   }
 
@@ -199,7 +199,7 @@ module _ {C X : Type 0} where
 
 module _ {K : Kinds} (R : Rules K) where
   -- nothing is done yet
-  pub keeps_none : (taker : Taker (Arrival K)) (senders : List (Sender (Outgoing K))) (slow : Sender (Question K)) → taker.taken ≡ [] → ((j : ℕ) (s : Sender (Outgoing K)) → slice_get senders j ≡ Some s → (s.offers ≡ []) × (s.refusals ≡ []))
+  pub keeps_none : (taker : Taker (Arrival K)) (senders : List (Sender (Outgoing K))) (slow : Sender (SlowPathRequest K)) → taker.taken ≡ [] → ((j : ℕ) (s : Sender (Outgoing K)) → slice_get senders j ≡ Some s → (s.offers ≡ []) × (s.refusals ≡ []))
       → (slow.offers ≡ []) × (slow.refusals ≡ []) → Keeps R [] taker None senders slow
   keeps_none taker senders slow untaken fresh asks = record {
     took = ap (λ es. payloads (pushes es)) untaken;
@@ -211,7 +211,7 @@ module _ {K : Kinds} (R : Rules K) where
   }
 
   -- a packet is taken in hand
-  pub keeps_taken : (log : List (Deed K.Reason (Arrival K))) (x : Arrival K) (e : Entry (Arrival K)) (taker : Taker (Arrival K)) (senders : List (Sender (Outgoing K))) (slow : Sender (Question K))
+  pub keeps_taken : (log : List (Deed K.RuleCause (Arrival K))) (x : Arrival K) (e : Entry (Arrival K)) (taker : Taker (Arrival K)) (senders : List (Sender (Outgoing K))) (slow : Sender (SlowPathRequest K))
       → payload_of (load_in e.load) ≡ x ∷ [] → Keeps R log taker None senders slow → Keeps R log (took taker e) (Some x) senders slow
   keeps_taken log x e taker senders slow is k = record {
     took = taken_more taker.taken e ∙ ap (λ ys. payloads (pushes taker.taken) ++ ys) is ∙ ap (λ ys. ys ++ x ∷ []) (k.took ∙ append-nil (done_items log));
@@ -223,23 +223,23 @@ module _ {K : Kinds} (R : Rules K) where
   }
 
   -- the packet in hand is worked on
-  pub keeps_worked : (log : List (Deed K.Reason (Arrival K))) (d : Deed K.Reason (Arrival K)) (taker : Taker (Arrival K)) (old new : List (Sender (Outgoing K))) (slow slow' : Sender (Question K)) → Keeps R log taker (Some d.item) old slow → Did R d old new slow slow' → Keeps R (log ++ d ∷ []) taker None new slow'
+  pub keeps_worked : (log : List (Deed K.RuleCause (Arrival K))) (d : Deed K.RuleCause (Arrival K)) (taker : Taker (Arrival K)) (old new : List (Sender (Outgoing K))) (slow slow' : Sender (SlowPathRequest K)) → Keeps R log taker (Some d.item) old slow → Did R d old new slow slow' → Keeps R (log ++ d ∷ []) taker None new slow'
   keeps_worked log d taker old new slow slow' k w = record {
     took = k.took ∙ sym (items_more log d) ∙ sym (append-nil (done_items (log ++ d ∷ [])));
     just = each_more (IsJust R) log (d) k.just w.just;
     offers = each_more (IsOffered R) log (d) k.offers w.offers;
-    ample = each_more (λ (d : Deed K.Reason (Arrival K)). LacksNothing d.end) log (d) k.ample w.ample;
+    ample = each_more (λ (d : Deed K.RuleCause (Arrival K)). LacksNothing d.end) log (d) k.ample w.ample;
     links = λ j t at. let u = w.links j t at in grown_tells (to_link R (place_of R j)) log (d) u.0 t (k.links j u.0 u.1) u.2;
     asks = grown_tells (to_slow R) log (d) slow slow' k.asks w.asks;
   }
 
   -- a packet is taken and worked on
-  pub keeps_did : (log : List (Deed K.Reason (Arrival K))) (d : Deed K.Reason (Arrival K)) (e : Entry (Arrival K)) (taker : Taker (Arrival K)) (old new : List (Sender (Outgoing K))) (slow slow' : Sender (Question K))
+  pub keeps_did : (log : List (Deed K.RuleCause (Arrival K))) (d : Deed K.RuleCause (Arrival K)) (e : Entry (Arrival K)) (taker : Taker (Arrival K)) (old new : List (Sender (Outgoing K))) (slow slow' : Sender (SlowPathRequest K))
       → payload_of (load_in e.load) ≡ d.item ∷ [] → Keeps R log taker None old slow → Did R d old new slow slow' → Keeps R (log ++ d ∷ []) (took taker e) None new slow'
   keeps_did log d e taker old new slow slow' is k w = keeps_worked log d (took taker e) old new slow slow' (keeps_taken log d.item e taker old slow is k) w
 
   -- a mark is no deed
-  pub keeps_mark : (log : List (Deed K.Reason (Arrival K))) (e : Entry (Arrival K)) (taker : Taker (Arrival K)) (senders : List (Sender (Outgoing K))) (slow : Sender (Question K))
+  pub keeps_mark : (log : List (Deed K.RuleCause (Arrival K))) (e : Entry (Arrival K)) (taker : Taker (Arrival K)) (senders : List (Sender (Outgoing K))) (slow : Sender (SlowPathRequest K))
       → payload_of (load_in e.load) ≡ [] → Keeps R log taker None senders slow → Keeps R log (took taker e) None senders slow
   keeps_mark log e taker senders slow is k = record {
     took = taken_more taker.taken e ∙ ap (λ ys. payloads (pushes taker.taken) ++ ys) is ∙ append-nil (payloads (pushes taker.taken)) ∙ k.took;
@@ -251,11 +251,11 @@ module _ {K : Kinds} (R : Rules K) where
   }
 
   -- an empty look is none
-  pub keeps_looked : (log : List (Deed K.Reason (Arrival K))) (taker : Taker (Arrival K)) (hand : Option (Arrival K)) (senders : List (Sender (Outgoing K))) (slow : Sender (Question K)) → Keeps R log taker hand senders slow → Keeps R log (looked taker) hand senders slow
+  pub keeps_looked : (log : List (Deed K.RuleCause (Arrival K))) (taker : Taker (Arrival K)) (hand : Option (Arrival K)) (senders : List (Sender (Outgoing K))) (slow : Sender (SlowPathRequest K)) → Keeps R log taker hand senders slow → Keeps R log (looked taker) hand senders slow
   keeps_looked log taker hand senders slow k = record { took = k.took; just = k.just; offers = k.offers; ample = k.ample; links = k.links; asks = k.asks }
 
   -- marks that were tried are none
-  pub keeps_tried : (log : List (Deed K.Reason (Arrival K))) (taker : Taker (Arrival K)) (hand : Option (Arrival K)) (old new : List (Sender (Outgoing K))) (slow slow' : Sender (Question K)) → EachHasTried old new → HasTried slow slow'
+  pub keeps_tried : (log : List (Deed K.RuleCause (Arrival K))) (taker : Taker (Arrival K)) (hand : Option (Arrival K)) (old new : List (Sender (Outgoing K))) (slow slow' : Sender (SlowPathRequest K)) → EachHasTried old new → HasTried slow slow'
       → Keeps R log taker hand old slow → Keeps R log taker hand new slow'
   keeps_tried log taker hand old new slow slow' tried asked k = record {
     took = k.took;

@@ -1,12 +1,12 @@
 -- Of a running pipeline that has ended: what its workers counted, cause by cause.
 use Rattle.std.specs.Prelude.{◌≡◌, ◌+◌, ℕ, Bool, true, false, not, ◌&&◌, List, length, if◌then◌else◌}
-use Rattle.pipe_order.specs.Kinds.{Kinds}
-use Rattle.pipe_order.specs.Rules.{Rules, IsLawful}
-use Rattle.pipe_order.specs.World.{Cause, link_pipe}
-use Rattle.pipe_order.specs.Counts.{total, count}
-use Rattle.pipe_order.specs.Deeds.{Ending, Accepted, Refused, Lacked, Counted, Deed}
-use Rattle.pipe_order.specs.Settled.{Views, told, IsTold}
-use Rattle.pipe_order.specs.Counted.{sum_to, SlowViews, place_of, link_pipes, full_processors, full_links, full_slow, IsCounted}
+use Rattle.pipeline_laws.specs.Kinds.{Kinds}
+use Rattle.pipeline_laws.specs.Rules.{Rules, IsLawful}
+use Rattle.pipeline_laws.specs.World.{Cause, link_pipe}
+use Rattle.pipeline_laws.specs.Counts.{total, count}
+use Rattle.pipeline_laws.specs.Deeds.{Ending, Accepted, Refused, Lacked, Counted, Deed}
+use Rattle.pipeline_laws.specs.Settled.{Views, told, IsTold}
+use Rattle.pipeline_laws.specs.Counted.{sum_to, SlowViews, place_of, link_pipes, full_processors, full_links, full_slow, IsCounted}
 use Rattle.stage_laws.specs.Receives.{lacks}
 use Rattle.stage_laws.specs.Forwards.{Handed}
 use Rattle.stage_laws.specs.Counting.{Count, Received, Sent, Replied, Dropped, counted_receiving, counted_working, counted_answering, counted_forwarding}
@@ -51,7 +51,7 @@ module _ {K : Kinds} where
   received_count R v = sum_to R.links (λ p. length (told v p))
 
   -- dropped by the decision, or with the reply withheld, for some reasons
-  abbrev pub ruled_count : Rules K → Views K → SlowViews K → (K.Reason → Bool) → ℕ
+  abbrev pub ruled_count : Rules K → Views K → SlowViews K → (K.RuleCause → Bool) → ℕ
   ruled_count R v s test = sum_to R.links (λ p. counted_in test (v.received p)) + sum_to R.processors (λ i. counted_in test (v.worked i)) + counted_in test s.worked
 
   abbrev pub no_buffer_count : Rules K → Views K → ℕ

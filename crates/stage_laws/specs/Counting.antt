@@ -1,12 +1,12 @@
 -- What each worker counts, by what it did.
 use Rattle.std.specs.Prelude.{List, [], ◌∷◌, ◌++◌, map, if◌then◌else◌}
 use Rattle.std.specs.List.{flat_map}
-use Rattle.pipe_order.specs.Kinds.{Kinds}
-use Rattle.pipe_order.specs.Item.{Arrival, Outgoing}
-use Rattle.pipe_order.specs.Rules.{Rules, Decision, Sends, Asks, Drops}
-use Rattle.pipe_order.specs.World.{Cause}
-use Rattle.pipe_order.specs.Deeds.{Pushed, payloads, from_mark, Ending, Accepted, Refused, Lacked, Counted, Deed}
-use Rattle.pipe_order.specs.Settled.{Question}
+use Rattle.pipeline_laws.specs.Kinds.{Kinds}
+use Rattle.pipeline_laws.specs.Item.{Arrival, Outgoing}
+use Rattle.pipeline_laws.specs.Rules.{Rules, Decision, Sends, Asks, Drops}
+use Rattle.pipeline_laws.specs.World.{Cause}
+use Rattle.pipeline_laws.specs.Deeds.{Pushed, payloads, from_mark, Ending, Accepted, Refused, Lacked, Counted, Deed}
+use Rattle.pipeline_laws.specs.Settled.{SlowPathRequest}
 use Rattle.stage_laws.specs.Forwards.{Handed}
 
 pub data Count (K : Kinds) : Type 0 where
@@ -17,7 +17,7 @@ pub data Count (K : Kinds) : Type 0 where
 
 module _ {K : Kinds} where
   -- of one deed, where a full pipe has the cause full, and what was lacking the cause without
-  abbrev pub dropped_by : (full without : Cause K) → Ending K.Reason → List (Count K)
+  abbrev pub dropped_by : (full without : Cause K) → Ending K.RuleCause → List (Count K)
   dropped_by full without Accepted = []
   dropped_by full without Refused = Dropped full ∷ []
   dropped_by full without Lacked = Dropped without ∷ []
@@ -29,13 +29,13 @@ module _ {K : Kinds} where
   full_by (Asks p) = Cause.AnswerFull
   full_by (Drops c) = Cause.Ruled c
 
-  abbrev pub receiver_counts : Deed K.Reason (Arrival K) → List (Count K)
+  abbrev pub receiver_counts : Deed K.RuleCause (Arrival K) → List (Count K)
   receiver_counts d = Received ∷ dropped_by Cause.ProcessorFull Cause.NoBuffer d.end
 
-  abbrev pub processor_counts : Rules K → Deed K.Reason (Arrival K) → List (Count K)
+  abbrev pub processor_counts : Rules K → Deed K.RuleCause (Arrival K) → List (Count K)
   processor_counts R d = dropped_by (full_by (R.decide d.item)) Cause.NoMemory d.end
 
-  abbrev pub slow_counts : Deed K.Reason (Question K) → List (Count K)
+  abbrev pub slow_counts : Deed K.RuleCause (SlowPathRequest K) → List (Count K)
   slow_counts d = dropped_by Cause.LinkFull Cause.NoMemory d.end
 
   abbrev pub handed_count : Handed K → Count K
@@ -46,13 +46,13 @@ module _ {K : Kinds} where
 
   -- ---- all that a worker counted
 
-  abbrev pub counted_receiving : List (Deed K.Reason (Arrival K)) → List (Count K)
+  abbrev pub counted_receiving : List (Deed K.RuleCause (Arrival K)) → List (Count K)
   counted_receiving log = flat_map receiver_counts log
 
-  abbrev pub counted_working : Rules K → List (Deed K.Reason (Arrival K)) → List (Count K)
+  abbrev pub counted_working : Rules K → List (Deed K.RuleCause (Arrival K)) → List (Count K)
   counted_working R log = flat_map (processor_counts R) log
 
-  abbrev pub counted_answering : List (Deed K.Reason (Question K)) → List (Count K)
+  abbrev pub counted_answering : List (Deed K.RuleCause (SlowPathRequest K)) → List (Count K)
   counted_answering log = flat_map slow_counts log
 
   abbrev pub counted_forwarding : List (Handed K) → (low high : List (Pushed (Outgoing K))) → List (Count K)

@@ -1,12 +1,12 @@
 -- What holds of a running pipeline that has ended: the premises that the workers give, and what follows.
 use Rattle.std.specs.Prelude.{◌≡◌, ◌<◌, ◌≤◌, ◌+◌, ◌*◌, ℕ, Bool, true, false, List, [], ◌++◌}
-use Rattle.pipe_order.specs.Kinds.{Kinds}
-use Rattle.pipe_order.specs.Item.{Arrival, Outgoing, Out}
-use Rattle.pipe_order.specs.Rules.{Rules, Sends, Asks, Replies, IsLawful}
-use Rattle.pipe_order.specs.World.{home, link_pipe}
-use Rattle.pipe_order.specs.Deeds.{payloads, of_producer, Each, Deed}
-use Rattle.pipe_order.specs.Settled.{Question, Views, IsTold, IsLinkPipe, Settled, SettlesInOrder}
-use Rattle.pipe_order.specs.Counted.{SlowViews, place_of, link_pipes}
+use Rattle.pipeline_laws.specs.Kinds.{Kinds}
+use Rattle.pipeline_laws.specs.Item.{Arrival, Outgoing, Out}
+use Rattle.pipeline_laws.specs.Rules.{Rules, Sends, Asks, Replies, IsLawful}
+use Rattle.pipeline_laws.specs.World.{home, link_pipe}
+use Rattle.pipeline_laws.specs.Deeds.{payloads, of_producer, Each, Deed}
+use Rattle.pipeline_laws.specs.Settled.{SlowPathRequest, Views, IsTold, IsLinkPipe, Settled, SettlesInOrder}
+use Rattle.pipeline_laws.specs.Counted.{SlowViews, place_of, link_pipes}
 use Rattle.stage_laws.specs.Works.{IsOffered, LacksNothing}
 use Rattle.stage_laws.specs.Answers.{SlowLaw}
 use Rattle.stage_laws.specs.Receives.{IsClear}
@@ -31,8 +31,8 @@ pub record Ended {K : Kinds} (R : Rules K) (v : Views K) (s : SlowViews K) (went
   pub low_shut : (l : ℕ) → l < R.links → v.shut (link_pipe R false l) ≡ closed (2 * l)
   pub high_shut : (l : ℕ) → l < R.links → v.shut (link_pipe R true l) ≡ closed (2 * l + 1)
   -- from the pool of buffers on processors and the slow path lack nothing
-  pub unlacked : (i : ℕ) → i < R.processors → Each (λ (d : Deed K.Reason (Arrival K)). LacksNothing d.end) (v.worked i)
-  pub unlacked_slow : Each (λ (d : Deed K.Reason (Question K)). LacksNothing d.end) s.worked
+  pub unlacked : (i : ℕ) → i < R.processors → Each (λ (d : Deed K.RuleCause (Arrival K)). LacksNothing d.end) (v.worked i)
+  pub unlacked_slow : Each (λ (d : Deed K.RuleCause (SlowPathRequest K)). LacksNothing d.end) s.worked
 
 -- ---- what follows
 

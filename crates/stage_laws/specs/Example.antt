@@ -6,12 +6,12 @@ use Rattle.ruled_pipe.specs.declared.entry.Load.TheVariants.{Payload, Marked}
 use Rattle.ruled_pipe.specs.declared.entry.Mark.TheVariants.{Close, End}
 use Rattle.ruled_pipe.specs.Producer.{Sender, entry, refusal}
 use Rattle.ruled_pipe.specs.Consumer.{Taker}
-use Rattle.pipe_order.specs.Kinds.{Kinds}
-use Rattle.pipe_order.specs.Item.{Arrival, Outgoing}
-use Rattle.pipe_order.specs.Rules.{Rules, Sends, Asks, Drops, Replies, Withholds, IsLawful}
-use Rattle.pipe_order.specs.World.{Cause, link_pipe}
-use Rattle.pipe_order.specs.Deeds.{Deed, Accepted, Refused, Lacked, Counted}
-use Rattle.pipe_order.specs.Settled.{Question}
+use Rattle.pipeline_laws.specs.Kinds.{Kinds}
+use Rattle.pipeline_laws.specs.Item.{Arrival, Outgoing}
+use Rattle.pipeline_laws.specs.Rules.{Rules, Sends, Asks, Drops, Replies, Withholds, IsLawful}
+use Rattle.pipeline_laws.specs.World.{Cause, link_pipe}
+use Rattle.pipeline_laws.specs.Deeds.{Deed, Accepted, Refused, Lacked, Counted}
+use Rattle.pipeline_laws.specs.Settled.{SlowPathRequest}
 use Rattle.stage_laws.specs.Works.{deed}
 use Rattle.stage_laws.specs.Weighed.{places}
 use Rattle.stage_laws.specs.Places.{only_of}
@@ -20,7 +20,7 @@ use Rattle.stage_laws.specs.Causes.{all_counts, is_received, is_sent, is_replied
 use Rattle.stage_laws.specs.Workers.{Workers, views_of, slow_views, went_at, HaveEnded}
 
 abbrev pub samples : Kinds
-samples = record { Datagram = ℕ; Parcel = ℕ; Problem = ℕ; Reason = ℕ; Key = ℕ }
+samples = record { Datagram = ℕ; Parcel = ℕ; Problem = ℕ; RuleCause = ℕ; Key = ℕ }
 
 -- 9 has a fault, 7 is dropped, 5 and 6 are asked about, and 6 has no answer; all else is sent on, and 2 is urgent
 abbrev pub rules : Rules samples
@@ -47,8 +47,8 @@ out n y = record { arrived = 0; number = n; answer = false; link = 0; parcel = y
 abbrev pub answer : ℕ → Outgoing samples
 answer n = record { arrived = 0; number = n; answer = true; link = 0; parcel = 55 }
 
-abbrev pub question : ℕ → ℕ → ℕ → Question samples
-question n d p = record { arrival = arrived n d; problem = p }
+abbrev pub request : ℕ → ℕ → ℕ → SlowPathRequest samples
+request n d p = record { arrival = arrived n d; problem = p }
 
 abbrev Did : Type 0
 Did = Deed ℕ (Arrival samples)
@@ -71,8 +71,8 @@ abbrev to_processor : List (Entry (Arrival samples))
 to_processor =
     told 0 (arrived 1 1) ∷ told 0 (arrived 2 2) ∷ told 0 (arrived 6 5) ∷ told 0 (arrived 7 6) ∷ told 0 (arrived 8 7) ∷ told 0 (arrived 9 8) ∷ told 0 (arrived 10 10) ∷ told 0 (arrived 11 5) ∷ entry 0 (Marked End) ∷ []
 
-abbrev to_slow : List (Entry (Question samples))
-to_slow = told 0 (question 6 5 52) ∷ told 0 (question 7 6 53) ∷ entry 0 (Marked End) ∷ []
+abbrev to_slow : List (Entry (SlowPathRequest samples))
+to_slow = told 0 (request 6 5 52) ∷ told 0 (request 7 6 53) ∷ entry 0 (Marked End) ∷ []
 
 abbrev taken : {X : Type 0} → TableId → ℕ → List (Entry X) → Taker X
 taken id producers es = record { pipe = id; producers = producers; capacity = 2; taken = es; looks = [] }
@@ -88,10 +88,10 @@ workers id = record {
     log = worked;
     taker = taken id 1 to_processor;
     links = sender id 0 3 (told 0 (out 1 1) ∷ told 0 (out 10 10) ∷ entry 0 (Marked End) ∷ []) (out 9 8 ∷ []) ∷ sender id 0 3 (told 0 (out 2 2) ∷ entry 0 (Marked End) ∷ []) [] ∷ [];
-    slow = sender id 0 1 to_slow (question 11 5 52 ∷ []);
+    slow = sender id 0 1 to_slow (request 11 5 52 ∷ []);
   } ∷ [];
   slow = record {
-    log = deed (question 6 5 52) Accepted ∷ deed (question 7 6 53) (Counted 10) ∷ [];
+    log = deed (request 6 5 52) Accepted ∷ deed (request 7 6 53) (Counted 10) ∷ [];
     taker = taken id 1 to_slow;
     links = sender id 1 3 (told 1 (answer 6) ∷ entry 1 (Marked End) ∷ []) [] ∷ sender id 1 3 (entry 1 (Marked End) ∷ []) [] ∷ [];
   };

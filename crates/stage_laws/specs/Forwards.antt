@@ -1,10 +1,10 @@
 -- What a forwarder took of the two pipes of its link, and the law that it keeps.
 use Rattle.std.specs.Prelude.{◌≡◌, ◌+◌, ℕ, Bool, not, List, [], ◌∷◌, ◌++◌, map, Option, Some}
-use Rattle.pipe_order.specs.Kinds.{Kinds}
-use Rattle.pipe_order.specs.Item.{Outgoing}
-use Rattle.pipe_order.specs.Sent.{IsMerge}
-use Rattle.pipe_order.specs.Counts.{count}
-use Rattle.pipe_order.specs.Deeds.{Pushed, payloads, has_mark, before_mark}
+use Rattle.pipeline_laws.specs.Kinds.{Kinds}
+use Rattle.pipeline_laws.specs.Item.{Outgoing}
+use Rattle.pipeline_laws.specs.Sent.{IsMerge}
+use Rattle.pipeline_laws.specs.Counts.{count}
+use Rattle.pipeline_laws.specs.Deeds.{Pushed, payloads, has_mark, before_mark}
 
 -- what a forwarder handed to its sink, and whether that took it
 pub record Handed (K : Kinds) : Type 0 where

@@ -1,27 +1,27 @@
 -- Of a running pipeline that has ended: why its workers counted a drop, what full pipes refused, and what sinks were handed.
 use Rattle.std.specs.Prelude.{◌≡◌, ◌<◌, ℕ, Bool, false, true, List, []}
-use Rattle.pipe_order.specs.Kinds.{Kinds}
-use Rattle.pipe_order.specs.Item.{Arrival, Outgoing, Out}
-use Rattle.pipe_order.specs.Rules.{Rules, Asks, Drops, Withholds, IsLawful}
-use Rattle.pipe_order.specs.World.{home, link_pipe}
-use Rattle.pipe_order.specs.Sent.{IsMerge}
-use Rattle.pipe_order.specs.Deeds.{Each, Deed, if_counted}
-use Rattle.pipe_order.specs.Settled.{Question, Views, IsTold, IsLinkPipe}
-use Rattle.pipe_order.specs.Counted.{SlowViews}
+use Rattle.pipeline_laws.specs.Kinds.{Kinds}
+use Rattle.pipeline_laws.specs.Item.{Arrival, Outgoing, Out}
+use Rattle.pipeline_laws.specs.Rules.{Rules, Asks, Drops, Withholds, IsLawful}
+use Rattle.pipeline_laws.specs.World.{home, link_pipe}
+use Rattle.pipeline_laws.specs.Sent.{IsMerge}
+use Rattle.pipeline_laws.specs.Deeds.{Each, Deed, if_counted}
+use Rattle.pipeline_laws.specs.Settled.{SlowPathRequest, Views, IsTold, IsLinkPipe}
+use Rattle.pipeline_laws.specs.Counted.{SlowViews}
 use Rattle.stage_laws.specs.Forwards.{Handed, handed_items}
 use Rattle.stage_laws.specs.Ended.{Ended, IsAnswerTo, IsPacketOf}
 
 module _ {K : Kinds} where
-  -- a question is about a packet that was told, by its decision
-  abbrev pub IsAskedOf : Rules K → Views K → Question K → Type 0
+  -- a request is about a packet that was told, by its decision
+  abbrev pub IsAskedOf : Rules K → Views K → SlowPathRequest K → Type 0
   IsAskedOf R v q = IsTold v q.arrival × (R.decide q.arrival ≡ Asks q.problem)
 
   -- a packet that was counted is dropped by the decision, for that reason
-  abbrev pub IsDropped : Rules K → Views K → Deed K.Reason (Arrival K) → Type 0
+  abbrev pub IsDropped : Rules K → Views K → Deed K.RuleCause (Arrival K) → Type 0
   IsDropped R v d = IsTold v d.item × if_counted d.end (λ c. R.decide d.item ≡ Drops c)
 
-  -- a question that was counted has its reply withheld, for that reason
-  abbrev pub IsUnanswered : Rules K → Views K → Deed K.Reason (Question K) → Type 0
+  -- a request that was counted has its reply withheld, for that reason
+  abbrev pub IsUnanswered : Rules K → Views K → Deed K.RuleCause (SlowPathRequest K) → Type 0
   IsUnanswered R v d = IsAskedOf R v d.item × if_counted d.end (λ c. R.reply d.item.arrival d.item.problem ≡ Withholds c)
 
 pub record HasReasons {K : Kinds} (R : Rules K) (v : Views K) (s : SlowViews K) : Type 0 where

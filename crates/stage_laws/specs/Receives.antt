@@ -1,21 +1,21 @@
 -- What a receiver does in one turn, and the law that it keeps.
 use Rattle.std.specs.Prelude.{◌≡◌, ℕ, List, length, Some, None, slice_get}
 use Rattle.ruled_pipe.specs.Producer.{Sender}
-use Rattle.pipe_order.specs.Kinds.{Kinds}
-use Rattle.pipe_order.specs.Item.{Arrival}
-use Rattle.pipe_order.specs.Rules.{Rules}
-use Rattle.pipe_order.specs.Counts.{total}
-use Rattle.pipe_order.specs.Deeds.{Each, Deed, Ending, Accepted, Refused, Lacked, Counted, if_counted, done_items}
-use Rattle.pipe_order.specs.Settled.{to_processor, AreNumbered}
-use Rattle.pipe_order.specs.Counted.{is_offer}
+use Rattle.pipeline_laws.specs.Kinds.{Kinds}
+use Rattle.pipeline_laws.specs.Item.{Arrival}
+use Rattle.pipeline_laws.specs.Rules.{Rules}
+use Rattle.pipeline_laws.specs.Counts.{total}
+use Rattle.pipeline_laws.specs.Deeds.{Each, Deed, Ending, Accepted, Refused, Lacked, Counted, if_counted, done_items}
+use Rattle.pipeline_laws.specs.Settled.{to_processor, AreNumbered}
+use Rattle.pipeline_laws.specs.Counted.{is_offer}
 use Rattle.stage_laws.specs.Ends.{EndTells, IsGrown}
 
 module _ {K : Kinds} where
-  abbrev pub IsSeen : Rules K → Deed K.Reason (Arrival K) → Type 0
+  abbrev pub IsSeen : Rules K → Deed K.RuleCause (Arrival K) → Type 0
   IsSeen R d = if_counted d.end (λ c. R.inspect d.item ≡ Some c)
 
   -- nothing was offered but what has no fault
-  abbrev pub IsClear : Rules K → Deed K.Reason (Arrival K) → Type 0
+  abbrev pub IsClear : Rules K → Deed K.RuleCause (Arrival K) → Type 0
   IsClear R d = is_offer d.end (R.inspect d.item ≡ None)
 
 module _ {C : Type 0} where
@@ -31,14 +31,14 @@ module _ {C X : Type 0} where
   lacks log = total (λ d. was_lacked d.end) log
 
 -- One datagram worked on: every processor's end grew by what was made of it.
-pub record Passed {K : Kinds} (R : Rules K) (d : Deed K.Reason (Arrival K)) (old new : List (Sender (Arrival K))) : Type 0 where
+pub record Passed {K : Kinds} (R : Rules K) (d : Deed K.RuleCause (Arrival K)) (old new : List (Sender (Arrival K))) : Type 0 where
   pub just : IsSeen R d
   pub clear : IsClear R d
   pub ends : (i : ℕ) (t : Sender (Arrival K)) → slice_get new i ≡ Some t → (s : Sender (Arrival K)) × (slice_get old i ≡ Some s) × IsGrown (to_processor R i) d s t
   pub same : length new ≡ length old
 
 -- the receiver of link a numbered so many
-pub record KeepsReceiver {K : Kinds} (R : Rules K) (a : ℕ) (log : List (Deed K.Reason (Arrival K))) (senders : List (Sender (Arrival K))) : Type 0 where
+pub record KeepsReceiver {K : Kinds} (R : Rules K) (a : ℕ) (log : List (Deed K.RuleCause (Arrival K))) (senders : List (Sender (Arrival K))) : Type 0 where
   pub numbered : AreNumbered a 1 (done_items log)
   pub just : Each (IsSeen R) log
   pub clear : Each (IsClear R) log

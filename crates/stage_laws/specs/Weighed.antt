@@ -1,12 +1,12 @@
 -- Every packet that a receiver numbered stands at exactly one place: the sums of the counts, weighed by the packets' names.
 use Rattle.std.specs.Prelude.{◌≡◌, ℕ, ◌+◌, List}
-use Rattle.pipe_order.specs.Kinds.{Kinds}
-use Rattle.pipe_order.specs.Item.{Arrival, Outgoing}
-use Rattle.pipe_order.specs.Rules.{Rules}
-use Rattle.pipe_order.specs.Counts.{total}
-use Rattle.pipe_order.specs.Deeds.{payloads, Ending, Accepted, Refused, Lacked, Counted, Deed, done_items}
-use Rattle.pipe_order.specs.Settled.{Question, Views}
-use Rattle.pipe_order.specs.Counted.{sum_to, is_offer, SlowViews, place_of, link_pipes}
+use Rattle.pipeline_laws.specs.Kinds.{Kinds}
+use Rattle.pipeline_laws.specs.Item.{Arrival, Outgoing}
+use Rattle.pipeline_laws.specs.Rules.{Rules}
+use Rattle.pipeline_laws.specs.Counts.{total}
+use Rattle.pipeline_laws.specs.Deeds.{payloads, Ending, Accepted, Refused, Lacked, Counted, Deed, done_items}
+use Rattle.pipeline_laws.specs.Settled.{SlowPathRequest, Views}
+use Rattle.pipeline_laws.specs.Counted.{sum_to, is_offer, SlowViews, place_of, link_pipes}
 
 module _ {C : Type 0} where
   abbrev pub lost_by : Ending C → ℕ → ℕ
@@ -29,8 +29,8 @@ module _ {K : Kinds} (w : (link number : ℕ) → ℕ) where
   abbrev pub arrival_weight : Arrival K → ℕ
   arrival_weight x = w x.link x.number
 
-  abbrev pub question_weight : Question K → ℕ
-  question_weight q = w q.arrival.link q.arrival.number
+  abbrev pub request_weight : SlowPathRequest K → ℕ
+  request_weight q = w q.arrival.link q.arrival.number
 
   abbrev pub outgoing_weight : Outgoing K → ℕ
   outgoing_weight o = w o.arrived o.number
@@ -46,8 +46,8 @@ module _ {K : Kinds} (w : (link number : ℕ) → ℕ) where
       sum_to (link_pipes R) (λ j. total (outgoing_weight w) (v.handed (place_of R j)))
       + (sum_to R.links (λ p. sum_to R.processors (λ i. total (arrival_weight w) (v.arrived_full p i)))
       + (sum_to R.processors (λ i. sum_to (link_pipes R) (λ j. total (outgoing_weight w) (v.leaving_full i (place_of R j)))) + sum_to (link_pipes R) (λ j. total (outgoing_weight w) (s.leaving_full (place_of R j))))
-      + sum_to R.processors (λ i. total (question_weight w) (v.asked_full i))
-      + (sum_to R.links (λ p. lost (arrival_weight w) (v.received p)) + sum_to R.processors (λ i. lost (arrival_weight w) (v.worked i)) + lost (question_weight w) s.worked)
+      + sum_to R.processors (λ i. total (request_weight w) (v.asked_full i))
+      + (sum_to R.links (λ p. lost (arrival_weight w) (v.received p)) + sum_to R.processors (λ i. lost (arrival_weight w) (v.worked i)) + lost (request_weight w) s.worked)
       + sum_to (link_pipes R) (λ j. total (outgoing_weight w) (v.swept (place_of R j))))
 
   -- with the weight that is 1 for one packet alone and else 0, that packet stands at one of these places, once
@@ -59,7 +59,7 @@ module _ {K : Kinds} (w : (link number : ℕ) → ℕ) where
   through_processors R v = sum_to R.processors (λ i. total (arrival_weight w) (payloads (v.taken i)))
 
   abbrev pub through_slow : SlowViews K → ℕ
-  through_slow s = total (question_weight w) (payloads s.taken)
+  through_slow s = total (request_weight w) (payloads s.taken)
 
   abbrev pub through_links : Rules K → Views K → ℕ
   through_links R v = sum_to (link_pipes R) (λ j. total (outgoing_weight w) (payloads (v.forwarded (place_of R j))))

@@ -2,13 +2,13 @@
 use Rattle.std.specs.Prelude.{◌≡◌, ◌<◌, ◌+◌, ◌-◌, ◌*◌, nat_lt, ℕ, zero, suc, Bool, false, List, [], ◌∷◌, ◌++◌, map, length, Some, None, slice_get, if◌then◌else◌}
 use Rattle.ruled_pipe.specs.Producer.{Sender}
 use Rattle.ruled_pipe.specs.Consumer.{Taker}
-use Rattle.pipe_order.specs.Kinds.{Kinds}
-use Rattle.pipe_order.specs.Item.{Arrival, Outgoing}
-use Rattle.pipe_order.specs.Rules.{Rules}
-use Rattle.pipe_order.specs.World.{slow_seat}
-use Rattle.pipe_order.specs.Deeds.{Pushed, payloads, before_mark, from_mark, has_mark, Deed}
-use Rattle.pipe_order.specs.Settled.{Question, Views}
-use Rattle.pipe_order.specs.Counted.{SlowViews, link_pipes}
+use Rattle.pipeline_laws.specs.Kinds.{Kinds}
+use Rattle.pipeline_laws.specs.Item.{Arrival, Outgoing}
+use Rattle.pipeline_laws.specs.Rules.{Rules}
+use Rattle.pipeline_laws.specs.World.{slow_seat}
+use Rattle.pipeline_laws.specs.Deeds.{Pushed, payloads, before_mark, from_mark, has_mark, Deed}
+use Rattle.pipeline_laws.specs.Settled.{SlowPathRequest, Views}
+use Rattle.pipeline_laws.specs.Counted.{SlowViews, link_pipes}
 use Rattle.stage_laws.specs.Ends.{pushes}
 use Rattle.stage_laws.specs.Works.{Keeps}
 use Rattle.stage_laws.specs.Answers.{KeepsAnswers}
@@ -20,18 +20,18 @@ use Rattle.stage_laws.specs.Ended.{Ended}
 -- ---- workers: what each did, and its ends of the pipes
 
 pub record Receiver (K : Kinds) : Type 0 where
-  pub log : List (Deed K.Reason (Arrival K))
+  pub log : List (Deed K.RuleCause (Arrival K))
   pub senders : List (Sender (Arrival K))  -- one to each processor
 
 pub record Processor (K : Kinds) : Type 0 where
-  pub log : List (Deed K.Reason (Arrival K))
+  pub log : List (Deed K.RuleCause (Arrival K))
   pub taker : Taker (Arrival K)
   pub links : List (Sender (Outgoing K))  -- two to each link
-  pub slow : Sender (Question K)
+  pub slow : Sender (SlowPathRequest K)
 
 pub record SlowPath (K : Kinds) : Type 0 where
-  pub log : List (Deed K.Reason (Question K))
-  pub taker : Taker (Question K)
+  pub log : List (Deed K.RuleCause (SlowPathRequest K))
+  pub taker : Taker (SlowPathRequest K)
   pub links : List (Sender (Outgoing K))
 
 pub record Forwarder (K : Kinds) : Type 0 where
@@ -75,7 +75,7 @@ module _ {K : Kinds} where
   abbrev pub went_at : Workers K → ℕ → List (Handed K)
   went_at w l = read_at (λ (f : Forwarder K). f.went) w.forwarders l
 
-  abbrev pub slow_ends : Workers K → List (Sender (Question K))
+  abbrev pub slow_ends : Workers K → List (Sender (SlowPathRequest K))
   slow_ends w = map (λ (p : Processor K). p.slow) w.processors
 
   -- of the pipes of the links, two of each

@@ -3,12 +3,12 @@ use Rattle.std.specs.Prelude.{◌≡◌, ℕ, List, [], ◌∷◌, ◌++◌, len
 use Rattle.ruled_pipe.specs.declared.entry.Load.TheVariants.{Payload}
 use Rattle.ruled_pipe.specs.Producer.{Sender, entry, offered, refused}
 use Rattle.ruled_pipe.specs.Consumer.{Taker}
-use Rattle.pipe_order.specs.Kinds.{Kinds}
-use Rattle.pipe_order.specs.Item.{Arrival, Outgoing}
-use Rattle.pipe_order.specs.Rules.{Rules, Decision, Sends, Asks, Drops}
-use Rattle.pipe_order.specs.Deeds.{payloads, Each, Deed, Ending, Accepted, Refused, Lacked, Counted, if_counted, done_items}
-use Rattle.pipe_order.specs.Settled.{Question, to_link, to_slow}
-use Rattle.pipe_order.specs.Counted.{place_of, is_offer}
+use Rattle.pipeline_laws.specs.Kinds.{Kinds}
+use Rattle.pipeline_laws.specs.Item.{Arrival, Outgoing}
+use Rattle.pipeline_laws.specs.Rules.{Rules, Decision, Sends, Asks, Drops}
+use Rattle.pipeline_laws.specs.Deeds.{payloads, Each, Deed, Ending, Accepted, Refused, Lacked, Counted, if_counted, done_items}
+use Rattle.pipeline_laws.specs.Settled.{SlowPathRequest, to_link, to_slow}
+use Rattle.pipeline_laws.specs.Counted.{place_of, is_offer}
 use Rattle.stage_laws.specs.Ends.{pushes, EndTells, IsGrown}
 
 module _ {Y : Type 0} where
@@ -37,7 +37,7 @@ module _ {X : Type 0} where
   in_hand (Some x) = x ∷ []
 
 module _ {K : Kinds} where
-  abbrev pub IsJust : Rules K → Deed K.Reason (Arrival K) → Type 0
+  abbrev pub IsJust : Rules K → Deed K.RuleCause (Arrival K) → Type 0
   IsJust R d = if_counted d.end (λ c. R.decide d.item ≡ Drops c)
 
   abbrev pub leaves : Decision K → Type 0
@@ -46,11 +46,11 @@ module _ {K : Kinds} where
   leaves (Drops c) = ⊥
 
   -- nothing was offered but what the decision makes
-  abbrev pub IsOffered : Rules K → Deed K.Reason (Arrival K) → Type 0
+  abbrev pub IsOffered : Rules K → Deed K.RuleCause (Arrival K) → Type 0
   IsOffered R d = is_offer d.end (leaves (R.decide d.item))
 
 -- One packet worked on: every end grew by what was made of it.
-pub record Did {K : Kinds} (R : Rules K) (d : Deed K.Reason (Arrival K)) (old new : List (Sender (Outgoing K))) (slow slow' : Sender (Question K)) : Type 0 where
+pub record Did {K : Kinds} (R : Rules K) (d : Deed K.RuleCause (Arrival K)) (old new : List (Sender (Outgoing K))) (slow slow' : Sender (SlowPathRequest K)) : Type 0 where
   pub just : IsJust R d
   pub offers : IsOffered R d
   pub ample : LacksNothing d.end
@@ -60,10 +60,10 @@ pub record Did {K : Kinds} (R : Rules K) (d : Deed K.Reason (Arrival K)) (old ne
   pub same : length new ≡ length old
 
 -- What a processor did with the packets that it took, the one in its hand aside, is what its ends tell.
-pub record Keeps {K : Kinds} (R : Rules K) (log : List (Deed K.Reason (Arrival K))) (taker : Taker (Arrival K)) (hand : Option (Arrival K)) (senders : List (Sender (Outgoing K))) (slow : Sender (Question K)) : Type 0 where
+pub record Keeps {K : Kinds} (R : Rules K) (log : List (Deed K.RuleCause (Arrival K))) (taker : Taker (Arrival K)) (hand : Option (Arrival K)) (senders : List (Sender (Outgoing K))) (slow : Sender (SlowPathRequest K)) : Type 0 where
   pub took : payloads (pushes taker.taken) ≡ done_items log ++ in_hand hand
   pub just : Each (IsJust R) log
   pub offers : Each (IsOffered R) log
-  pub ample : Each (λ (d : Deed K.Reason (Arrival K)). LacksNothing d.end) log
+  pub ample : Each (λ (d : Deed K.RuleCause (Arrival K)). LacksNothing d.end) log
   pub links : (j : ℕ) (s : Sender (Outgoing K)) → slice_get senders j ≡ Some s → EndTells (to_link R (place_of R j)) log s
   pub asks : EndTells (to_slow R) log slow

@@ -1,7 +1,7 @@
 -- What stands in the pipes.
 use Rattle.std.specs.Prelude.{◌≡◌, ◌<◌, ℕ, true, false, List, Option, Some, None}
-use Rattle.pipe_order.specs.Item.{Arrival, Outgoing}
-use Rattle.pipe_order.specs.Settled.{Question}
+use Rattle.pipeline_laws.specs.Item.{Arrival, Outgoing}
+use Rattle.pipeline_laws.specs.Settled.{SlowPathRequest}
 use Rattle.process_packet.specs.declared.config.Config.{Config}
 use Rattle.process_packet.specs.declared.underlay.Underlay.{Underlay}
 use Rattle.router_laws.specs.Heard.{arrival}
@@ -18,7 +18,7 @@ StandsIn (Some c) link interface = (link_index c interface ≡ link) × (link < 
 abbrev pub with_bytes : List ℕ → Arrival kinds → Arrival kinds
 with_bytes bytes x = arrival x.link x.datagram.interface x.number x.datagram.source x.datagram.moment bytes
 
-abbrev pub asking : Arrival kinds → kinds.Problem → Question kinds
+abbrev pub asking : Arrival kinds → kinds.Problem → SlowPathRequest kinds
 asking x problem = record { arrival = x; problem = problem }
 
 -- what is made of a packet for the link of a number: itself, or its answer

@@ -1,9 +1,9 @@
--- What a question came to, as the rules speak of it.
+-- What a request came to, as the rules speak of it.
 use Rattle.std.specs.Prelude.{Result, Ok, Err}
-use Rattle.pipe_order.specs.Item.{Outgoing}
-use Rattle.pipe_order.specs.Rules.{Reply, Replies, Withholds}
+use Rattle.pipeline_laws.specs.Item.{Outgoing}
+use Rattle.pipeline_laws.specs.Rules.{Reply, Replies, Withholds}
 use Rattle.router_rules.specs.Rules.{kinds}
-use Rattle.stage_parts.specs.declared.question.Withheld.{Withheld}
+use Rattle.stage_parts.specs.declared.request.Withheld.{Withheld}
 
 abbrev pub reply_of : Result (Outgoing kinds) Withheld → Reply kinds
 reply_of (Ok o) = Replies o.link o.parcel

@@ -3,6 +3,7 @@
 #![tactic(auto)]
 
 mod buffer;
+mod egress_packet;
 mod event;
 mod gate;
 mod inlet;
@@ -11,8 +12,7 @@ mod list_source;
 mod outlet;
 mod outlets;
 mod packet;
-mod parcel;
-mod question;
+mod request;
 mod router;
 mod sink;
 mod source;
@@ -20,6 +20,7 @@ mod source;
 mod tests;
 
 pub use buffer::{Buffer, ROOM};
+pub use egress_packet::EgressPacket;
 pub use event::Event;
 pub use gate::Gate;
 pub use inlet::Inlet;
@@ -28,8 +29,7 @@ pub use list_source::{ListSource, Next};
 pub use outlet::Outlet;
 pub use outlets::{end_all, end_at, offer_at};
 pub use packet::Packet;
-pub use parcel::Parcel;
-pub use question::{Question, Withheld};
+pub use request::{SlowPathRequest, Withheld};
 pub use router::Router;
 pub use sink::{Sink, SinkFault};
 pub use source::{NextLen, Source};

@@ -10,8 +10,8 @@ ghost use Rattle.router_laws.specs.Heard.{arrival};
 ghost use Rattle.stage_parts.specs.Items.{StandsIn, asking, leaving, with_bytes};
 
 use crate::buffer::Buffer;
-use crate::parcel::Parcel;
-use crate::question::Question;
+use crate::egress_packet::EgressPacket;
+use crate::request::SlowPathRequest;
 use crate::router::Router;
 use process_packet::{Config, Decision, Problem, Underlay, answers_are_sound, route_in_place};
 use std::marker::{Model, PhantomData};
@@ -31,7 +31,7 @@ pub struct Packet<N: Router> {
 
 impl<N: Router> Model for Packet<N> {
     ghost use Rattle.std.specs.Prelude.{◌≡◌, ◌≤◌, length, take};
-    ghost use Rattle.pipe_order.specs.Item.{Arrival};
+    ghost use Rattle.pipeline_laws.specs.Item.{Arrival};
     ghost use Rattle.router_rules.specs.Rules.{kinds};
     ghost use Rattle.router_laws.specs.Heard.{arrival};
     ghost use Rattle.stage_parts.specs.Items.{StandsIn};
@@ -137,7 +137,7 @@ impl<N: Router> Packet<N> {
     }
 
     /// The packet on its way out by the link of a number, with its bytes as they are.
-    pub fn into_parcel(self, link: u16, to: Option<Underlay>) -> Parcel<N>
+    pub fn into_egress_packet(self, link: u16, to: Option<Underlay>) -> EgressPacket<N>
         ensures { result ≡ leaving self link to }
     {
         let Packet {
@@ -150,7 +150,7 @@ impl<N: Router> Packet<N> {
             bytes,
             of,
         } = self;
-        Parcel {
+        EgressPacket {
             arrived,
             came_by,
             number,
@@ -164,11 +164,11 @@ impl<N: Router> Packet<N> {
     }
 
     /// The packet with what its sender is to be told.
-    pub fn into_question(self, problem: Problem) -> Question<N>
+    pub fn into_request(self, problem: Problem) -> SlowPathRequest<N>
         requires { first_fault self.datagram.bytes ≡ None }
         ensures { result ≡ asking self problem }
     {
-        Question {
+        SlowPathRequest {
             packet: self,
             problem,
         }

@@ -7,7 +7,7 @@ ghost use Rattle.sample_stages.specs.Ends.{IsFresh, IsUntaken};
 use crate::results::both;
 use ruled_pipe::{Consumer, Producer};
 use sample_stages::{ends_of, next_outlet, next_producer};
-use stage_parts::{Buffer, Outlet, Packet, Parcel, Question, Router};
+use stage_parts::{Buffer, EgressPacket, Outlet, Packet, Router, SlowPathRequest};
 use std::alloc::{AllocError, Global};
 use std::sync::Wait;
 
@@ -26,16 +26,16 @@ pub struct ReceiverEnds<N: Router> {
 #[derive(Drop)]
 pub struct ProcessorEnds<N: Router> {
     pub packets: Consumer<Packet<N>>,
-    pub links: Vec<Outlet<Parcel<N>>>,
-    pub slow: Outlet<Question<N>>,
+    pub links: Vec<Outlet<EgressPacket<N>>>,
+    pub slow: Outlet<SlowPathRequest<N>>,
     pub free: Vec<Producer<Buffer>>,
 }
 
 /// The forwarder's ends.
 #[derive(Drop)]
 pub struct ForwarderEnds<N: Router> {
-    pub low: Consumer<Parcel<N>>,
-    pub high: Consumer<Parcel<N>>,
+    pub low: Consumer<EgressPacket<N>>,
+    pub high: Consumer<EgressPacket<N>>,
     pub free: Vec<Producer<Buffer>>,
 }
 
@@ -75,12 +75,12 @@ fn new_outlet<T: Drop>(alloc: Global) -> Result<Outlet<T>, AllocError>
 /// The ends of the pipes of four links: but for link 2's, of a pipe that nobody empties.
 fn new_links<N: Router>(
     alloc: Global,
-    two: Outlet<Parcel<N>>,
-) -> Result<Vec<Outlet<Parcel<N>>>, AllocError>
+    two: Outlet<EgressPacket<N>>,
+) -> Result<Vec<Outlet<EgressPacket<N>>>, AllocError>
     requires { IsFresh two }
     ensures { IfOk result (λ v. (length v.items ≡ 8) × AreFresh v.items) }
 {
-    let (mut spares, _) = ends_of::<Parcel<N>>(alloc, 1, 7)?;
+    let (mut spares, _) = ends_of::<EgressPacket<N>>(alloc, 1, 7)?;
     let a = next_outlet(&mut spares);
     let b = next_outlet(&mut spares);
     let c = next_outlet(&mut spares);
@@ -150,7 +150,7 @@ fn receiver_ends<N: Router>(
 fn processor_ends<N: Router>(
     alloc: Global,
     packets: Consumer<Packet<N>>,
-    two: Outlet<Parcel<N>>,
+    two: Outlet<EgressPacket<N>>,
     one: Producer<Buffer>,
 ) -> Result<ProcessorEnds<N>, AllocError>
     requires packets { IsUntaken 1 packets }
@@ -162,7 +162,7 @@ fn processor_ends<N: Router>(
 {
     let links = new_links(alloc, two);
     let free = new_returns(alloc, one);
-    let slow = new_outlet::<Question<N>>(alloc);
+    let slow = new_outlet::<SlowPathRequest<N>>(alloc);
     let (links, (free, slow)) = both(links, both(free, slow))?;
     Ok(ProcessorEnds {
         packets,
@@ -174,7 +174,7 @@ fn processor_ends<N: Router>(
 
 fn forwarder_ends<N: Router>(
     alloc: Global,
-    low: Consumer<Parcel<N>>,
+    low: Consumer<EgressPacket<N>>,
     one: Producer<Buffer>,
 ) -> Result<ForwarderEnds<N>, AllocError>
     requires low { IsUntaken 1 low }
@@ -183,7 +183,7 @@ fn forwarder_ends<N: Router>(
     ensures free { IfOk result (λ e. length e.free.items ≡ 4) }
 {
     let free = new_returns(alloc, one);
-    let (free, (_, high)) = both(free, ends_of::<Parcel<N>>(alloc, 1, 1))?;
+    let (free, (_, high)) = both(free, ends_of::<EgressPacket<N>>(alloc, 1, 1))?;
     Ok(ForwarderEnds { low, high, free })
 }
 
@@ -197,7 +197,10 @@ pub fn new_ends<N: Router, R: Wait>(rt: &R, alloc: Global) -> Result<Ends<N>, Al
     ensures bands { IfOk result (λ e. IsUntaken 1 e.forwarder.low × IsUntaken 1 e.forwarder.high) }
     ensures free { IfOk result (λ e. (length e.processor.free.items ≡ 4) × (length e.forwarder.free.items ≡ 4)) }
 {
-    let pipes = both(new_pipe::<Packet<N>>(alloc), new_pipe::<Parcel<N>>(alloc));
+    let pipes = both(
+        new_pipe::<Packet<N>>(alloc),
+        new_pipe::<EgressPacket<N>>(alloc),
+    );
     let (pipes, free) = both(pipes, free_ends(rt, alloc))?;
     let ((outlet, packets), (two, low)) = pipes;
     let receiver = receiver_ends(alloc, free.receiver, outlet);

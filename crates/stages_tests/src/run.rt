@@ -12,7 +12,7 @@ use router_rules::Shared;
 use router_stages::{Forwarder, Processor, Receiver, SlowPath};
 use ruled_pipe::{Mark, Producer};
 use sample_stages::{Open, is_small};
-use stage_parts::{ListSink, ListSource, Next, Parcel, Router};
+use stage_parts::{EgressPacket, ListSink, ListSource, Next, Router};
 use std::alloc::Global;
 use std::marker::Brand;
 use std::process::Abort;
@@ -51,7 +51,7 @@ pub struct Workers<N: Router, R> {
     pub processor: Processor<N, R, Open>,
     pub slow_path: SlowPath<N, R>,
     pub forwarder: Forwarder<N, R, ListSink>,
-    pub controller: Producer<Parcel<N>>,
+    pub controller: Producer<EgressPacket<N>>,
 }
 
 impl<N: Router, R: Wait + Copy> Workers<N, R> {

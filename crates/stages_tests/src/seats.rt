@@ -9,7 +9,7 @@ use crate::ends::pipe_of;
 use packet_ledger::Share;
 use ruled_pipe::Producer;
 use sample_stages::{next_outlet, next_producer};
-use stage_parts::{Buffer, Outlet, Parcel, Router};
+use stage_parts::{Buffer, EgressPacket, Outlet, Router};
 use std::alloc::Global;
 use std::marker::Model;
 use std::process::Abort;
@@ -17,7 +17,7 @@ use std::process::Abort;
 /// New ends of the pipes of four links and of their free buffers, and new counts.
 #[derive(Drop)]
 pub struct Seat<N: Router> {
-    pub links: Vec<Outlet<Parcel<N>>>,
+    pub links: Vec<Outlet<EgressPacket<N>>>,
     pub free: Vec<Producer<Buffer>>,
     pub share: Share<N>,
 }
@@ -76,8 +76,8 @@ pub fn new_seat<N: Router, R: Abort>(
     rt: &R,
     alloc: Global,
     link: u16,
-    low: Outlet<Parcel<N>>,
-    high: Outlet<Parcel<N>>,
+    low: Outlet<EgressPacket<N>>,
+    high: Outlet<EgressPacket<N>>,
     one: Producer<Buffer>,
     share: Share<N>,
 ) -> Seat<N>

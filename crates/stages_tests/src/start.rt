@@ -16,7 +16,8 @@ use router_stages::{Band, Forwarder, Processor, Receiver, SlowPath};
 use ruled_pipe::{Consumer, Producer};
 use sample_stages::{Open, next_outlet, next_producer, next_share};
 use stage_parts::{
-    Buffer, Inlet, ListSink, ListSource, Next, Outlet, Packet, Parcel, Question, Router,
+    Buffer, EgressPacket, Inlet, ListSink, ListSource, Next, Outlet, Packet, Router,
+    SlowPathRequest,
 };
 use std::alloc::Global;
 use std::process::Abort;
@@ -58,7 +59,7 @@ fn processor<N: Router, R: Abort + Wait + Copy>(
     alloc: Global,
     shared: &Arc<Shared, Global>,
     packets: Inlet<Packet<N>>,
-    slow: Outlet<Question<N>>,
+    slow: Outlet<SlowPathRequest<N>>,
     seat: Seat<N>,
 ) -> Processor<N, R, Open>
     requires config { N.config ≡ Some (arc_value shared.now).config }
@@ -75,16 +76,16 @@ fn processor<N: Router, R: Abort + Wait + Copy>(
 fn slow_path<N: Router, R: Abort + Wait + Copy>(
     rt: R,
     shared: &Arc<Shared, Global>,
-    questions: Inlet<Question<N>>,
+    requests: Inlet<SlowPathRequest<N>>,
     seat: Seat<N>,
 ) -> SlowPath<N, R>
     requires config { N.config ≡ Some (arc_value shared.now).config }
     requires small { link_count (arc_value shared.now).config ≡ 4 }
-    requires questions { questions.taken ≡ [] }
+    requires requests { requests.taken ≡ [] }
 {
     let shared = share_of(&rt, shared);
     let Seat { links, free, share } = seat;
-    SlowPath::new(rt, shared, questions, links, free, share)
+    SlowPath::new(rt, shared, requests, links, free, share)
 }
 
 fn forwarder<N: Router, R: Abort + Wait + Copy>(
@@ -133,10 +134,10 @@ pub fn start<N: Router, R: Abort + Wait + Copy>(
     let mut shares = shares;
     let (mut frees, free) = pipe_of::<Buffer, R>(&rt, alloc, 64, 4);
     fill(&rt, alloc, next_producer(&mut frees), plan.buffers);
-    let (mut lows, low) = pipe_of::<Parcel<N>, R>(&rt, alloc, plan.capacity, 3);
-    let (mut highs, high) = pipe_of::<Parcel<N>, R>(&rt, alloc, plan.capacity, 2);
+    let (mut lows, low) = pipe_of::<EgressPacket<N>, R>(&rt, alloc, plan.capacity, 3);
+    let (mut highs, high) = pipe_of::<EgressPacket<N>, R>(&rt, alloc, plan.capacity, 2);
     let (outlet, packets) = pipe_of_one(&rt, alloc, plan.capacity);
-    let (slow, questions) = pipe_of_one(&rt, alloc, plan.capacity);
+    let (slow, requests) = pipe_of_one(&rt, alloc, plan.capacity);
     let share = next_share(&mut shares);
     let receiver = receiver(rt, alloc, shared, answers, free, outlet, share);
     let share = next_share(&mut shares);
@@ -148,7 +149,7 @@ pub fn start<N: Router, R: Abort + Wait + Copy>(
     let one = next_producer(&mut frees);
     let ends = (next_outlet(&mut lows), next_outlet(&mut highs));
     let seat = new_seat(&rt, alloc, plan.link, ends.0, ends.1, one, share);
-    let slow_path = slow_path(rt, shared, questions, seat);
+    let slow_path = slow_path(rt, shared, requests, seat);
     let share = next_share(&mut shares);
     let one = next_producer(&mut frees);
     let low = Band::of(low, 3);

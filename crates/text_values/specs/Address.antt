@@ -2,14 +2,14 @@
 use Rattle.std.specs.Prelude.{ℕ, ◌/◌, ◌%◌, List, [], ◌∷◌, Option, Some, None}
 use Rattle.process_packet.specs.declared.underlay.Ip.TheVariants.{V4, V6}
 use Rattle.process_packet.specs.declared.underlay.Underlay.{Underlay}
-use Rattle.text_values.specs.Pieces.{behind, cut, group_of, number_up_to, unless_zero, ◌>>=◌}
+use Rattle.text_values.specs.Pieces.{strip_prefix, split_once, group_of, number_up_to, unless_zero, ◌>>=◌}
 
 -- the four bytes of decimals joined by `.`
 unfoldable pub octets_of : List ℕ → Option (List ℕ)
 octets_of text = do
-  first ← cut 46 text
-  second ← cut 46 first.1
-  third ← cut 46 second.1
+  first ← split_once 46 text
+  second ← split_once 46 first.1
+  third ← split_once 46 second.1
   a ← number_up_to 255 first.0
   b ← number_up_to 255 second.0
   c ← number_up_to 255 third.0
@@ -19,7 +19,7 @@ octets_of text = do
 -- the group of hex digits that ends at a `:`, and what follows
 unfoldable pub group_and_rest : List ℕ → Option (ℕ × List ℕ)
 group_and_rest text = do
-  parts ← cut 58 text
+  parts ← split_once 58 text
   group ← group_of parts.0
   Some (group, parts.1)
 
@@ -47,17 +47,17 @@ port_of text = number_up_to 65535 text >>= unless_zero
 
 unfoldable pub underlay_4_of : List ℕ → Option Underlay
 underlay_4_of text = do
-  parts ← cut 58 text
+  parts ← split_once 58 text
   ip ← octets_of parts.0
   port ← port_of parts.1
   Some (record { ip = V4 ip; port = port })
 
 unfoldable pub underlay_6_of : List ℕ → Option Underlay
 underlay_6_of text = do
-  opened ← behind 91 text
-  closed ← cut 93 opened
+  opened ← strip_prefix 91 text
+  closed ← split_once 93 opened
   ip ← groups_of closed.0
-  port ← behind 58 closed.1 >>= port_of
+  port ← strip_prefix 58 closed.1 >>= port_of
   Some (record { ip = V6 ip; port = port })
 
 abbrev pub or_else : Option Underlay → Option Underlay → Option Underlay

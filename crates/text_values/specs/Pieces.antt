@@ -12,16 +12,16 @@ Some x >>= f = f x
 None >>= f = None
 
 -- what stands before the first such byte and after it
-abbrev pub cut : ℕ → List ℕ → Option (List ℕ × List ℕ)
-cut mark text = if nat_lt (position_or_len (λ b. b == mark) text) (length text)
+abbrev pub split_once : ℕ → List ℕ → Option (List ℕ × List ℕ)
+split_once mark text = if nat_lt (position_or_len (λ b. b == mark) text) (length text)
     then Some (before_first (λ b. b == mark) text, after_first (λ b. b == mark) text) else None
 
 abbrev pub if_empty : List ℕ × List ℕ → Option (List ℕ)
 if_empty parts = if length parts.0 == 0 then Some parts.1 else None
 
 -- what follows the byte that a text begins with
-abbrev pub behind : ℕ → List ℕ → Option (List ℕ)
-behind mark text = cut mark text >>= if_empty
+abbrev pub strip_prefix : ℕ → List ℕ → Option (List ℕ)
+strip_prefix mark text = split_once mark text >>= if_empty
 
 -- the number up to the limit that a text is, in decimal digits with no sign and no leading zero
 abbrev pub number_up_to : ℕ → List ℕ → Option ℕ

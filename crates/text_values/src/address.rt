@@ -4,7 +4,7 @@ ghost use Rattle.process_packet.specs.Neighbours.{has_port};
 ghost use Rattle.text_values.specs.Pieces.{number_up_to};
 ghost use Rattle.text_values.specs.Address.{group_and_rest, groups_of, octets_of, port_of, underlay_4_of, underlay_6_of, underlay_of};
 
-use crate::pieces::{behind, cut, read_group, read_number};
+use crate::pieces::{read_group, read_number, split_once, strip_prefix};
 use process_packet::{Ip, Underlay};
 
 /// A decimal up to 255.
@@ -22,9 +22,9 @@ fn read_octet(text: &str) -> Option<u8>
 fn read_octets(text: &str) -> Option<[u8; 4]>
     ensures { result ≡ octets_of text.now }
 {
-    let (first, rest) = cut(text, '.')?;
-    let (second, rest) = cut(rest, '.')?;
-    let (third, fourth) = cut(rest, '.')?;
+    let (first, rest) = split_once(text, '.')?;
+    let (second, rest) = split_once(rest, '.')?;
+    let (third, fourth) = split_once(rest, '.')?;
     let first = read_octet(first)?;
     let second = read_octet(second)?;
     let third = read_octet(third)?;
@@ -37,7 +37,7 @@ fn read_octets(text: &str) -> Option<[u8; 4]>
 fn read_group_and_rest(text: &str) -> Option<(u16, &str)>
     ensures { option_map (λ parts. (parts.0, parts.1.now)) result ≡ group_and_rest text.now }
 {
-    let (group, rest) = cut(text, ':')?;
+    let (group, rest) = split_once(text, ':')?;
     let group = read_group(group)?;
     Some((group, rest))
 }
@@ -103,7 +103,7 @@ fn read_underlay_4(text: &str) -> Option<Underlay>
     ensures value { result ≡ underlay_4_of text.now }
     ensures port { IfSome result (λ underlay. IsTrue (has_port underlay)) }
 {
-    let (ip, port) = cut(text, ':')?;
+    let (ip, port) = split_once(text, ':')?;
     let ip = Ip::V4(read_octets(ip)?);
     let port = read_port(port)?;
     Some(Underlay { ip, port })
@@ -114,10 +114,10 @@ fn read_underlay_6(text: &str) -> Option<Underlay>
     ensures value { result ≡ underlay_6_of text.now }
     ensures port { IfSome result (λ underlay. IsTrue (has_port underlay)) }
 {
-    let opened = behind(text, '[')?;
-    let (ip, closed) = cut(opened, ']')?;
+    let opened = strip_prefix(text, '[')?;
+    let (ip, closed) = split_once(opened, ']')?;
     let ip = Ip::V6(read_groups(ip)?);
-    let port = read_port(behind(closed, ':')?)?;
+    let port = read_port(strip_prefix(closed, ':')?)?;
     Some(Underlay { ip, port })
 }
 

@@ -1,23 +1,23 @@
 //! Pieces of a text and the numbers that they spell.
 ghost use Rattle.std.specs.Prelude.{◌≡◌, ◌<◌, ◌≤◌, ◌^◌, IfSome, option_map};
-ghost use Rattle.text_values.specs.Pieces.{behind, cut, group_of, number_up_to};
+ghost use Rattle.text_values.specs.Pieces.{strip_prefix, split_once, group_of, number_up_to};
 
 use crate::decimal::read_decimal;
 
 /// The parts before and after the first such ASCII character.
-pub fn cut(text: &str, mark: char) -> Option<(&str, &str)>
+pub fn split_once(text: &str, mark: char) -> Option<(&str, &str)>
     requires { mark < 128 }
-    ensures { option_map (λ parts. (parts.0.now, parts.1.now)) result ≡ cut mark text.now }
+    ensures { option_map (λ parts. (parts.0.now, parts.1.now)) result ≡ split_once mark text.now }
 {
     text.split_once(mark)
 }
 
 /// What follows such an ASCII character where the text begins with it.
-pub fn behind(text: &str, mark: char) -> Option<&str>
+pub fn strip_prefix(text: &str, mark: char) -> Option<&str>
     requires { mark < 128 }
-    ensures { option_map (λ rest. rest.now) result ≡ behind mark text.now }
+    ensures { option_map (λ rest. rest.now) result ≡ strip_prefix mark text.now }
 {
-    let (before, rest) = cut(text, mark)?;
+    let (before, rest) = split_once(text, mark)?;
     if before.is_empty() { Some(rest) } else { None }
 }
 

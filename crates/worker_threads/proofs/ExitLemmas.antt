@@ -1,9 +1,9 @@
 -- A processor and the slow path stay the same ones.
 use Rattle.std.proofs.Common.{◌≡◌, ◌⊎◌, inl, inr, ℕ, ◌+◌, ◌*◌, Bool, true, false, ◌&&◌, if◌then◌else◌, Option, Some, None, refl, sym, ap, subst, ◌∙◌, arith}
 use Rattle.atomic_table.specs.Seated.{TableId}
-use Rattle.pipe_order.specs.Item.{Arrival, Outgoing}
-use Rattle.pipe_order.specs.Rules.{Decision, Sends, Asks, Drops, Reply, Replies, Withholds}
-use Rattle.pipe_order.specs.Settled.{Question}
+use Rattle.pipeline_laws.specs.Item.{Arrival, Outgoing}
+use Rattle.pipeline_laws.specs.Rules.{Decision, Sends, Asks, Drops, Reply, Replies, Withholds}
+use Rattle.pipeline_laws.specs.Settled.{SlowPathRequest}
 use Rattle.process_packet.specs.declared.cause.Cause.{Cause}
 use Rattle.process_packet.specs.declared.cause.Cause.TheVariants as cause
 use Rattle.process_packet.specs.declared.config.Config.{Config}
@@ -16,7 +16,7 @@ use Rattle.stage_laws.specs.Answers.{answer_to}
 use Rattle.stage_parts.specs.Items.{asking}
 use Rattle.stage_parts.specs.Outlet.{Offering}
 use Rattle.stage_parts.specs.Outlets.{HaveEnded}
-use Rattle.router_stages.specs.Answering.{Answering, Answered, AfterReply, EndsAnswering, RepliedTo, TakesQuestion}
+use Rattle.router_stages.specs.Answering.{Answering, Answered, AfterReply, EndsAnswering, RepliedTo, TakesRequest}
 use Rattle.router_stages.specs.Answering as answering
 use Rattle.router_stages.specs.Exits.{Leaving, DroppedAs, SentAs, is_used, pipe_for, with_links}
 use Rattle.router_stages.specs.Working.{Working, After, AskedAs, EndsWorking, PassedOn, Takes, Worked, WorksFor, WorksOn, out, with_taker}
@@ -75,16 +75,16 @@ module _ (id : TableId) where
         links = kept_same id (used old.config) (pipe_for old.config o) o old.links new.links (used_pipe old.config o) is.0;
       }
 
-  asked_same : (q : Question kinds) (old new : Leaving) (slow slow' : Offering (Question kinds)) → AskedAs q old new slow slow' → IsSameSide old new × IsSameEnd slow.sender slow'.sender
-  asked_same q old new slow slow' (inl is) = (side_as old new is.1, subst (λ (o : Offering (Question kinds)). IsSameEnd slow.sender o.sender) (sym is.0) (end_self slow.sender))
-  asked_same q old new slow slow' (inr is) = (drop_same q.arrival.link cause.AnswerFull old new is.1, subst (λ (o : Offering (Question kinds)). IsSameEnd slow.sender o.sender) (sym is.0) (end_self slow.sender))
+  asked_same : (q : SlowPathRequest kinds) (old new : Leaving) (slow slow' : Offering (SlowPathRequest kinds)) → AskedAs q old new slow slow' → IsSameSide old new × IsSameEnd slow.sender slow'.sender
+  asked_same q old new slow slow' (inl is) = (side_as old new is.1, subst (λ (o : Offering (SlowPathRequest kinds)). IsSameEnd slow.sender o.sender) (sym is.0) (end_self slow.sender))
+  asked_same q old new slow slow' (inr is) = (drop_same q.arrival.link cause.AnswerFull old new is.1, subst (λ (o : Offering (SlowPathRequest kinds)). IsSameEnd slow.sender o.sender) (sym is.0) (end_self slow.sender))
 
-  after_same : (d : Decision kinds) (x : Arrival kinds) (old new : Leaving) (slow slow' : Offering (Question kinds)) → After d x old new slow slow' → IsSameSide old new × IsSameEnd slow.sender slow'.sender
-  after_same (Sends l y) x old new slow slow' is = (sent_same (out x l y) old new is.0, subst (λ (o : Offering (Question kinds)). IsSameEnd slow.sender o.sender) (sym is.1) (end_self slow.sender))
+  after_same : (d : Decision kinds) (x : Arrival kinds) (old new : Leaving) (slow slow' : Offering (SlowPathRequest kinds)) → After d x old new slow slow' → IsSameSide old new × IsSameEnd slow.sender slow'.sender
+  after_same (Sends l y) x old new slow slow' is = (sent_same (out x l y) old new is.0, subst (λ (o : Offering (SlowPathRequest kinds)). IsSameEnd slow.sender o.sender) (sym is.1) (end_self slow.sender))
   after_same (Asks p) x old new slow slow' is = asked_same (asking x p) old new slow slow' is
-  after_same (Drops why) x old new slow slow' is = (drop_same x.link why old new is.0, subst (λ (o : Offering (Question kinds)). IsSameEnd slow.sender o.sender) (sym is.1) (end_self slow.sender))
+  after_same (Drops why) x old new slow slow' is = (drop_same x.link why old new is.0, subst (λ (o : Offering (SlowPathRequest kinds)). IsSameEnd slow.sender o.sender) (sym is.1) (end_self slow.sender))
 
-  reply_same : (r : Reply kinds) (q : Question kinds) (old new : Leaving) → AfterReply r q old new → IsSameSide old new
+  reply_same : (r : Reply kinds) (q : SlowPathRequest kinds) (old new : Leaving) → AfterReply r q old new → IsSameSide old new
   reply_same (Replies l y) q old new is = sent_same (answer_to q l y) old new is
   reply_same (Withholds why) q old new is = drop_same q.arrival.link why old new is
 
@@ -161,24 +161,24 @@ module _ {G : Type 0} where
 slow_parts : (old new : Answering) → IsSameTaker old.taker new.taker → IsSameSide old.side new.side → IsSameSlowPath old new
 slow_parts old new taker side = record { config = side.config; taker = taker; links = side.links }
 
-question_same : (turn : Turn) (old new : Answering) → TakesQuestion turn old new → IsSameSlowPath old new
-question_same turn old new (inl is) = subst (λ (a : Answering). IsSameSlowPath old a) (sym is.1) (slow_parts old _ (refl, refl, refl) (side_self old.side))
-question_same turn old new (inr (inl is)) = subst (λ (a : Answering). IsSameSlowPath old a) (sym is.3) (slow_parts old _ (refl, refl, refl) (side_self old.side))
-question_same turn old new (inr (inr is)) =
+request_same : (turn : Turn) (old new : Answering) → TakesRequest turn old new → IsSameSlowPath old new
+request_same turn old new (inl is) = subst (λ (a : Answering). IsSameSlowPath old a) (sym is.1) (slow_parts old _ (refl, refl, refl) (side_self old.side))
+request_same turn old new (inr (inl is)) = subst (λ (a : Answering). IsSameSlowPath old a) (sym is.3) (slow_parts old _ (refl, refl, refl) (side_self old.side))
+request_same turn old new (inr (inr is)) =
     let q = is.1 in
-    slow_parts old new (subst (λ (t : Taker (Question kinds)). IsSameTaker old.taker t) (sym (ap (λ (a : Answering). a.taker) is.4)) (refl, refl, refl)) (reply_same old.taker.pipe (replied old.side.config q.arrival.datagram q.problem) q old.side new.side is.3)
+    slow_parts old new (subst (λ (t : Taker (SlowPathRequest kinds)). IsSameTaker old.taker t) (sym (ap (λ (a : Answering). a.taker) is.4)) (refl, refl, refl)) (reply_same old.taker.pipe (replied old.side.config q.arrival.datagram q.problem) q old.side new.side is.3)
 
-question_on : (old new : Answering) → TakesQuestion Ended old new → ⊥
-question_on old new (inl is) = absurd (let z : Ended ≡ Quiet = is.0 in cc)
-question_on old new (inr (inl is)) = absurd (let z : Ended ≡ Did = is.2 in cc)
-question_on old new (inr (inr is)) = absurd (let z : Ended ≡ Did = is.2 in cc)
+request_on : (old new : Answering) → TakesRequest Ended old new → ⊥
+request_on old new (inl is) = absurd (let z : Ended ≡ Quiet = is.0 in cc)
+request_on old new (inr (inl is)) = absurd (let z : Ended ≡ Did = is.2 in cc)
+request_on old new (inr (inr is)) = absurd (let z : Ended ≡ Did = is.2 in cc)
 
 pub answered_same : (turn : Turn) (old new : Answering) → Answered turn old new → IsSameSlowPath old new
 answered_same turn old new (inl is) =
     let tried = is.1.1 in let same = is.1.3 in
-    slow_parts old new (subst (λ (t : Taker (Question kinds)). IsSameTaker old.taker t) (sym (ap (λ (a : Answering). a.taker) same)) (taker_self old.taker))
+    slow_parts old new (subst (λ (t : Taker (SlowPathRequest kinds)). IsSameTaker old.taker t) (sym (ap (λ (a : Answering). a.taker) same)) (taker_self old.taker))
     (record { config = ap (λ (a : Answering). a.side.config) same; links = tried_same (used old.side.config) old.side.links new.side.links tried.tried })
-answered_same turn old new (inr is) = question_same turn old new is.1
+answered_same turn old new (inr is) = request_same turn old new is.1
 
 pub answered_ended : (old new : Answering) → Answered Ended old new → SlowPathEnded new
 answered_ended old new (inl is) =
@@ -188,7 +188,7 @@ answered_ended old new (inl is) =
           subst (λ (g : Config). HaveEnded (used g) new.side.links) (sym (ap (λ (a : Answering). a.side.config) same))
           (all_there e.0 (used old.side.config) new.side.links e.2 e.1.there);
     }
-answered_ended old new (inr is) = absurd (question_on old new is.1)
+answered_ended old new (inr is) = absurd (request_on old new is.1)
 
 pub slow_posted : (old new : Answering) → (new ≡ answering.posted old) ⊎ (new ≡ old) → IsSameSlowPath old new
 slow_posted old new (inl e) = subst (λ (a : Answering). IsSameSlowPath old a) (sym e) (record { config = refl; taker = taker_self old.taker; links = ends_self (used old.side.config) old.side.links })

@@ -1,6 +1,6 @@
 use Rattle.std.proofs.Common.{◌∙◌, ℕ, List, [], not, get_or, ap, arith}
-use Rattle.pipe_order.specs.Counts.{count}
-use Rattle.pipe_order.specs.Item.{Outgoing}
+use Rattle.pipeline_laws.specs.Counts.{count}
+use Rattle.pipeline_laws.specs.Item.{Outgoing}
 use Rattle.router_rules.specs.Rules.{kinds}
 use Rattle.pipe_parts.specs.Sent.{left}
 use Rattle.router_rules.specs.declared.outgoing.Outgoing.{Outgoing as Left}

@@ -1,10 +1,10 @@
 use Rattle.std.proofs.Common.{◌≡◌, ℕ, List, drop, sym, ap, ◌∙◌, subst}
 use Rattle.std.specs.List.{flat_map}
 use Rattle.std.specs.Prelude.{option_map}
-use Rattle.pipe_order.specs.Item.{is_one}
-use Rattle.pipe_order.specs.Pipe.{Pipe}
-use Rattle.pipe_order.specs.Place.{in_fates, in_hands, in_pipes, in_sent, places}
-use Rattle.pipe_order.specs.World.{World}
+use Rattle.pipeline_laws.specs.Item.{is_one}
+use Rattle.pipeline_laws.specs.Pipe.{Pipe}
+use Rattle.pipeline_laws.specs.Place.{in_fates, in_hands, in_pipes, in_sent, places}
+use Rattle.pipeline_laws.specs.World.{World}
 use Rattle.router_rules.specs.Links.{link_count}
 use Rattle.router_rules.specs.Rules.{kinds}
 use Rattle.router_rules.specs.Rules as router
@@ -20,7 +20,7 @@ returns c =
     let named = is_one c.args.link c.args.number in
     let f = stands_in config in
     let s = c.state.inside in
-    let pipes_are = c.behind-pipes.ensures ∙ ap (λ (k : ℕ). drop k s.pipes) c.link_count.ensures.count in
+    let pipes_are = c.after-pipes.ensures ∙ ap (λ (k : ℕ). drop k s.pipes) c.link_count.ensures.count in
     let no_hand = sym c.find_in_hands.ensures ∙ c.in_default.is in
     let no_pipe = ap (λ (ps : List (Pipe kinds)). option_map f (first (in_pipes R named (link_count config) ps))) (sym pipes_are) ∙ (sym c.find_in_pipes.ensures ∙ c.in_default-find_in_pipes.is) in
     let none_sent = sym c.find_in_sent.ensures ∙ c.in_default-find_in_sent.is in

@@ -1,6 +1,6 @@
 use Rattle.std.proofs.Common.{◌≡◌, drop}
-use Rattle.pipe_order.specs.Item.{is_one}
-use Rattle.pipe_order.specs.Place.{in_fates}
+use Rattle.pipeline_laws.specs.Item.{is_one}
+use Rattle.pipeline_laws.specs.Place.{in_fates}
 use Rattle.pipe_parts.specs.Sent.{first}
 use Rattle.pipe_model.proofs.place.find_in_fates.Given as goal
 

@@ -8,13 +8,13 @@ use Rattle.pipe_model.specs.Begun.{AreArrivals, AreNumbered}
 use Rattle.pipe_model.proofs.tests.pipeline.Goals as goal
 
 -- two that came by the link of interface 1, the second of three
-two_arrive : (c : Config) (before there behind : Vec Arrival Global) (x y : Arrival) → link_count c ≡ 3 → link_index c 1 ≡ 1 → before.items ≡ [] → there.items ≡ x ∷ y ∷ [] → behind.items ≡ [] → (x.link ≡ 1) × (x.number ≡ 1) → (y.link ≡ 1) × (y.number ≡ 2) → AreArrivals c (before ∷ there ∷ behind ∷ [])
-two_arrive c before there behind x y three at_one none two none_behind of_x of_y =
+two_arrive : (c : Config) (before there after : Vec Arrival Global) (x y : Arrival) → link_count c ≡ 3 → link_index c 1 ≡ 1 → before.items ≡ [] → there.items ≡ x ∷ y ∷ [] → after.items ≡ [] → (x.link ≡ 1) × (x.number ≡ 1) → (y.link ≡ 1) × (y.number ≡ 2) → AreArrivals c (before ∷ there ∷ after ∷ [])
+two_arrive c before there after x y three at_one none two none_after of_x of_y =
     let one : List Arrival → Type 0 = AreNumbered c 0 1 in
     let mid : List Arrival → Type 0 = AreNumbered c 1 1 in
     let last : List Arrival → Type 0 = AreNumbered c 2 1 in
     let number : ℕ → ℕ = link_index c in
-    (sym three, (subst one (sym none) tt, (subst mid (sym two) (ap number of_x.0 ∙ at_one, of_x.1, (ap number of_y.0 ∙ at_one, of_y.1, tt)), (subst last (sym none_behind) tt, tt))))
+    (sym three, (subst one (sym none) tt, (subst mid (sym two) (ap number of_x.0 ∙ at_one, of_x.1, (ap number of_y.0 ∙ at_one, of_y.1, tt)), (subst last (sym none_after) tt, tt))))
 
 pub new-requires-3 : goal.new-requires-3
 new-requires-3 c =

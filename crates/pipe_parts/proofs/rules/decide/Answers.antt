@@ -1,6 +1,6 @@
 use Rattle.std.proofs.Common.{◌≡◌, ℕ, List, None, false, refl, sym, subst, ap, ap₂, ◌∙◌}
-use Rattle.pipe_order.specs.Item.{Item}
-use Rattle.pipe_order.specs.Next as next
+use Rattle.pipeline_laws.specs.Item.{Item}
+use Rattle.pipeline_laws.specs.Next as next
 use Rattle.process_packet.specs.Decide.{decide, decision_of, moved, moved_by, verdict}
 use Rattle.process_packet.specs.Network.{network}
 use Rattle.process_packet.specs.Routed.{IsAnswer}
@@ -56,7 +56,7 @@ returns-in-Answer c =
     let bytes = c.in_ok-decision.bytes in
     let same = as_they_came r x c.in_ok-decision.decision problem bytes c.in_ok-decision.ensures.decision c.in_ok-decision.ensures.bytes c.in-Answer.is in
     let kept : c.with-came.result ≡ x = c.with-came.ensures ∙ ap (λ (t : List ℕ). record x { bytes = t }) same in
-    ap (λ (y : Came). next.Makes (Item.Asked (arrival_in y) problem)) kept
+    ap (λ (y : Came). next.Makes (Item.Request (arrival_in y) problem)) kept
     ∙ made r x c.in_ok-decision.decision (decision.Answer problem) bytes c.in_ok-decision.ensures.decision c.in_ok-decision.ensures.bytes c.in-Answer.is
 
 pub returns-in-Drop : goal.returns-in-Drop

@@ -30,7 +30,7 @@ pub add_arrival-requires : goal.add_arrival-requires
 add_arrival-requires g c =
     let so_far = c.loop-number.invariant in
     let has = rw c.in-Ok-Some.field-0-is at c.in-Ok-Some.ensures.there in
-    rw so_far.1.count ((c.links_stand_in_order.ensures c.args.config.now).within c.in-Ok-Some.incoming.arriving.link has)
+    rw so_far.1.count ((c.links_stand_in_order.ensures c.args.config.now).within c.in-Ok-Some.incoming.arrival_context.link has)
 
 pub loop-number-preserved : goal.loop-number-preserved
 loop-number-preserved g c =

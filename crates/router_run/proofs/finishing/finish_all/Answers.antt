@@ -3,7 +3,7 @@ use Rattle.router_laws.proofs.Returned.{runs_as_told}
 use Rattle.run_laws.specs.Crew.{Crew}
 use Rattle.router_run.specs.Run.{IsSized}
 use Rattle.router_run.proofs.Finish.{has_run, inner_count, inner_ended, left_as, middle_ended, outer_count, outer_ended, settled, shares_count, the_slow}
-use Rattle.router_run.proofs.Sized.{berths_seen, crew_forwarders, crew_processors, crew_slow, is_sized, mapped_fits}
+use Rattle.router_run.proofs.Sized.{worker_slots_seen, crew_forwarders, crew_processors, crew_slow, is_sized, mapped_fits}
 use Rattle.router_run.proofs.finishing.finish_all.Goals as goal
 
 sized_as : {S G K : Type 0} (a b x y : ℕ) (w : Crew S G K) → x ≡ a → y ≡ b → IsSized a b w → IsSized x y w
@@ -11,19 +11,19 @@ sized_as a b x y w e f is = subst (λ (k : ℕ). IsSized k y w) (sym e) (subst (
 
 pub join_workers-joined-requires-clause-receivers : goal.join_workers-joined-requires-clause-receivers
 join_workers-joined-requires-clause-receivers g c =
-    (c.berths.invariant.0, mapped_fits _ _ _ _ c.requires.crew.receiver_count (berths_seen _ _ _ _ c.berths.view_is c.requires.berths).receivers_fit)
+    (c.worker_slots.invariant.0, mapped_fits _ _ _ _ c.requires.crew.receiver_count (worker_slots_seen _ _ _ _ c.worker_slots.view_is c.requires.worker_slots).receivers_fit)
 
 pub join_workers-joined-requires-clause-processors : goal.join_workers-joined-requires-clause-processors
 join_workers-joined-requires-clause-processors g c =
-    (c.berths.invariant.1, mapped_fits _ _ _ _ (crew_processors _ _ _ c.requires.crew) (berths_seen _ _ _ _ c.berths.view_is c.requires.berths).processors_fit)
+    (c.worker_slots.invariant.1, mapped_fits _ _ _ _ (crew_processors _ _ _ c.requires.crew) (worker_slots_seen _ _ _ _ c.worker_slots.view_is c.requires.worker_slots).processors_fit)
 
 pub join_workers-joined-requires-clause-slow : goal.join_workers-joined-requires-clause-slow
 join_workers-joined-requires-clause-slow g c =
-    (c.berths.invariant.2, mapped_fits _ _ _ _ (crew_slow _ _ _ c.requires.crew) (berths_seen _ _ _ _ c.berths.view_is c.requires.berths).slow_fits)
+    (c.worker_slots.invariant.2, mapped_fits _ _ _ _ (crew_slow _ _ _ c.requires.crew) (worker_slots_seen _ _ _ _ c.worker_slots.view_is c.requires.worker_slots).slow_fits)
 
 pub join_workers-joined-requires-clause-forwarders : goal.join_workers-joined-requires-clause-forwarders
 join_workers-joined-requires-clause-forwarders g c =
-    (c.berths.invariant.3, mapped_fits _ _ _ _ (crew_forwarders _ _ _ c.requires.crew) (berths_seen _ _ _ _ c.berths.view_is c.requires.berths).forwarders_fit)
+    (c.worker_slots.invariant.3, mapped_fits _ _ _ _ (crew_forwarders _ _ _ c.requires.crew) (worker_slots_seen _ _ _ _ c.worker_slots.view_is c.requires.worker_slots).forwarders_fit)
 
 pub part_all-ends-requires-clause-sized : goal.part_all-ends-requires-clause-sized
 part_all-ends-requires-clause-sized g c =

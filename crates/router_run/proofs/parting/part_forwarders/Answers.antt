@@ -1,6 +1,6 @@
 use Rattle.std.proofs.Common.{rules, ◌≡◌, ◌+◌, ◌*◌, ◌++◌, ◌∷◌, [], length, ℕ, List, sym, ◌∙◌, ap, arith, append_assoc, append-nil, length-append}
 use Rattle.packet_ledger.specs.Share.{forwarded}
-use Rattle.pipe_order.specs.Item.{Outgoing}
+use Rattle.pipeline_laws.specs.Item.{Outgoing}
 use Rattle.router_rules.specs.Rules.{kinds}
 use Rattle.router_stages.specs.Forwarding.{Forwarding}
 use Rattle.ruled_pipe.specs.Consumer.{Taker}

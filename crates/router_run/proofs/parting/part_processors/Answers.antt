@@ -2,7 +2,7 @@ use Rattle.std.proofs.Common.{rules, length, ◌∙◌, ap, subst, arith}
 use Rattle.stage_parts.specs.Outlet.{IsMarked, Offering}
 use Rattle.stage_parts.specs.Outlets.{senders}
 use Rattle.router_ends.specs.Handing.{AreMarked, NeverClosed}
-use Rattle.router_run.proofs.PartLemmas.{each_none, longer, grown, one_behind, room_kept, fits_still}
+use Rattle.router_run.proofs.PartLemmas.{each_none, longer, grown, one_after, room_kept, fits_still}
 use Rattle.run_parts.proofs.RestLemmas.{all_done, each_back, each_first, shorter}
 use Rattle.router_run.proofs.parting.part_processors.Goals as goal
 
@@ -24,7 +24,7 @@ loop-k-preserved g c =
       taker_room = (longer _ _ _ _ took.items inv.taker_room.0, fits_still _ _ _ took.capacity inv.taker_room.1);
       asking = grown _ _ _ _ _ _ _ _ is c.put.ensures.0 (c.into_producer.ensures.same ∙ ap (λ (o : Offering _). o.sender) parts.2) inv.asking;
       asking_room = (longer _ _ _ _ c.put.ensures.0 inv.asking_room.0, fits_still _ _ _ c.put.ensures.1 inv.asking_room.1);
-      bundles = grown _ _ _ _ _ _ _ _ is (one_behind _ _ _ _ put.items) ends inv.bundles;
+      bundles = grown _ _ _ _ _ _ _ _ is (one_after _ _ _ _ put.items) ends inv.bundles;
       bundle_room = (longer _ _ _ _ put.items inv.bundle_room.0, fits_still _ _ _ put.capacity inv.bundle_room.1, put.capacity ∙ inv.bundle_room.2);
       shares = grown _ _ _ _ _ _ _ _ is shared.items parts.4 inv.shares;
       share_room = (room_kept _ _ _ _ _ _ _ _ shared.items is shared.capacity inv.share_room.0, shared.capacity ∙ inv.share_room.1);

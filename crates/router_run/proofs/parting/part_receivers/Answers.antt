@@ -2,7 +2,7 @@ use Rattle.std.proofs.Common.{rules, length, refl, sym, ◌∙◌, ap, subst, ar
 use Rattle.stage_parts.specs.Outlets.{senders}
 use Rattle.router_ends.specs.Handing.{AreMarked, NeverClosed}
 use Rattle.router_ends.specs.Rows.{rows_of}
-use Rattle.router_run.proofs.PartLemmas.{each_same, each_none, longer, started, same_behind, grown, one_behind, room_kept, fits_still}
+use Rattle.router_run.proofs.PartLemmas.{each_same, each_none, longer, started, same_after, grown, one_after, room_kept, fits_still}
 use Rattle.run_parts.proofs.RestLemmas.{all_done, each_back, each_first, shorter}
 use Rattle.router_run.proofs.parting.part_receivers.Goals as goal
 
@@ -18,7 +18,7 @@ loop-k-init g c =
       bundle_room = (ap length c.requires.bundles.0, c.requires.bundles.1);
       sources = started _ _ _ _ c.requires.sources.0 e;
       source_room = (ap length c.requires.sources.0, c.requires.sources.1);
-      shares = same_behind _ _ _ _ e;
+      shares = same_after _ _ _ _ e;
       share_room = (let a = ap length e in let r = c.requires.shares in omega arith, refl);
       laws = λ all. each_same _ _ _ (sym e) all;
       marks = λ all. each_same _ _ _ (sym e) all;
@@ -38,7 +38,7 @@ loop-k-preserved g c =
       left = shorter _ _ _ _ _ is inv.left;
       ends = (each_first _ _ _ _ is inv.ends).1;
       rows = ((each_first _ _ _ _ row inv.rows.0).1, let a = ap length is in let b = ap length row in let r = inv.rows.1 in omega arith);
-      bundles = grown _ _ _ _ _ _ _ _ is (one_behind _ _ _ _ put.items) ends inv.bundles;
+      bundles = grown _ _ _ _ _ _ _ _ is (one_after _ _ _ _ put.items) ends inv.bundles;
       bundle_room = (longer _ _ _ _ put.items inv.bundle_room.0, fits_still _ _ _ put.capacity inv.bundle_room.1);
       sources = grown _ _ _ _ _ _ _ _ is read.items parts.0 inv.sources;
       source_room = (longer _ _ _ _ read.items inv.source_room.0, fits_still _ _ _ read.capacity inv.source_room.1);

@@ -1,5 +1,5 @@
 use Rattle.std.proofs.Common.{◌≡◌, ◌+◌, ◌++◌, ◌≤◌, length, map, vec_capacity}
-use Rattle.pipe_order.specs.Deeds.{Each}
+use Rattle.pipeline_laws.specs.Deeds.{Each}
 use Rattle.router_laws.specs.Keeping.{IsReceiving}
 use Rattle.stage_parts.specs.Outlets.{senders}
 use Rattle.router_ends.specs.Handing.{AreMarked, NeverClosed}

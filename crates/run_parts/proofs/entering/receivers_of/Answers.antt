@@ -1,5 +1,5 @@
 use Rattle.std.proofs.Common.{◌≡◌, List, [], ◌∷◌, ◌++◌, length, sym, ◌∙◌, ap, subst, arith, append-nil}
-use Rattle.pipe_order.specs.Deeds.{Each}
+use Rattle.pipeline_laws.specs.Deeds.{Each}
 use Rattle.router_laws.specs.Heard.{ToldNothing}
 use Rattle.router_stages.specs.Receiving.{Receiving}
 use Rattle.run_parts.specs.Kits.{Entry, receivings}

@@ -5,7 +5,7 @@ use Rattle.ruled_pipe.specs.Pipe.{Shape}
 use Rattle.ruled_pipe.specs.Consumer.{Taker, new_taker}
 use Rattle.router_rules.specs.Links.{link_count}
 use Rattle.router_ends.specs.Rows.{Row, new_takers}
-use Rattle.pipe_order.specs.Item.{Outgoing}
+use Rattle.pipeline_laws.specs.Item.{Outgoing}
 use Rattle.router_rules.specs.Rules.{kinds}
 use Rattle.router_stages.specs.Forwarding.{Band}
 use Rattle.run_laws.specs.Crew.{IsTakerOf}

@@ -1,5 +1,5 @@
 use Rattle.std.proofs.Common.{◌≡◌, ◌+◌, ◌++◌, ◌≤◌, length, vec_capacity}
-use Rattle.pipe_order.specs.Deeds.{Each}
+use Rattle.pipeline_laws.specs.Deeds.{Each}
 use Rattle.router_laws.specs.Heard.{ToldNothing}
 use Rattle.run_parts.specs.Kits.{forwardings}
 use Rattle.run_parts.proofs.leaving.forwarders_of.Given as goal

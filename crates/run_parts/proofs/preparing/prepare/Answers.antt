@@ -1,13 +1,13 @@
 use Rattle.std.proofs.Common.{ℕ, ◌∙◌, subst}
-use Rattle.run_parts.specs.Room.{HaveBerths, HaveSpace}
+use Rattle.run_parts.specs.Room.{HaveWorkerSlots, HaveSpace}
 use Rattle.run_parts.proofs.OkLemmas.{of_ok}
 use Rattle.run_parts.proofs.preparing.prepare.Goals as goal
 
 pub returns-clause-shared : goal.returns-clause-shared
 returns-clause-shared g c = of_ok _ _ _ c.in_ok-staff.ensures.0 c.staff_for-staff.ensures.shared
 
-pub returns-clause-makings : goal.returns-clause-makings
-returns-clause-makings g c = of_ok _ _ _ c.in_ok-staff.ensures.0 c.staff_for-staff.ensures.makings
+pub returns-clause-worker_parts : goal.returns-clause-worker_parts
+returns-clause-worker_parts g c = of_ok _ _ _ c.in_ok-staff.ensures.0 c.staff_for-staff.ensures.worker_parts
 
 pub returns-clause-receivers : goal.returns-clause-receivers
 returns-clause-receivers g c =
@@ -36,9 +36,9 @@ returns-clause-space g c =
     subst (λ (n : ℕ). HaveSpace n c.args.config.processors c.in_ok-staff.space) c.link_count-links.ensures.count
     (subst (λ (n : ℕ). HaveSpace c.link_count-links.result n c.in_ok-staff.space) c.from-processors.ensures space)
 
-pub returns-clause-berths : goal.returns-clause-berths
-returns-clause-berths g c =
+pub returns-clause-worker_slots : goal.returns-clause-worker_slots
+returns-clause-worker_slots g c =
     let room = of_ok _ _ _ c.in_ok-staff.ensures.1 c.both-room.ensures in
-    let berths = of_ok _ _ _ room.0 c.berths_for.ensures in
-    subst (λ (n : ℕ). HaveBerths n c.args.config.processors c.in_ok-staff.berths) c.link_count-links.ensures.count
-    (subst (λ (n : ℕ). HaveBerths c.link_count-links.result n c.in_ok-staff.berths) c.from-processors.ensures berths)
+    let worker_slots = of_ok _ _ _ room.0 c.worker_slots_for.ensures in
+    subst (λ (n : ℕ). HaveWorkerSlots n c.args.config.processors c.in_ok-staff.worker_slots) c.link_count-links.ensures.count
+    (subst (λ (n : ℕ). HaveWorkerSlots c.link_count-links.result n c.in_ok-staff.worker_slots) c.from-processors.ensures worker_slots)

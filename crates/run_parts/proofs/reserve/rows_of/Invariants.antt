@@ -1,5 +1,5 @@
 use Rattle.std.proofs.Common.{◌≡◌, ◌≤◌, length, vec_capacity}
-use Rattle.pipe_order.specs.Deeds.{Each}
+use Rattle.pipeline_laws.specs.Deeds.{Each}
 use Rattle.run_parts.specs.Room.{IsRoomy}
 use Rattle.run_parts.proofs.reserve.rows_of.Given as goal
 

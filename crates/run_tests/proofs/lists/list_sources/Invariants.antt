@@ -1,4 +1,4 @@
-use Rattle.pipe_order.specs.Deeds.{Each}
+use Rattle.pipeline_laws.specs.Deeds.{Each}
 use Rattle.router_laws.specs.Heard.{ToldNothing}
 use Rattle.run_tests.proofs.lists.list_sources.Given as goal
 

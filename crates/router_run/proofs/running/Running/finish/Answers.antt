@@ -1,7 +1,7 @@
 use Rattle.std.proofs.Common.{◌+◌, ◌*◌, sym, ap, ◌∙◌}
 use Rattle.router_rules.specs.Links.{link_count}
 use Rattle.router_rules.specs.declared.shared.Shared.{Shared}
-use Rattle.router_run.proofs.Finish.{berths_as, crew_as, left_as, run_as, space_for}
+use Rattle.router_run.proofs.Finish.{worker_slots_as, crew_as, left_as, run_as, space_for}
 use Rattle.router_run.proofs.running.Running.finish.Goals as goal
 
 pub finish_all-requires-clause-workers : goal.finish_all-requires-clause-workers
@@ -16,8 +16,8 @@ finish_all-requires-clause-rooms g c = (
   left_as _ _ c.self.inside.pipes.outer.items c.self.inside.pipes.outer_rooms.items (ap (λ (s : Shared). s.config.processors + 2) c.deref.ensures) c.self.invariant.3,
 )
 
-pub finish_all-requires-clause-berths : goal.finish_all-requires-clause-berths
-finish_all-requires-clause-berths g c = berths_as _ _ _ (ap (λ (s : Shared). s.config) c.deref.ensures) c.self.invariant.4
+pub finish_all-requires-clause-worker_slots : goal.finish_all-requires-clause-worker_slots
+finish_all-requires-clause-worker_slots g c = worker_slots_as _ _ _ (ap (λ (s : Shared). s.config) c.deref.ensures) c.self.invariant.4
 
 pub finish_all-requires-clause-space : goal.finish_all-requires-clause-space
 finish_all-requires-clause-space g c = space_for _ _ _ (ap (λ (s : Shared). s.config) c.deref.ensures) c.self.invariant.5

@@ -1,12 +1,12 @@
 use Rattle.std.proofs.Common.{◌≡◌, ◌+◌, ◌≤◌, ◌||◌, min, ℕ, Bool, refl, sym, ap, ap₂, subst, ◌∙◌, arith}
-use Rattle.pipe_order.specs.Item.{Outgoing}
+use Rattle.pipeline_laws.specs.Item.{Outgoing}
 use Rattle.router_rules.specs.Rules.{kinds}
 use Rattle.ruled_pipe.specs.Consumer.{Taker, took}
 use Rattle.ruled_pipe.specs.Producer.{entry}
 use Rattle.ruled_pipe.specs.Gathered.{end_of}
 use Rattle.ruled_pipe.specs.declared.entry.Load.{Load}
 use Rattle.ruled_pipe.specs.declared.entry.Load.TheVariants.{Payload, Marked}
-use Rattle.router_stages.specs.Forwarding.{Band, after_mark, after_parcel, band, closes, end_mark}
+use Rattle.router_stages.specs.Forwarding.{Band, after_mark, after_egress_packet, band, closes, end_mark}
 use Rattle.router_stages.proofs.ForwardingLemmas.{band_more, marks_end}
 use Rattle.router_stages.proofs.band.Band.take.Goals as goal
 
@@ -30,8 +30,8 @@ pub returns-in-Payload : goal.returns-in-Payload
 returns-in-Payload g c =
     let s = c.self.inside in
     let e = c.in_ok-load.field-0 in
-    let step : c.take.new.self ≡ took s.consumer (entry e.from (Payload c.in-Payload.parcel)) = c.in_ok-load.ensures.step ∙ ap (λ (l : Load (Outgoing kinds)). took s.consumer (entry e.from l)) c.in-Payload.is in
-    (e.from, ap (λ (t : Taker (Outgoing kinds)). band t s.shut) step ∙ ap (λ (b : Band). after_parcel e.from c.in-Payload.parcel b) c.self.view_is)
+    let step : c.take.new.self ≡ took s.consumer (entry e.from (Payload c.in-Payload.egress_packet)) = c.in_ok-load.ensures.step ∙ ap (λ (l : Load (Outgoing kinds)). took s.consumer (entry e.from l)) c.in-Payload.is in
+    (e.from, ap (λ (t : Taker (Outgoing kinds)). band t s.shut) step ∙ ap (λ (b : Band). after_egress_packet e.from c.in-Payload.egress_packet b) c.self.view_is)
 
 pub returns-in-Marked : goal.returns-in-Marked
 returns-in-Marked g c =

@@ -1,8 +1,8 @@
 use Rattle.std.proofs.Common.{◌≡◌, ◌<◌, ◌∙◌, ℕ, List, Option, Some, None, refl, ap, ap₂, sym, subst}
 use Rattle.std.specs.Arc.{arc_value}
-use Rattle.pipe_order.specs.Item.{Arrival, Outgoing}
-use Rattle.pipe_order.specs.Rules.{Decision, Sends, Asks, Drops}
-use Rattle.pipe_order.specs.Settled.{Question}
+use Rattle.pipeline_laws.specs.Item.{Arrival, Outgoing}
+use Rattle.pipeline_laws.specs.Rules.{Decision, Sends, Asks, Drops}
+use Rattle.pipeline_laws.specs.Settled.{SlowPathRequest}
 use Rattle.process_packet.specs.declared.config.Config.{Config}
 use Rattle.process_packet.specs.declared.decision.Decision.{Decision as Decided}
 use Rattle.router_rules.specs.Datagram.{Parcel}
@@ -16,7 +16,7 @@ use Rattle.router_stages.specs.Working.{After, AskedAs, PassedOn, out}
 use Rattle.router_stages.proofs.exits.Exits.pass_on.Goals as goal
 
 -- what is passed on, by what is decided
-passed_as : (x : Arrival kinds) (old new : Leaving) (slow slow' : Offering (Question kinds)) (d : Decision kinds) → decided old.config x.datagram ≡ d → After d x old new slow slow' → PassedOn x old new slow slow'
+passed_as : (x : Arrival kinds) (old new : Leaving) (slow slow' : Offering (SlowPathRequest kinds)) (d : Decision kinds) → decided old.config x.datagram ≡ d → After d x old new slow slow' → PassedOn x old new slow slow'
 passed_as x old new slow slow' d is after = subst (λ (e : Decision kinds). After e x old new slow slow') (sym is) after
 
 -- what is decided of a configuration that is shared
@@ -44,7 +44,7 @@ send-requires-clause-link g c =
     let there : link_index r c.in-Send.link < link_count r =
     (c.rules_are_lawful.ensures r).sends x (link_index r c.in-Send.link) (record { came_by = x.datagram.interface; to = c.in-Send.to; bytes = b }) (stands_as _ r x (c.self.invariant.0 ∙ ap Some same) c.link-link.ensures.stands) sends in
     let n = number_as c.deref-in-Send.result.now h r c.number-link.result c.in-Send.link c.deref-in-Send.ensures same (c.number-link.ensures c.deref-in-Send.result.now.config c.deref-in-Send.result.now.of) in
-    subst (λ (k : ℕ). k < link_count r) (sym (ap (λ (o : Outgoing kinds). o.link) c.into_parcel.ensures ∙ n)) there
+    subst (λ (k : ℕ). k < link_count r) (sym (ap (λ (o : Outgoing kinds). o.link) c.into_egress_packet.ensures ∙ n)) there
 
 pub returns-in-Send-clause-passed : goal.returns-in-Send-clause-passed
 returns-in-Send-clause-passed g c =
@@ -57,7 +57,7 @@ returns-in-Send-clause-passed g c =
     let y : Parcel = record { came_by = x.datagram.interface; to = c.in-Send.to; bytes = b } in
     let sends = decided_as c.deref.result.now h r x c.decide.result _ b c.deref.ensures same c.decide.ensures.decided c.in-Send.is in
     let n = number_as c.deref-in-Send.result.now h r c.number-link.result c.in-Send.link c.deref-in-Send.ensures same (c.number-link.ensures c.deref-in-Send.result.now.config c.deref-in-Send.result.now.of) in
-    let is : c.into_parcel.result ≡ out x l y = c.into_parcel.ensures ∙ ap₂ (λ (p : Arrival kinds) (k : ℕ). leaving p k c.in-Send.to) c.decide.ensures.kept n in
+    let is : c.into_egress_packet.result ≡ out x l y = c.into_egress_packet.ensures ∙ ap₂ (λ (p : Arrival kinds) (k : ℕ). leaving p k c.in-Send.to) c.decide.ensures.kept n in
     passed_as x c.args.self.now c.send.new.self c.args.slow.now c.args.slow.now (Sends l y) sends (subst (λ (o : Outgoing kinds). SentAs o c.args.self.now c.send.new.self) is c.send.ensures, refl)
 
 pub returns-in-Answer-clause-passed : goal.returns-in-Answer-clause-passed
@@ -71,8 +71,8 @@ returns-in-Answer-clause-passed g c =
     let asks = decided_as c.deref.result.now h r x c.decide.result _ b c.deref.ensures same c.decide.ensures.decided c.in-Answer.is in
     let sound = c.decide.ensures.sound p c.in-Answer.is in
     let packet : c.decide.new.self ≡ x = c.decide.ensures.kept ∙ ap (λ (t : List ℕ). with_bytes t x) sound.1 in
-    let is : c.into_question.result ≡ asking x p = c.into_question.ensures ∙ ap (λ (q : Arrival kinds). asking q p) packet in
-    passed_as x c.args.self.now c.ask.new.self c.args.slow.now c.ask.new.slow (Asks p) asks (subst (λ (q : Question kinds). AskedAs q c.args.self.now c.ask.new.self c.args.slow.now c.ask.new.slow) is c.ask.ensures)
+    let is : c.into_request.result ≡ asking x p = c.into_request.ensures ∙ ap (λ (q : Arrival kinds). asking q p) packet in
+    passed_as x c.args.self.now c.ask.new.self c.args.slow.now c.ask.new.slow (Asks p) asks (subst (λ (q : SlowPathRequest kinds). AskedAs q c.args.self.now c.ask.new.self c.args.slow.now c.ask.new.slow) is c.ask.ensures)
 
 pub returns-in-Drop-clause-passed : goal.returns-in-Drop-clause-passed
 returns-in-Drop-clause-passed g c =

@@ -1,7 +1,7 @@
 use Rattle.std.proofs.Common.{◌≡◌, ◌<◌, ◌≤◌, ◌∙◌, ℕ, Option, Some, length, ap, subst, sym, arith}
 use Rattle.std.specs.Arc.{arc_value}
 use Rattle.packet_ledger.specs.Share.{MayRaise}
-use Rattle.pipe_order.specs.Item.{Outgoing}
+use Rattle.pipeline_laws.specs.Item.{Outgoing}
 use Rattle.process_packet.specs.declared.cause.Cause.TheVariants as cause
 use Rattle.process_packet.specs.declared.config.Config.{Config}
 use Rattle.router_rules.specs.Links.{link_count}
@@ -22,28 +22,28 @@ invariant_of-self g c =
     let inv = c.self.invariant in
     let s = c.self.inside in
     let r = (arc_value s.shared).config in
-    let lt : c.args.parcel.link < link_count r = subst (λ (l : Leaving). c.args.parcel.link < link_count l.config) (sym c.self.view_is) c.requires.link in
-    let at : c.pipe_for-at.result ≡ pipe_for r c.args.parcel = c.pipe_for-at.ensures ∙ ap (λ (h : Shared). pipe_for h.config c.args.parcel) c.deref.ensures in
-    let here = pipe_below r c.args.parcel c.pipe_for-at.result (length s.links.items) lt at inv.1 in
-    let stands = subst (λ (o : Option Config). StandsIn o c.in-Err.parcel.arrived c.in-Err.parcel.parcel.came_by) inv.0 c.arrived-link.ensures.stands in
+    let lt : c.args.egress_packet.link < link_count r = subst (λ (l : Leaving). c.args.egress_packet.link < link_count l.config) (sym c.self.view_is) c.requires.link in
+    let at : c.pipe_for-at.result ≡ pipe_for r c.args.egress_packet = c.pipe_for-at.ensures ∙ ap (λ (h : Shared). pipe_for h.config c.args.egress_packet) c.deref.ensures in
+    let here = pipe_below r c.args.egress_packet c.pipe_for-at.result (length s.links.items) lt at inv.1 in
+    let stands = subst (λ (o : Option Config). StandsIn o c.in-Err.egress_packet.arrived c.in-Err.egress_packet.parcel.came_by) inv.0 c.arrived-link.ensures.stands in
     let there : c.arrived-link.result < length s.free.items = let n = inv.2 in let l = stands.1 in let a = c.arrived-link.ensures.arrived in omega arith in
-    (inv.0, kept_long c.pipe_for-at.result c.args.parcel s.links.items c.offer_at.new.ends.items here c.in-Err.ensures.1 ∙ inv.1, back_long c.arrived-link.result s.free.items c.give_back.new.free.items there c.give_back.ensures ∙ inv.2)
+    (inv.0, kept_long c.pipe_for-at.result c.args.egress_packet s.links.items c.offer_at.new.ends.items here c.in-Err.ensures.1 ∙ inv.1, back_long c.arrived-link.result s.free.items c.give_back.new.free.items there c.give_back.ensures ∙ inv.2)
 
 pub invariant_of-self-in_default : goal.invariant_of-self-in_default
 invariant_of-self-in_default g c =
     let inv = c.self.invariant in
     let s = c.self.inside in
     let r = (arc_value s.shared).config in
-    let lt : c.args.parcel.link < link_count r = subst (λ (l : Leaving). c.args.parcel.link < link_count l.config) (sym c.self.view_is) c.requires.link in
-    let at : c.pipe_for-at.result ≡ pipe_for r c.args.parcel = c.pipe_for-at.ensures ∙ ap (λ (h : Shared). pipe_for h.config c.args.parcel) c.deref.ensures in
-    let here = pipe_below r c.args.parcel c.pipe_for-at.result (length s.links.items) lt at inv.1 in
-    let gave : GaveAt c.pipe_for-at.result c.args.parcel s.links.items c.offer_at.new.ends.items = c.in_default.ensures in
-    (inv.0, gave_long c.pipe_for-at.result c.args.parcel s.links.items c.offer_at.new.ends.items here gave ∙ inv.1, inv.2)
+    let lt : c.args.egress_packet.link < link_count r = subst (λ (l : Leaving). c.args.egress_packet.link < link_count l.config) (sym c.self.view_is) c.requires.link in
+    let at : c.pipe_for-at.result ≡ pipe_for r c.args.egress_packet = c.pipe_for-at.ensures ∙ ap (λ (h : Shared). pipe_for h.config c.args.egress_packet) c.deref.ensures in
+    let here = pipe_below r c.args.egress_packet c.pipe_for-at.result (length s.links.items) lt at inv.1 in
+    let gave : GaveAt c.pipe_for-at.result c.args.egress_packet s.links.items c.offer_at.new.ends.items = c.in_default.ensures in
+    (inv.0, gave_long c.pipe_for-at.result c.args.egress_packet s.links.items c.offer_at.new.ends.items here gave ∙ inv.1, inv.2)
 
 pub returns-in-Err : goal.returns-in-Err
 returns-in-Err g c =
     let s = c.self.inside in
     let r = (arc_value s.shared).config in
-    let at : c.pipe_for-at.result ≡ pipe_for r c.args.parcel = c.pipe_for-at.ensures ∙ ap (λ (h : Shared). pipe_for h.config c.args.parcel) c.deref.ensures in
-    subst (λ (l : Leaving). SentAs c.args.parcel l (record { config = r; links = c.offer_at.new.ends.items; free = c.give_back.new.free.items; share = c.fate.new.self })) c.self.view_is
-    (sent_not r s.links.items c.offer_at.new.ends.items s.free.items c.give_back.new.free.items s.share c.fate.new.self c.args.parcel c.in-Err.parcel c.pipe_for-at.result c.arrived-link.result at c.in-Err.ensures.1 c.in-Err.ensures.0 c.arrived-link.ensures.arrived c.give_back.ensures c.fate.ensures)
+    let at : c.pipe_for-at.result ≡ pipe_for r c.args.egress_packet = c.pipe_for-at.ensures ∙ ap (λ (h : Shared). pipe_for h.config c.args.egress_packet) c.deref.ensures in
+    subst (λ (l : Leaving). SentAs c.args.egress_packet l (record { config = r; links = c.offer_at.new.ends.items; free = c.give_back.new.free.items; share = c.fate.new.self })) c.self.view_is
+    (sent_not r s.links.items c.offer_at.new.ends.items s.free.items c.give_back.new.free.items s.share c.fate.new.self c.args.egress_packet c.in-Err.egress_packet c.pipe_for-at.result c.arrived-link.result at c.in-Err.ensures.1 c.in-Err.ensures.0 c.arrived-link.ensures.arrived c.give_back.ensures c.fate.ensures)

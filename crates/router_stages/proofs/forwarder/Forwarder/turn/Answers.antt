@@ -1,6 +1,6 @@
 use Rattle.std.proofs.Common.{◌≡◌, Bool, Option, Some, None, sym, ap, subst}
 use Rattle.packet_ledger.specs.Share.{HasRoom}
-use Rattle.pipe_order.specs.Item.{Outgoing}
+use Rattle.pipeline_laws.specs.Item.{Outgoing}
 use Rattle.router_rules.specs.Rules.{kinds}
 use Rattle.router_stages.specs.Forwarding.{Band, Forwarding, KeepsForwarding, Met, MetIf, PassedMet}
 use Rattle.router_stages.proofs.RoomLemmas.{may_raise}

@@ -3,7 +3,7 @@ use Rattle.std.specs.Arc.{arc_value}
 use Rattle.flow_key.specs.Flow.{flow_at}
 use Rattle.flow_key.specs.Hash.{processor_of}
 use Rattle.packet_ledger.specs.Share.{Held, MayRaise}
-use Rattle.pipe_order.specs.Item.{Arrival}
+use Rattle.pipeline_laws.specs.Item.{Arrival}
 use Rattle.process_packet.specs.declared.cause.Cause.{Cause}
 use Rattle.process_packet.specs.declared.cause.Cause.TheVariants as cause
 use Rattle.process_packet.specs.declared.config.Config.{Config}

@@ -1,5 +1,5 @@
 use Rattle.std.proofs.Common.{◌≡◌, Some, refl, sym, ap, subst, ◌∙◌}
-use Rattle.pipe_order.specs.Item.{Arrival}
+use Rattle.pipeline_laws.specs.Item.{Arrival}
 use Rattle.router_rules.specs.Rules.{kinds}
 use Rattle.ruled_pipe.specs.Consumer.{Taker, took}
 use Rattle.ruled_pipe.specs.Producer.{entry}

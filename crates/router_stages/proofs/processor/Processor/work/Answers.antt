@@ -1,5 +1,5 @@
 use Rattle.std.proofs.Common.{sym, ap, subst, ◌∙◌, Option}
-use Rattle.pipe_order.specs.Item.{Arrival}
+use Rattle.pipeline_laws.specs.Item.{Arrival}
 use Rattle.router_rules.specs.Rules.{kinds}
 use Rattle.packet_ledger.specs.Share.{HasRoom}
 use Rattle.router_stages.specs.Working.{KeepsWorking, Working}

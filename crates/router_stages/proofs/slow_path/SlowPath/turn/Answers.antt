@@ -1,6 +1,6 @@
 use Rattle.std.proofs.Common.{◌≡◌, ◌∙◌, refl, sym, ap, subst}
 use Rattle.packet_ledger.specs.Share.{HasRoom}
-use Rattle.pipe_order.specs.Settled.{Question}
+use Rattle.pipeline_laws.specs.Settled.{SlowPathRequest}
 use Rattle.router_rules.specs.Rules.{kinds}
 use Rattle.ruled_pipe.specs.Consumer.{Taker, took}
 use Rattle.ruled_pipe.specs.Producer.{entry}
@@ -16,8 +16,8 @@ reply-requires-clause-room g c = may_raise c.self.inside.exits.share.counts (sub
 pub invariant_of-self-in-Some-Payload : goal.invariant_of-self-in-Some-Payload
 invariant_of-self-in-Some-Payload g c =
     let s = c.self.inside in
-    let q = c.in-Some-Payload.question in
+    let q = c.in-Some-Payload.request in
     let e = c.in-Some-Payload.ensures in
     let kept = keeps_replied g.N.Router.config s.from s.exits c.self.invariant e.0 q c.reply.new.self (c.if-is_done.ensures.left refl) c.reply.ensures.some c.reply.ensures.replied in
-    let is = e.2 ∙ ap (λ (l : Load (Question kinds)). took s.from (entry e.0 l)) c.in-Some-Payload.field-0-is in
-    subst (λ (t : Taker (Question kinds)). KeepsAnswering g.N.Router.config t c.reply.new.self) (sym is) kept
+    let is = e.2 ∙ ap (λ (l : Load (SlowPathRequest kinds)). took s.from (entry e.0 l)) c.in-Some-Payload.field-0-is in
+    subst (λ (t : Taker (SlowPathRequest kinds)). KeepsAnswering g.N.Router.config t c.reply.new.self) (sym is) kept

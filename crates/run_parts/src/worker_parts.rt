@@ -1,0 +1,182 @@
+//! The pipes, and all workers as far as they stand without a device.
+
+ghost use Rattle.std.specs.Prelude.{◌≡◌, ◌+◌, ◌*◌, IfOk, Some, [], length};
+ghost use Rattle.std.specs.Arc.{arc_value};
+ghost use Rattle.router_ends.specs.Rows.{AreFor, new_takers};
+ghost use Rattle.router_ends.specs.Shutting.{AreOpen, AreShutters};
+ghost use Rattle.router_rules.specs.Links.{link_count};
+ghost use Rattle.run_laws.specs.Crew.{IsAnsweringAt, IsTakerOf, are_used};
+ghost use Rattle.run_parts.specs.Dealing.{IsBundleOf, IsLong, IsNewEnd, piping};
+ghost use Rattle.run_parts.specs.Kits.{IsLeavingAt, IsWorkingThere};
+ghost use Rattle.run_parts.specs.WorkerParts.{AreWorkerParts};
+ghost use Rattle.run_parts.specs.Rest.{AreNewShares, IsRest};
+
+use crate::entering::{Entering, all_entering};
+use crate::leaving::{Leaving, all_leaving};
+use crate::line::Line;
+use crate::middle::{Deciding, deciding_of};
+use crate::pipes::{AllPipes, Pipes, all_pipes};
+use crate::results::both;
+use crate::waking::Events;
+use packet_ledger::Share;
+use router_ends::{Ends, Shutter, shutters};
+use router_rules::{Shared, link_count};
+use router_stages::{Processor, SlowPath};
+use ruled_pipe::{Consumer, Producer};
+use stage_parts::{Buffer, EgressPacket, Gate, Packet, Router, SlowPathRequest};
+use std::alloc::{AllocError, Global};
+use std::sync::atomic::AtomicU64;
+use std::sync::{Arc, Wait};
+
+/// The pipes, and what the workers are made of, before any device is taken.
+#[derive(Drop)]
+pub struct WorkerParts<N: Router, G: Gate + Drop, R: Wait + Copy> {
+    pub receivers: Vec<Entering<N>>,
+    pub processors: Vec<Processor<N, R, G>>,
+    pub slow: SlowPath<N, R>,
+    pub forwarders: Vec<Leaving<N>>,
+    pub shutters: Vec<Shutter<EgressPacket<N>>>,
+    pub pipes: Pipes<N>,
+}
+
+/// The workers after the receivers, and the controller's ends.
+#[derive(Drop)]
+struct AfterReceivers<N: Router, G: Gate + Drop, R: Wait + Copy> {
+    deciding: Deciding<N, G, R>,
+    forwarders: Vec<Leaving<N>>,
+    shutters: Vec<Shutter<EgressPacket<N>>>,
+}
+
+fn after_receivers<N: Router, G: Gate + Drop, R: Wait + Copy>(
+    rt: R,
+    alloc: Global,
+    shared: &Arc<Shared, Global>,
+    gate: G,
+    pipes: &Pipes<N>,
+    packets: Vec<Consumer<Packet<N>>>,
+    asking: Vec<Producer<SlowPathRequest<N>>>,
+    asked: Consumer<SlowPathRequest<N>>,
+    egress_packets: Vec<Consumer<EgressPacket<N>>>,
+    links: Line<Ends<EgressPacket<N>>>,
+    free: Line<Ends<Buffer>>,
+    shares: Line<Share<N>>,
+    events: &Events,
+) -> Result<AfterReceivers<N, G, R>, AllocError>
+    requires config { N.config ≡ Some (arc_value shared.now).config }
+    requires pipes { (length pipes.now.inner.items ≡ (arc_value shared.now).config.processors) × AreFor (link_count (arc_value shared.now).config) pipes.now.inner.items × (length pipes.now.outer.items ≡ 2 * link_count (arc_value shared.now).config) }
+    requires outer { AreFor ((arc_value shared.now).config.processors + 2) pipes.now.outer.items }
+    requires packets { packets.items ≡ new_takers pipes.now.inner.items }
+    requires middle { pipes.now.middle.producers ≡ (arc_value shared.now).config.processors }
+    requires asking { IsRest (IsNewEnd pipes.now.middle) 0 (arc_value shared.now).config.processors asking.items }
+    requires asked { IsTakerOf pipes.now.middle asked × (asked.taken ≡ []) }
+    requires egress_packets { egress_packets.items ≡ new_takers pipes.now.outer.items }
+    requires links { IsRest (IsBundleOf pipes.now.outer.items) 0 ((arc_value shared.now).config.processors + 2) links }
+    requires free { IsRest (IsLong (link_count (arc_value shared.now).config)) 0 ((arc_value shared.now).config.processors + 1 + link_count (arc_value shared.now).config) free }
+    requires shares { AreNewShares ((arc_value shared.now).config.processors + 1 + link_count (arc_value shared.now).config) shares }
+    ensures working { IfOk result (λ a. IsRest (IsWorkingThere (arc_value shared.now).config (piping pipes.now.inner.items pipes.now.middle pipes.now.outer.items)) 0 (arc_value shared.now).config.processors a.deciding.processors.items) }
+    ensures answering { IfOk result (λ a. IsAnsweringAt (arc_value shared.now).config (piping pipes.now.inner.items pipes.now.middle pipes.now.outer.items) a.deciding.slow) }
+    ensures leaving { IfOk result (λ a. IsRest (IsLeavingAt (arc_value shared.now).config pipes.now.outer.items) 0 (link_count (arc_value shared.now).config) a.forwarders.items) }
+    ensures shutting { IfOk result (λ a. AreShutters (are_used (arc_value shared.now).config) 0 ((arc_value shared.now).config.processors + 1) pipes.now.outer.items a.shutters.items) }
+    ensures unmarked { IfOk result (λ a. AreOpen a.shutters.items) }
+{
+    // At most 33, which bounds the controller's ends.
+    let _ = link_count(&shared.config);
+    let mut links = links;
+    let mut free = free;
+    let mut shares = shares;
+    let deciding = deciding_of(
+        rt,
+        alloc,
+        shared,
+        gate,
+        pipes,
+        packets,
+        asking,
+        asked,
+        &mut links,
+        &mut free,
+        &mut shares,
+        events,
+    )?;
+    let closing = shutters(alloc, shared, links.next());
+    let leaving = all_leaving(
+        alloc,
+        shared,
+        &pipes.outer,
+        egress_packets,
+        &mut free,
+        &mut shares,
+    );
+    let ends = both(leaving, closing);
+    let (decided, (forwarders, shutters)) = both(Ok(deciding), ends)?;
+    Ok(AfterReceivers {
+        deciding: decided,
+        forwarders,
+        shutters,
+    })
+}
+
+/// Pipes and workers, all over the same configuration.
+pub fn make_all<N: Router, G: Gate + Drop, R: Wait + Copy>(
+    rt: R,
+    alloc: Global,
+    shared: &Arc<Shared, Global>,
+    stop: &Arc<AtomicU64, Global>,
+    gate: G,
+    shares: Vec<Share<N>>,
+    events: &Events,
+) -> Result<WorkerParts<N, G, R>, AllocError>
+    requires config { N.config ≡ Some (arc_value shared.now).config }
+    requires shares { AreNewShares (2 * link_count (arc_value shared.now).config + (arc_value shared.now).config.processors + 1) shares.items }
+    ensures { IfOk result (λ m. AreWorkerParts (arc_value shared.now).config (piping m.pipes.inner.items m.pipes.middle m.pipes.outer.items) m.pipes.inner_rooms.items m.pipes.outer_rooms.items m.receivers.items m.processors.items m.slow m.forwarders.items m.shutters.items) }
+{
+    let AllPipes {
+        pipes,
+        to_processors,
+        packets,
+        asking,
+        asked,
+        to_links,
+        egress_packets,
+        free,
+    } = all_pipes(&rt, alloc, shared)?;
+    let mut shares = Line::of(shares);
+    let receivers = all_entering(
+        alloc,
+        shared,
+        stop,
+        &pipes.inner,
+        to_processors,
+        free.takers,
+        &mut shares,
+        events,
+    )?;
+    let after = after_receivers(
+        rt,
+        alloc,
+        shared,
+        gate,
+        &pipes,
+        packets,
+        asking,
+        asked,
+        egress_packets,
+        Line::of(to_links),
+        Line::of(free.bundles),
+        shares,
+        events,
+    )?;
+    let AfterReceivers {
+        deciding,
+        forwarders,
+        shutters,
+    } = after;
+    Ok(WorkerParts {
+        receivers,
+        processors: deciding.processors,
+        slow: deciding.slow,
+        forwarders,
+        shutters,
+        pipes,
+    })
+}

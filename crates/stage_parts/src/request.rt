@@ -1,0 +1,133 @@
+//! A packet on its way to the slow path.
+
+ghost use Rattle.std.specs.Prelude.{◌≡◌, ◌≤◌, length, take, None, IfOk};
+ghost use Rattle.router_rules.specs.Rules.{replied};
+ghost use Rattle.scion_packet.specs.Packet.{first_fault};
+ghost use Rattle.scmp_answer.specs.Outcome.{outcome, outcome_in, used};
+ghost use Rattle.scmp_answer.specs.Reply.{local_address, reply};
+ghost use Rattle.stage_parts.specs.Items.{StandsIn, answering};
+ghost use Rattle.stage_parts.specs.Replying.{reply_of};
+
+use crate::buffer::Buffer;
+use crate::egress_packet::EgressPacket;
+use crate::packet::Packet;
+use crate::router::Router;
+use process_packet::{Cause, Config, Problem, Underlay};
+use router_rules::Shared;
+use scmp_answer::{AnswerLen, LONGEST_ANSWER, answer_into};
+use std::marker::Model;
+
+/// A packet without a fault, and what its sender is to be told.
+#[derive(Drop)]
+pub struct SlowPathRequest<N: Router> {
+    pub(crate) packet: Packet<N>,
+    pub(crate) problem: Problem,
+}
+
+impl<N: Router> Model for SlowPathRequest<N> {
+    ghost use Rattle.std.specs.Prelude.{◌≡◌, None};
+    ghost use Rattle.pipeline_laws.specs.Settled.{SlowPathRequest as Request};
+    ghost use Rattle.router_rules.specs.Rules.{kinds};
+    ghost use Rattle.scion_packet.specs.Packet.{first_fault};
+    ghost use Rattle.stage_parts.specs.Items.{asking};
+
+    ghost Value = { Request kinds };
+
+    ghost view = { λ q. asking q.packet q.problem };
+
+    ghost invariant = { λ q. first_fault q.packet.datagram.bytes ≡ None };
+}
+
+// Writes the answer to the datagram at the front of a buffer over it.
+fn answer_over(
+    config: &Config,
+    link: u16,
+    source: Underlay,
+    problem: &Problem,
+    bytes: &mut Vec<u8>,
+    len: usize,
+) -> AnswerLen
+    requires long { length bytes.old.items ≡ 9217 }
+    requires len { len ≤ 9217 }
+    requires sound { first_fault (take len bytes.old.items) ≡ None }
+    ensures answer { outcome_in bytes.new.items result ≡ outcome (reply (local_address config.now) link source (take len bytes.old.items) problem.now) }
+    ensures fits { used result ≤ 1232 }
+    ensures same { length bytes.new.items ≡ 9217 }
+{
+    let mut out = [0; LONGEST_ANSWER];
+    let answer = answer_into(config, link, source, &bytes[..len], problem, &mut out);
+    let (front, _) = bytes.split_at_mut(LONGEST_ANSWER);
+    front.copy_from_slice(&out);
+    answer
+}
+
+/// Why there is no answer, with the buffer of the packet, which is free again.
+#[derive(Drop)]
+pub struct Withheld {
+    pub cause: Cause,
+    pub buffer: Buffer,
+}
+
+impl<N: Router> SlowPathRequest<N> {
+    /// The number of the link by which its packet came.
+    pub fn link(&self) -> u16
+        ensures link { result ≡ self.now.arrival.link }
+        ensures stands { StandsIn N.config self.now.arrival.link self.now.arrival.datagram.interface }
+    {
+        self.packet.link()
+    }
+
+    /// Its buffer, which is free again.
+    pub fn into_buffer(self) -> Buffer {
+        let SlowPathRequest { packet, problem: _ } = self;
+        packet.into_buffer()
+    }
+
+    /// The answer, in the packet's buffer; or the cause for which there is none.
+    pub fn answer(self, shared: &Shared) -> Result<EgressPacket<N>, Withheld>
+        ensures replied { reply_of result ≡ replied shared.now.config self.arrival.datagram self.problem }
+        ensures named { IfOk result (λ o. o ≡ answering self.arrival o.link o.parcel.to o.parcel.bytes) }
+    {
+        let SlowPathRequest { packet, problem } = self;
+        answer_packet(shared, packet, &problem)
+    }
+}
+
+// Writes the answer over the packet.
+fn answer_packet<N: Router>(
+    shared: &Shared,
+    packet: Packet<N>,
+    problem: &Problem,
+) -> Result<EgressPacket<N>, Withheld>
+    requires { first_fault packet.datagram.bytes ≡ None }
+    ensures replied { reply_of result ≡ replied shared.now.config packet.datagram problem.now }
+    ensures named { IfOk result (λ o. o ≡ answering packet o.link o.parcel.to o.parcel.bytes) }
+{
+    let Packet {
+        link: arrived,
+        interface: came_by,
+        number,
+        source,
+        moment: _,
+        len,
+        mut bytes,
+        of,
+    } = packet;
+    match answer_over(&shared.config, came_by, source, problem, &mut bytes, len) {
+        AnswerLen::Send { link, to, len } => Ok(EgressPacket {
+            arrived,
+            came_by,
+            number,
+            answer: true,
+            link: shared.ports.number(link),
+            to,
+            len,
+            bytes,
+            of,
+        }),
+        AnswerLen::Drop(cause) => Err(Withheld {
+            cause,
+            buffer: Buffer::of(bytes),
+        }),
+    }
+}
