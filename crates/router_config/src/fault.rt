@@ -1,26 +1,35 @@
-//! Why a text is no configuration.
+//! Why a text is refused as a configuration.
 
 use thiserror::Error;
 
-/// The first fault of a text that is no configuration.
+/// The first fault of a text that is not a configuration, in the order in which `read_config` reads its keys.
 #[derive(Clone, Copy, Debug, Drop, PartialEq, Eq, Error)]
 pub enum ConfigFault {
-    #[error("the text is no TOML")]
+    /// The text is not TOML, or has an integer wider than 64 bits.
+    #[error("the text is not TOML")]
     NotToml,
+    /// A key that has to be there is not.
     #[error("a key is missing")]
     Missing,
-    #[error("a value has another type, or a word is none of those that are known")]
+    /// A value has another type than its key asks for, or is a word that the key does not know.
+    #[error("a value has the wrong type, or is not one of the known words")]
     WrongType,
-    #[error("the ISD-AS is none")]
+    /// A text is not an ISD-AS number, as `1-ff00:0:110` or `1-64512` is; neither part may be 0.
+    #[error("the ISD-AS is not valid")]
     IsdAs,
+    /// The forwarding key is not 32 hex digits.
     #[error("the key is not 32 hex digits")]
     Key,
-    #[error("an address is none")]
+    /// A text is not an IP address with a port from 1 to 65535.
+    #[error("an address is not valid")]
     Address,
-    #[error("an interface is 0, or an interface or a service stands twice")]
+    /// An interface is 0; or one is given twice, among links and siblings, or a service is.
+    #[error("an interface is 0, or an interface or a service is given twice")]
     Interface,
-    #[error("a number or a list is out of its limits")]
+    /// A number is out of its range, or a list is longer than its limit, or empty where it may not be.
+    #[error("a number or a list is outside its limits")]
     Limit,
+    /// There was no memory left, at whatever key.
     #[error("no memory was left")]
     Memory,
 }
