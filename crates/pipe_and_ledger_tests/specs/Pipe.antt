@@ -6,7 +6,7 @@ use Rattle.ruled_pipe.specs.declared.entry.Mark.TheVariants.{Close}
 use Rattle.ruled_pipe.specs.Producer.{entry, refusal}
 use Rattle.ruled_pipe.specs.Gathered.{Views, IsWhole}
 
--- At capacity 2, producer 0 had 10 and a closing mark accepted and 12 refused, behind one accepted offer; producer 1 had 11 accepted; all three were taken, in that order, and then a look found nothing; nothing is held
+-- At capacity 2, producer 0 had 10 and a closing mark accepted and 12 refused, after one accepted offer; producer 1 had 11 accepted; all three were taken, in that order, and then a look found nothing; nothing is held
 pub record IsExample (v : Views ℕ) : Type 0 where
   pub senders : v.senders
       ≡ record { pipe = v.taker.pipe; number = 0; producers = 2; capacity = 2; offers = entry 0 (Payload 10) ∷ entry 0 (Marked Close) ∷ []; refusals = refusal (entry 0 (Payload 12)) 1 ∷ [] }

@@ -22,7 +22,7 @@ module _ {X : Type 0} (f : X → ℕ) where
   pub total_all : (xs : List X) → total f (take (length xs) xs) ≡ total f xs
   total_all xs = ap (total f) (take-length xs)
 
--- counted after a map, or by the test behind it
+-- counted after a map, or by the test after it
 pub count-map : {X Y : Type 0} (f : X → Y) (p : Y → Bool) (xs : List X) → count p (map f xs) ≡ count (λ x. p (f x)) xs
 count-map f p [] = refl
 count-map f p (x ∷ xs) = go (p (f x)) (count-map f p xs)

@@ -1,5 +1,5 @@
 -- What holds of a pipeline after any list of steps: packets of a flow keep their order, each packet is at one place, the
--- counts add up, a drop at a full pipe met it full, and nothing behind a closing mark is sent.
+-- counts add up, a drop at a full pipe met it full, and nothing after a closing mark is sent.
 use Rattle.std.specs.Prelude.{◌≡◌, ◌<◌, ◌+◌, ℕ, Bool, true, false, List}
 use Rattle.std.specs.List.{All}
 use Rattle.pipeline_laws.specs.ByRules.{IsByRules}
@@ -55,7 +55,7 @@ abbrev pub IsToldBy : Config → World kinds → Fate kinds → Type 0
 IsToldBy c s f = (why : RouterCause) → f.cause ≡ Cause.Ruled why → IsSaidOf c s f why
 
 -- And by whatever steps the world was reached: every item and every cause comes from an arrival by the rules, and each cause from its own; a drop at a full
--- pipe met it full; nothing behind a closing mark was taken for sending; what was sent is what was taken for sending.
+-- pipe met it full; nothing after a closing mark was taken for sending; what was sent is what was taken for sending.
 pub record IsWayGood (c : Config) (w : World kinds) (r : IsReached c w) : Type 0 where
   pub made : IsByRules (rules c) r.way.start w
   pub causes : All (IsToldBy c r.way.start) w.fates

@@ -22,7 +22,7 @@ const DONE: Result<(), StepFault> = Ok(());
 
 const NOT: Result<(), StepFault> = Err(StepFault::NotNow);
 
-/// The first packet goes to the processor of its flow, the second waits behind it.
+/// The first packet goes to the processor of its flow, the second waits after it.
 const TO_ITS_PROCESSOR: [(Step, Result<(), StepFault>); 10] = [
     (Step::Offer(RECEIVER), NOT),
     (Step::Receive(1), DONE),
@@ -89,7 +89,7 @@ const WITHOUT_MEMORY: [(Step, Result<(), StepFault>); 8] = [
     (Step::Lack(PROCESSOR), NOT),
 ];
 
-/// A link is closed, and what stands behind the mark is swept.
+/// A link is closed, and what stands after the mark is swept.
 const CLOSED: [(Step, Result<(), StepFault>); 13] = [
     (Step::CloseMark(TO_PROCESSOR), NOT),
     (Step::CloseMark(BACK), DONE),

@@ -61,7 +61,7 @@ impl State {
         Ok(())
     }
 
-    /// A forwarder takes the front behind a closing mark, and drops it.
+    /// A forwarder takes the front after a closing mark, and drops it.
     pub(crate) fn sweep(
         &mut self,
         config: &Config,

@@ -35,7 +35,7 @@ pub enum Step {
     EndMark(Worker, Queue),
     /// The forwarder of a link hands what it holds to its sink, which takes it or fails.
     Send(u16, bool),
-    /// The forwarder takes the front behind a closing mark, and drops it.
+    /// The forwarder takes the front after a closing mark, and drops it.
     Sweep(Queue),
 }
 

@@ -8,7 +8,7 @@ use sample_packets::{FIRST, IN_TIME};
 use std::alloc::Global;
 use std::test::*;
 
-/// Each packet on its way from link 1 to link 2, one behind the other.
+/// Each packet on its way from link 1 to link 2, one after the other.
 const WAY: [Step; 14] = [
     Step::Receive(1),
     Step::Offer(Worker::Receiver(1)),
@@ -157,7 +157,7 @@ fn steps_that_are_not_possible(rt: HostRuntime) {
     world.headline();
 }
 
-/// The first packet is sent, the second is answered, and the answer stands behind the mark with which
+/// The first packet is sent, the second is answered, and the answer stands after the mark with which
 /// its link is closed. Six of the steps are not possible.
 const TO_THE_END: [Step; 26] = [
     Step::Send(2, true),

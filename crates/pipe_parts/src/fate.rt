@@ -87,7 +87,7 @@ impl Fates {
         Ok(())
     }
 
-    /// Forgets what was noted behind the first ones.
+    /// Forgets what was noted after the first ones.
     pub fn truncate(&mut self, len: usize)
         ensures { self.new ≡ take len self.old }
     {

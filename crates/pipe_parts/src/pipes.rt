@@ -31,7 +31,7 @@ impl Model for Pipes {
 }
 
 impl Pipes {
-    /// The sources, and behind them so many empty pipes.
+    /// The sources, and after them so many empty pipes.
     pub fn new(
         alloc: Global,
         sources: Vec<Pipe>,
@@ -152,7 +152,7 @@ impl Pipes {
         }
     }
 
-    /// Those behind the first so many.
+    /// Those after the first so many.
     pub fn after(&self, count: usize) -> &[Pipe]
         ensures { result.now ≡ drop count self.now }
     {

@@ -1,4 +1,4 @@
--- Each move takes before a closing mark, or sweeps behind it.
+-- Each move takes before a closing mark, or sweeps after it.
 use Rattle.std.proofs.Common.{◌≡◌, ◌≢◌, ◌⊎◌, inl, inr, ℕ, Bool, true, false, ◌||◌, ◌&&◌, ◌+◌, ◌<◌, ◌≤◌, cond, List, [], ◌∷◌, ◌++◌, take, drop, refl, sym, subst, ◌∙◌, ap, arith, eqb, append_assoc}
 use Rattle.std.specs.Prelude.{Option, Some, None}
 use Rattle.std.proofs.lemmas.List.{append-nil}
@@ -26,7 +26,7 @@ closed_one true = refl
 closed_one false = refl
 
 module _ {K : Kinds} where
-  -- one more, before the mark or behind it
+  -- one more, before the mark or after it
   pub up_open : (xs : List (Item K)) (x : Item K) → has_close xs ≡ false → up_to_close (xs ++ x ∷ []) ≡ up_to_close xs ++ x ∷ []
   up_open [] x h = go (is_close x)
     where

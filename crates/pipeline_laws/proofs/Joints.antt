@@ -243,7 +243,7 @@ module _ {T : Type 0} where
       go true r = refl
       go false r = ap (λ (ys : List (Pushed T)). e ∷ ys) r
 
-  -- where no closing mark was taken nothing stands behind one
+  -- where no closing mark was taken nothing stands after one
   pub never_closed : (es : List (Pushed T)) → has_mark es ≡ false → from_mark es ≡ []
   never_closed [] h = refl
   never_closed (e ∷ es) h = go (closes e.load) h (λ r. never_closed es r)

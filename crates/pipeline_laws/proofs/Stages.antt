@@ -47,7 +47,7 @@ module _ {K : Kinds} where
   lost_all [] = refl
   lost_all (x ∷ xs) = ap (λ (ys : List ℕ). x.number ∷ ys) (lost_all xs)
 
-  -- the part before a mark is the whole, without what stands behind it
+  -- the part before a mark is the whole, without what stands after it
   pub before_is : (xs ys : List (Departure K)) → Distinct (numbers (xs ++ ys)) → xs ≡ without (numbers ys) (xs ++ ys)
   before_is xs ys d =
       let t : List (Tag K) = tags true xs ++ tags false ys in

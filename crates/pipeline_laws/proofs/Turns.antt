@@ -54,7 +54,7 @@ numbered_more a n [] x num link at = (link, omega arith, tt)
 numbered_more a n (y ∷ ys) x num link at = (num.0, num.1, numbered_more a (n + 1) ys x num.2 link (omega arith))
 
 module _ {T : Type 0} where
-  -- a forwarder's take, before a mark and behind one
+  -- a forwarder's take, before a mark and after one
   pub shut_more : (es : List (Pushed T)) (e : Pushed T) → has_mark (es ++ e ∷ []) ≡ (has_mark es || closes e.load)
   shut_more [] e = go (closes e.load)
     where

@@ -51,13 +51,13 @@ module _ {K : Kinds} where
   abbrev pub closed_count : (ℕ → ℕ → Bool) → World K → ℕ
   closed_count named w = count (λ f. named f.link f.number && is_closed f.cause) w.fates
 
-  -- packets and answers that were taken behind a closing mark
+  -- packets and answers that were taken after a closing mark
   abbrev pub swept_count : Rules K → (ℕ → ℕ → Bool) → World K → ℕ
   swept_count R named w = total (λ p. count (is_named named) (after_close (gone p))) (drop R.links w.pipes)
 
 -- The steps that lead from the start s to the world w close as they are to.
 pub record IsClosing {K : Kinds} (R : Rules K) (s w : World K) (ss : List Step) : Type 0 where
-  -- no item behind a closing mark was taken but by a sweep, and nothing else was swept
+  -- no item after a closing mark was taken but by a sweep, and nothing else was swept
   pub by_take : (q : ℕ) → R.links ≤ q → took R s ss q ≡ up_to_close (gone (pipe w q))
   pub by_sweep : (q : ℕ) → R.links ≤ q → swept R s ss q ≡ after_close (gone (pipe w q))
   -- what was taken for sending is what was taken, less the mark

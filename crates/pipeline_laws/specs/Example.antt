@@ -95,7 +95,7 @@ FullQueue =
     (numbers_sent full_queue 2 ≡ 1 ∷ 3 ∷ []) × (full_queue.fates ≡ fate 2 Cause.ProcessorFull ∷ []) ×
     (counts false full_queue ≡ 3 ∷ 2 ∷ 0 ∷ 0 ∷ []) × ((pipe full_queue 4).refusals ≡ (record { link = 1; number = 2; length = 1; taken = 0 }) ∷ [])
 
--- between two packets the link is closed: a second mark isn't possible, nor a take behind it
+-- between two packets the link is closed: a second mark isn't possible, nor a take after it
 abbrev closing : List Step
 closing =
     arrive ++ process 0 ++ (Step.Close (Of (Forwarder 2)) ∷ Step.Close (Of (Forwarder 2)) ∷ []) ++ arrive ++ process 0 ++

@@ -64,7 +64,7 @@ module _ {K : Kinds} where
   before_close [] = []
   before_close (x ∷ xs) = if is_close x then [] else x ∷ before_close xs
 
-  -- what stands behind the first closing mark
+  -- what stands after the first closing mark
   abbrev pub after_close : List (Item K) → List (Item K)
   after_close [] = []
   after_close (x ∷ xs) = if is_close x then xs else after_close xs

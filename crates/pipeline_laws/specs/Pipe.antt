@@ -66,7 +66,7 @@ module _ {K : Kinds} where
   abbrev pub is_shut : Pipe K → Bool
   is_shut p = has_close (gone p)
 
-  -- what was taken for sending: what comes behind a mark is swept
+  -- what was taken for sending: what comes after a mark is swept
   abbrev pub passed : Pipe K → List (Item K)
   passed p = before_close (gone p)
 

@@ -15,4 +15,4 @@ pub data Step : Type 0 where
   Close : Queue → Step  -- the controller pushes a closing mark
   End : Worker → Queue → Step  -- the worker pushes its end mark
   Send : ℕ → Bool → Step  -- the forwarder of a link hands its packet over, and whether that went well
-  Sweep : Queue → Step  -- the forwarder takes the front behind a closing mark, and drops it
+  Sweep : Queue → Step  -- the forwarder takes the front after a closing mark, and drops it

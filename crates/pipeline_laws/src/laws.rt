@@ -56,7 +56,7 @@ pub fn keeps_totals<D, P, Q, R, K>()
     ensures law { KeepsTotals (record { Datagram = D; Parcel = P; Problem = Q; RuleCause = R; Key = K }) }
 {}
 
-/// After any list of steps nothing pushed behind a closing mark was taken but by a sweep, and just what was swept is counted
+/// After any list of steps nothing pushed after a closing mark was taken but by a sweep, and just what was swept is counted
 /// as closed.
 pub fn keeps_close<D, P, Q, R, K>()
     ensures law { KeepsClose (record { Datagram = D; Parcel = P; Problem = Q; RuleCause = R; Key = K }) }

@@ -114,7 +114,7 @@ fn read_kind(word: &str) -> Option<LinkKind>
     }
 }
 
-/// What the AS behind an interface is.
+/// What the AS at the other end of a link is to this one.
 #[tactic(auto, unfolding(crate::specs::Entry::kind_at))]
 pub(crate) fn kind_at(table: &Table) -> Result<LinkKind, ConfigFault>
     ensures { result ≡ kind_at (table_view table.now) }

@@ -58,7 +58,7 @@ impl<T: Drop> Ends<T> {
         }
     }
 
-    /// Puts one behind the others, where there is room. It takes no memory.
+    /// Puts one after the others, where there is room. It takes no memory.
     pub fn put(&mut self, end: Producer<T>)
         requires { length self.old.ends < self.old.room }
         ensures { (self.new.ends ≡ self.old.ends ++ end ∷ []) × (self.new.room ≡ self.old.room) }

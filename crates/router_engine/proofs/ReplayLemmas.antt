@@ -235,7 +235,7 @@ ran_cut m p (Some all) n q r (Some later) old now e cut so_far =
     let done = so_far.1 in
     part_told (steps_text m p all) done.0 (steps_text n q later) (bad_step p.config m all) e old now cut done.2 done.1
 
--- behind a line's step, where the next line isn't read
+-- after a line's step, where the next line isn't read
 pub ran_and_cut : (m : ℕ) (p : Pipeline) (known : Option Lines) (n : ℕ) (q r t : Pipeline) (line : List ℕ) (rest old mid new : Option (List ℕ)) (e : LinesFault) → IsCut e → Goes m p known n q (left_of true line rest) old mid
     → Acted (Ok tt) n q line r mid new → Ran (Err e) m p known t old new
 ran_and_cut m p None n q r t line rest old mid new e cut so_far acted = tt
@@ -287,7 +287,7 @@ pub cut_in_front : (c : Config) (known : Option (List ℕ)) (e : LinesFault) (ol
 cut_in_front c None e old cut = tt
 cut_in_front c (Some input) e old cut = part_told (replay_text c (lines_of input)) [] (replay_text c (lines_of input)) (bad_replay_line c (lines_of input)) e old old cut refl (Appends-nothing old)
 
--- the pipeline behind the front, and its lines
+-- the pipeline after the front, and its lines
 started : (c : Config) (ds : List Datagram) → (starting c ds).config ≡ c
 unfolding starting
 started c ds = refl
@@ -311,7 +311,7 @@ retold text other bad worse r old new same alike told =
     let Q : Option ℕ → Type 0 = λ b. Told other b r old new in
     subst Q alike (subst P same told)
 
--- the report behind the notes
+-- the report after the notes
 reported : (n : ℕ) (p : Pipeline) (later : Lines) (q : Pipeline) (r : Result (Unit {0}) LinesFault) (old mid new : Option (List ℕ)) → RanOn (Ok tt) n p later q old mid
     → OnOk r (Appends mid new (report q)) → ((k : ℕ) × Appends mid new (take k (report q))) → IfErr r (λ e. IsCut e) → Told (steps_text n p later) (bad_step p.config n later) r old new
 reported n p later q (Ok done) old mid new ran wrote part cut =
@@ -332,7 +332,7 @@ replayed_to c (Some input) (Some later) n lists p q e old new front begun ran =
     let same = texts_are c (lines_of input) later front.0 n p front.3.0 front.3.1 front.2 begun in
     retold (steps_text n p later) (replay_text c (lines_of input)) (bad_step p.config n later) (bad_replay_line c (lines_of input)) (Err e) old new same.0 same.1 ran
 
--- the report is written behind them
+-- the report is written after them
 pub replayed : (c : Config) (known : Option (List ℕ)) (left : Option Lines) (n : ℕ) (lists : List (Vec Came Global)) (p q : Pipeline) (r : Result (Unit {0}) LinesFault) (old mid new : Option (List ℕ))
     → (front : IsFront c (lines_in known) left n lists) → p ≡ starting c front.0 → Ran (Ok tt) n p left q old mid
     → OnOk r (Appends mid new (report q)) → ((k : ℕ) × Appends mid new (take k (report q))) → IfErr r (λ e. IsCut e) → IfSome known (λ input. Replayed c r input old new)

@@ -27,7 +27,7 @@ abbrev pub after_then : Option Datagram → List (List ℕ) → List (List ℕ) 
 after_then None here later = here
 after_then (Some d) here later = later
 
--- the lines behind them
+-- the lines after them
 unfoldable pub after_arrivals : Config → List (List ℕ) → List (List ℕ)
 after_arrivals c [] = []
 after_arrivals c (line ∷ lines) = after_then (datagram_of_line c line) (line ∷ lines) (after_arrivals c lines)
@@ -60,7 +60,7 @@ bad_step c n (line ∷ lines) = bad_or (step_of_line c line) n (bad_step c (n + 
 
 -- ---- all of it
 
--- the number of the first line behind the arrivals
+-- the number of the first line after the arrivals
 abbrev pub first_step : Config → List (List ℕ) → ℕ
 first_step c lines = length (arrivals_in c lines) + 1
 

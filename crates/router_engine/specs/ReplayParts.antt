@@ -23,7 +23,7 @@ abbrev pub lines_in : Option (List ℕ) → Option (List (List ℕ))
 lines_in None = None
 lines_in (Some text) = Some (lines_of text)
 
--- the line that was read last and those behind it; no line was read where nothing was left
+-- the line that was read last and those after it; no line was read where nothing was left
 abbrev pub left_of : Bool → List ℕ → Option (List ℕ) → Option (List (List ℕ))
 left_of false line rest = Some []
 left_of true line None = None
@@ -47,7 +47,7 @@ IsCut faults.Memory = ⊤
 
 -- ---- in front
 
--- the datagrams are those in front, and the lines left are those behind them
+-- the datagrams are those in front, and the lines left are those after them
 abbrev pub AreFront : Config → Option (List (List ℕ)) → Option (List (List ℕ)) → List Datagram → Type 0
 AreFront c known left ds = Both known left (λ all later. (arrivals_in c all ≡ ds) × (after_arrivals c all ≡ later))
 

@@ -135,7 +135,7 @@ fn reads_each_kind_of_arrival(rt: HostRuntime) {
     assert_eq!(rt; writer.as_slice(), want.as_slice());
 }
 
-/// What no line of a replay is, each behind its first letter, so that a line may be empty.
+/// What no line of a replay is, each after its first letter, so that a line may be empty.
 const OTHER_LINES: &str = "|\n\
     | \n\
     |stop 1\n\
@@ -207,7 +207,7 @@ const OTHER_LINES: &str = "|\n\
     |sweep s\n\
     |arrive 1 - 0 00";
 
-/// What no replay line is ends the replay there, behind the notes of the lines before it.
+/// What no replay line is ends the replay there, after the notes of the lines before it.
 #[test]
 fn refuses_other_lines(rt: HostRuntime) {
     let alloc = rt.alloc();

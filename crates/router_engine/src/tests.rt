@@ -48,7 +48,7 @@ pub fn answers_datagram(
         && answers(alloc, config, arriving, text.as_slice(), line)
 }
 
-/// Whether there was memory for the bytes in hex behind the text.
+/// Whether there was memory for the bytes in hex after the text.
 pub fn push_hex(text: &mut Vec<u8>, bytes: &[u8]) -> bool {
     let begin = text.len();
     let end = begin.saturating_add(bytes.len().saturating_mul(2));
@@ -120,7 +120,7 @@ fn ends_at_a_line_that_is_no_hex(rt: HostRuntime) -> Result<(), Fail> {
     Ok(())
 }
 
-/// Whether there was memory for the header with this many bytes `5a` behind it, in hex.
+/// Whether there was memory for the header with this many bytes `5a` after it, in hex.
 fn push_long(text: &mut Vec<u8>, payload: usize) -> bool {
     text.clear();
     let mut good = text.extend_from_slice(LONG_HEADER.as_bytes()).is_ok();

@@ -31,7 +31,7 @@ fn arriving_of(config: &Config, row: &str) -> Option<ArrivalContext> {
     })
 }
 
-/// Whether one change, told as `offset=hex`, could be made; the bytes grow where it ends behind them.
+/// Whether one change, told as `offset=hex`, could be made; the bytes grow where it ends after them.
 fn change(bytes: &mut Vec<u8>, told: &str) -> bool {
     let Some((at, digits)) = told.split_once('=') else {
         return false;
@@ -59,7 +59,7 @@ fn make(bytes: &mut Vec<u8>, base: &[u8], len: usize, changes: &str) -> bool {
     good
 }
 
-/// Whether the datagram could be put behind the header and message of an answer, as far as its payload
+/// Whether the datagram could be put after the header and message of an answer, as far as its payload
 /// length tells.
 fn push_quote(answer: &mut Vec<u8>, datagram: &[u8]) -> bool {
     if answer.len() < 8 {

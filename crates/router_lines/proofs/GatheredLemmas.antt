@@ -71,7 +71,7 @@ others c ds d a (xs ∷ lists) before so_far =
     let later : link_index c d.interface < a + 1 = omega arith in
     (so_far.0 ∙ sym (numbered_same c a 1 ds d other), so_far.1, others c ds d (a + 1) lists later so_far.2)
 
--- the datagram behind those of its link
+-- the datagram after those of its link
 pub record IsNext (c : Config) (xs ys : List Came) (x : Came) (d : Datagram) : Type 0 where
   pub same : datagram_of x ≡ d
   pub number : x.number ≡ 1 + length xs

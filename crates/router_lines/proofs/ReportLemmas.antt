@@ -22,7 +22,7 @@ one_more_line f before text one line n so_far is wrote =
     wrote ∙ ap (λ (t : List ℕ). t ++ line) so_far ∙ append_assoc before (flat_map f (range_with_len 0 n)) line
     ∙ ap (λ (t : List ℕ). before ++ t) (ap (λ (t : List ℕ). flat_map f (range_with_len 0 n) ++ t) (is ∙ ap f (sym here)) ∙ sym (range_more f 0 n))
 
--- three parts behind one another
+-- three parts after one another
 pub reported : {T E : Type 0} (r : Result T E) (before one two all a b d whole : List ℕ) → one ≡ before ++ a → two ≡ one ++ b → whole ≡ a ++ (b ++ d) → OnOk r (all ≡ two ++ d) → OnOk r (all ≡ before ++ whole)
 reported (Err e) before one two all a b d whole first second parts last = tt
 reported (Ok x) before one two all a b d whole first second parts last =

@@ -20,7 +20,7 @@ source_of c link text = if bytes_eq text (codes "-") then usual_source c link el
 abbrev pub if_arrive : List ℕ × List ℕ → Option (List ℕ)
 if_arrive words = if bytes_eq words.0 (codes "arrive") then Some words.1 else None
 
--- how it arrives, and the hex digits behind
+-- how it arrives, and the hex digits after it
 unfoldable pub head_of : Config → List ℕ → Option (ArrivalContext × List ℕ)
 head_of c text = do
   rest ← split_once 32 text >>= if_arrive

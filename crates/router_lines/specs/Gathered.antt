@@ -34,7 +34,7 @@ starting c ds = record { config = c; world = first_world (rules c) c.capacity (m
 
 -- ---- as lists in memory
 
--- the lists of link a and of those behind it: what came by each
+-- the lists of link a and of those after it: what came by each
 abbrev pub AreOf : Config → List Datagram → ℕ → List (Vec Came Global) → Type 0
 AreOf c ds a [] = Unit {0}
 AreOf c ds a (xs ∷ rest) = (map (source_entry a) xs.items ≡ numbered c a 1 ds) × AreNumbered c a 1 xs.items × AreOf c ds (a + 1) rest

@@ -13,11 +13,11 @@ not_now_text line = codes "not now " ++ (decimal line ++ codes "\n")
 
 -- ---- what was sent
 
--- a packet by its arriving link and its number there, an answer with an `a` behind
+-- a packet by its arriving link and its number there, an answer with an `a` after it
 abbrev pub name_text : Outgoing → List ℕ
 name_text o = decimal o.arrived ++ (codes "." ++ (decimal o.number ++ (if o.answer then codes "a" else [])))
 
--- each behind a blank
+-- each after a blank
 abbrev pub names_text : List (Outgoing × List ℕ) → List ℕ
 names_text [] = []
 names_text (o ∷ os) = codes " " ++ (name_text o.0 ++ names_text os)

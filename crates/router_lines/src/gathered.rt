@@ -21,7 +21,7 @@ pub fn no_arrivals(alloc: Global, config: &Config) -> Result<Vec<Vec<Arrival>>, 
     Ok(lists)
 }
 
-/// Puts a datagram behind those of its link, under the next number there.
+/// Puts a datagram after those of its link, under the next number there.
 pub fn add_arrival(
     config: &Config,
     lists: &mut Vec<Vec<Arrival>>,

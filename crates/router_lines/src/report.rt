@@ -10,7 +10,7 @@ use router_config::push_decimal;
 use router_rules::{interface_at, link_count};
 use std::alloc::AllocError;
 
-/// Adds the name of what left: its arriving link and its number there, an answer with an `a` behind.
+/// Adds the name of what left: its arriving link and its number there, an answer with an `a` after it.
 fn push_name(text: &mut Vec<u8>, left: &Outgoing) -> Result<(), AllocError>
     ensures { OnOk result (text.new.items ≡ text.old.items ++ name_text left.now) }
 {
@@ -23,7 +23,7 @@ fn push_name(text: &mut Vec<u8>, left: &Outgoing) -> Result<(), AllocError>
     Ok(())
 }
 
-/// Adds the names, each behind a blank.
+/// Adds the names, each after a blank.
 fn push_names(text: &mut Vec<u8>, sent: &[(Outgoing, Bytes)]) -> Result<(), AllocError>
     ensures { OnOk result (text.new.items ≡ text.old.items ++ names_text sent.now) }
 {

@@ -13,7 +13,7 @@ use process_packet::Config;
 use router_config::pieces::split_once;
 use router_rules::{QueueIndex, WorkerIndex};
 
-/// The word by which a step begins; `answer` has nothing behind it and is none of these.
+/// The word by which a step begins; `answer` has nothing after it and is none of these.
 #[derive(Clone, Copy, Debug, PartialEq, Eq)]
 pub(crate) enum Verb {
     Receive,

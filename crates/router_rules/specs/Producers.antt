@@ -1,5 +1,5 @@
 -- Who feeds a pipe under which number. A pipe's producers are numbered from 0: receivers by their links, processors in their
--- order, and of a link's pipes behind the processors the slow path, then the controller.
+-- order, and of a link's pipes after the processors the slow path, then the controller.
 use Rattle.std.specs.Prelude.{◌≡◌, ◌<◌, ℕ, true, ◌+◌, Option, Some, None}
 use Rattle.pipeline_laws.specs.Kinds.{Kinds}
 use Rattle.pipeline_laws.specs.Next.{feeds}

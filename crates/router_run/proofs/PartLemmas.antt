@@ -1,4 +1,4 @@
--- Workers taken apart one by one: what was gathered grows behind, what is left shrinks in front.
+-- Workers taken apart one by one: what was gathered grows at its end, what is left shrinks in front.
 use Rattle.std.proofs.Common.{◌≡◌, ℕ, ◌+◌, ◌≤◌, List, [], ◌∷◌, ◌++◌, map, length, sym, ◌∙◌, ap, subst, arith, length-append}
 use Rattle.std.proofs.lemmas.List.{map-append}
 use Rattle.pipeline_laws.specs.Deeds.{Each}

@@ -20,7 +20,7 @@ module _ {X : Type 0} where
   get_snoc (x ∷ xs) y s zero e = inl e
   get_snoc (x ∷ xs) y s (suc k) e = ⊎_elim (λ (t : slice_get xs k ≡ Some s). inl t) (λ (t : (k ≡ length xs) × (y ≡ s)). inr (ap suc t.0, t.1)) (get_snoc xs y s k e)
 
-  -- the first of the rest stands behind those so far
+  -- the first of the rest stands after those so far
   pub get_next : (xs ys : List X) (y : X) → slice_get (xs ++ y ∷ ys) (length xs) ≡ Some y
   get_next [] ys y = refl
   get_next (x ∷ xs) ys y = get_next xs ys y

@@ -155,7 +155,7 @@ module _ {C : Type 0} (closes : C → ℕ → Closing → C → Type 0) where
   led_lack known left rest line r s t old new e cut so_far read obeys =
       led_and_cut known left rest line obeys.0 0 r s t old new new e cut so_far read obeys.1 (Appends-nothing new)
 
-  -- ---- behind `ready`
+  -- ---- after `ready`
 
   pub ready_led : (result : Result (Unit {0}) LinesFault) (known : Option Lines) (r s : C) (old mid new : Known) → Appends old mid ready_text → LedIn closes result known r s mid new → LedReady closes result known r s old new
   ready_led result None r s old mid new ready led = tt

@@ -50,7 +50,7 @@ module _ {C : Type 0} (closes : C → ℕ → Closing → C → Type 0) where
   LedIn result None r s old new = ⊤
   LedIn result (Some lines) r s old new = Led result lines r s old new
 
-  -- the same behind `ready`
+  -- the same after `ready`
   abbrev pub LedReady : Result (Unit {0}) LinesFault → Option (List (List ℕ)) → C → C → Option (List ℕ) → Option (List ℕ) → Type 0
   LedReady result None r s old new = ⊤
   LedReady (Ok done) (Some lines) r s old new = (left : List (List ℕ)) × (text : List ℕ) × Leads lines left r text s × IsEnd left × Appends old new (ready_text ++ text)

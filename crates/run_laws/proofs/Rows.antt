@@ -123,7 +123,7 @@ module _ {G : Type 0} (c : Config) (p : Piping) where
   abbrev links_of : List (Working G) → List (List (Sender (Outgoing kinds)))
   links_of ws = map (λ (w : Working G). senders w.side.links) ws
 
-  -- the bundles of the processors from number i on, and of those behind them
+  -- the bundles of the processors from number i on, and of those after them
   pub outer_bundles : Finishes (Outgoing kinds) → (i : ℕ) (ss : List Shape) (xs ys : List (Working G)) (tail : List (List (Sender (Outgoing kinds)))) (bs : List (Row (Outgoing kinds)))
       → AreWorking c p i ss xs → AreBack P xs ys → Each (λ (w : Working G). AreMarked w.side.links × IsMarked w.slow.sender w.slow.ended) ys
       → rows_of bs ≡ links_of ys ++ tail

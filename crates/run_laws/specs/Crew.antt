@@ -70,7 +70,7 @@ module _ {G : Type 0} where
   AreWorking c p i (s ∷ ss) (w ∷ ws) = IsWorkingAt c p i s w × AreWorking c p (i + 1) ss ws
   AreWorking c p i _ _ = ⊥
 
--- the slow path has the producers behind the processors'
+-- the slow path has the producers after the processors'
 pub record IsAnsweringAt (c : Config) (p : Piping) (a : Answering) : Type 0 where
   pub config : a.side.config ≡ c
   pub taker : IsTakerOf p.middle a.taker

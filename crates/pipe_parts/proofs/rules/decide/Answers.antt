@@ -25,7 +25,7 @@ as_they_came : (r : Config) (x : Came) (found : Decision) (problem : Problem) (b
     → bytes ≡ moved (network r) x.interface x.source x.now x.bytes → found ≡ decision.Answer problem → bytes ≡ x.bytes
 as_they_came r x found problem bytes found-is bytes-is told = bytes-is ∙ stays (verdict (network r) x.interface x.source x.now x.bytes) problem x.bytes (sym found-is ∙ told)
 
--- what a decision and the bytes behind it make of a datagram
+-- what a decision and the bytes after it make of a datagram
 made : (r : Config) (x : Came) (found told : Decision) (bytes : List ℕ) → found ≡ decide (network r) x.interface x.source x.now x.bytes → bytes ≡ moved (network r) x.interface x.source x.now x.bytes
     → found ≡ told → next.decided (arrival_in x) (by_decision r x.interface told bytes) ≡ next.decided (arrival_in x) ((rules r).decide (arrival_in x))
 made r x found told bytes found-is bytes-is same =
