@@ -5,7 +5,8 @@ ghost use Rattle.packet_ledger.specs.Amounts.{AtMost, add_each, nothing, plus};
 
 use process_packet::Totals;
 
-/// Up to this each sum of a book goes.
+/// The largest value that a sum of the book reaches, in packets. A post that would pass it moves
+/// nothing.
 pub const MOST: u128 = 1 << 126;
 
 /// No count of any kind.
@@ -20,6 +21,7 @@ pub fn none() -> Totals
     }
 }
 
+/// The sums of two counts, kind by kind.
 pub fn added(a: &Totals, b: &Totals) -> Totals
     requires a { AtMost (2 ^ 126) a.now }
     requires b { AtMost (2 ^ 126) b.now }

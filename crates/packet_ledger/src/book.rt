@@ -72,7 +72,8 @@ impl<L: Ledger> Book<L> {
         Ok((Book { cell, sums }, shares))
     }
 
-    /// Moves the share's counts into the book. Only where a sum of the book would pass 2^126 nothing moves.
+    /// Moves the share's counts into the book, which leaves them 0. Where a sum of the book would
+    /// pass 2^126 neither changes.
     pub fn post<R: Wait>(&self, rt: &R, share: &mut Share<L>)
         ensures { (share.new ≡ emptied share.old) ⊎ ((share.new ≡ share.old) × (sums : Totals) × AtMost (2 ^ 126) sums × (AtMost (2 ^ 126) (plus sums share.old.counts) → ⊥)) }
     {

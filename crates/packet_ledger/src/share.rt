@@ -10,7 +10,7 @@ use crate::tokens::{Ledger, Token};
 use process_packet::{Cause, Totals};
 use std::marker::{Model, PhantomData};
 
-/// Up to this each count of a share goes between two posts.
+/// Each count of a share stays at or below this between two posts.
 pub const ROOM: u128 = 1 << 100;
 
 /// One worker's counts, and the sums of all that it ever posted into the book `L`.
@@ -37,7 +37,7 @@ impl<L: Ledger> Model for Share<L> {
 }
 
 impl<L: Ledger> Share<L> {
-    /// Counts `n` more as received.
+    /// Counts `n` more datagrams as received.
     pub fn received(&mut self, n: u128)
         requires { self.old.counts.received + n ≤ 2 ^ 100 }
         ensures { self.new ≡ counting self.old (with_received n self.old.counts) }
@@ -45,7 +45,7 @@ impl<L: Ledger> Share<L> {
         self.counts.received += n;
     }
 
-    /// Counts one more as sent.
+    /// Counts one more packet as sent.
     pub fn sent(&mut self)
         requires { self.old.counts.sent + 1 ≤ 2 ^ 100 }
         ensures { self.new ≡ counting self.old (with_sent self.old.counts) }
@@ -53,7 +53,7 @@ impl<L: Ledger> Share<L> {
         self.counts.sent += 1;
     }
 
-    /// Counts one more as answered.
+    /// Counts one more answer as sent.
     pub fn answered(&mut self)
         requires { self.old.counts.answered + 1 ≤ 2 ^ 100 }
         ensures { self.new ≡ counting self.old (with_answered self.old.counts) }
@@ -61,7 +61,7 @@ impl<L: Ledger> Share<L> {
         self.counts.answered += 1;
     }
 
-    /// Counts one more as dropped for a cause.
+    /// Counts one more packet or answer as dropped for a cause.
     pub fn fate(&mut self, cause: Cause)
         requires { dropped_for self.old.counts cause + 1 ≤ 2 ^ 100 }
         ensures { self.new ≡ counting self.old (with_fate cause self.old.counts) }

@@ -51,8 +51,10 @@ impl Protocol<[u64; 1], View> for Balance {
     ghost first = { keeper 65537 nothing nothing };
 }
 
+/// The private cell that holds the rule of a book's tokens.
 pub type Cell = RuledSeqCell<[u64; 1], View, Balance, 1>;
 
+/// The token of a share or of the book, with what it knows.
 pub type Token = Pass<[u64; 1], View>;
 
 /// Amounts and parts that a call picks.

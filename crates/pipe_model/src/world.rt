@@ -41,9 +41,9 @@ impl Model for World {
 pub struct NoMemoryAt(pub usize);
 
 impl World {
-    /// The pipeline before its first step. What arrives stands in a list for each link, the internal
-    /// network first and then the others in ascending order of their interfaces; each list is numbered
-    /// from 1.
+    /// The pipeline before its first step. What arrives stands in a list for each link, the
+    /// internal network first and then the others in ascending order of their interfaces; each list
+    /// is numbered from 1. At `NoMemory` no memory was left, and both arguments are dropped.
     pub fn new(
         alloc: Global,
         config: Config,
@@ -59,6 +59,7 @@ impl World {
         }
     }
 
+    /// The configuration of its router.
     pub fn config(&self) -> &Config
         ensures { result.now ≡ self.now.config }
     {
@@ -76,7 +77,8 @@ impl World {
         causes_are_apart();
     }
 
-    /// Makes a step, if it is possible.
+    /// Makes a step. At `NotNow` the worker can't do it now, or it names what isn't there; at
+    /// `NoMemory` no memory was left. Either way the world is unchanged.
     pub fn step(&mut self, alloc: Global, step: Step) -> Result<(), StepFault>
         ensures ok { OnOk result (stepped self.old step ≡ Some self.new) }
         ensures not_now { IsErrOf result StepFault.NotNow ↔ (stepped self.old step ≡ None) }
@@ -86,7 +88,9 @@ impl World {
         Ok(())
     }
 
-    /// Makes the possible ones of some steps, and tells the indices of the others.
+    /// Makes the steps in their order, and gives the indices of those that were not possible, which
+    /// are skipped. At `NoMemoryAt(k)` no memory was left for step `k`: the steps before it were
+    /// made, and no other.
     pub fn run(&mut self, alloc: Global, steps: &[Step]) -> Result<Vec<usize>, NoMemoryAt>
         ensures ok { OnOk result (self.new ≡ ran self.old steps.now) }
         ensures skipped { IfOk result (λ places. places.items ≡ skipped self.old steps.now) }

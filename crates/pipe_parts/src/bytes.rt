@@ -27,13 +27,14 @@ impl Bytes {
         Bytes { items }
     }
 
+    /// The bytes, in order.
     pub fn as_slice(&self) -> &[u8]
         ensures { result.now ≡ self.now }
     {
         self.items.as_slice()
     }
 
-    /// A copy of the same bytes.
+    /// A copy of the same bytes. `Err` where no memory is left.
     pub fn copied(&self) -> Result<Bytes, AllocError>
         ensures { IfOk result (λ b. b ≡ self.now) }
     {
@@ -41,7 +42,7 @@ impl Bytes {
         Ok(Bytes { items })
     }
 
-    /// The same in memory of their own.
+    /// The same bytes in memory of their own. `Err` where no memory is left.
     pub fn to_vec(&self) -> Result<Vec<u8>, AllocError>
         ensures { IfOk result (λ v. v.items ≡ self.now) }
     {

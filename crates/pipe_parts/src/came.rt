@@ -53,6 +53,7 @@ impl Came {
         }
     }
 
+    /// A copy, its bytes too. `Err` where no memory is left.
     pub fn copied(&self) -> Result<Came, AllocError>
         ensures { IfOk result (λ came. came ≡ self.entry.now) }
     {

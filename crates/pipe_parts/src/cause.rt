@@ -27,7 +27,7 @@ pub enum Cause {
     NoBuffer,
 }
 
-/// Why a packet, or the answer to it, ended without being sent, as one of all causes.
+/// The cause under which the router counts it, one of the eighteen.
 pub fn reason(cause: Cause) -> RouterCause
     ensures { result ≡ booked_as (cause_in cause) }
 {

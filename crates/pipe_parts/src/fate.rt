@@ -63,6 +63,7 @@ fn fate_of(item: &Item, cause: Cause) -> Option<Fate>
 }
 
 impl Fates {
+    /// No fates yet. It takes no memory.
     pub fn new(alloc: Global) -> Fates
         ensures { result ≡ [] }
     {
@@ -71,13 +72,15 @@ impl Fates {
         }
     }
 
+    /// How many were noted.
     pub fn len(&self) -> usize
         ensures { result ≡ length self.now }
     {
         self.items.len()
     }
 
-    /// Notes the fate of an item.
+    /// Notes the fate of an item; of a mark nothing is noted. At `Err` no memory was left, and
+    /// nothing changes.
     pub fn note(&mut self, item: &Item, cause: Cause) -> Result<(), AllocError>
         ensures { self.new ≡ (if is_ok result then self.old ++ fate_of (item_in item.now) (cause_in cause) else self.old) }
     {
@@ -87,7 +90,7 @@ impl Fates {
         Ok(())
     }
 
-    /// Forgets what was noted after the first ones.
+    /// Keeps the first `len` fates and forgets those after them.
     pub fn truncate(&mut self, len: usize)
         ensures { self.new ≡ take len self.old }
     {
@@ -110,6 +113,7 @@ impl Fate {
         self.number
     }
 
+    /// Why it was not sent.
     pub fn cause(&self) -> Cause
         ensures { cause_in result ≡ self.now.cause }
     {
@@ -118,6 +122,7 @@ impl Fate {
 }
 
 impl Fates {
+    /// All that were noted, in order.
     pub fn as_slice(&self) -> &[Fate]
         ensures { result.now ≡ self.now }
     {

@@ -39,6 +39,7 @@ pub struct Out {
     pub parcel: Parcel,
 }
 
+/// What is in a pipe or in a hand: a packet on one of its stages, its answer, or a mark.
 #[derive(Debug, Drop)]
 pub enum Item {
     /// It is not yet received.
@@ -56,6 +57,7 @@ pub enum Item {
 }
 
 impl Out {
+    /// A copy, its bytes too. `Err` where no memory is left.
     pub fn copied(&self) -> Result<Out, AllocError>
         ensures { IfOk result (λ out. out ≡ self.now) }
     {
@@ -76,7 +78,7 @@ impl Out {
 }
 
 impl Item {
-    /// The cause of a refusal.
+    /// The cause for which it is dropped where its pipe is full.
     pub fn full(&self) -> Cause
         ensures { cause_in result ≡ full_of (item_in self.now) }
     {
@@ -97,18 +99,21 @@ impl Item {
         }
     }
 
+    /// Whether it is the mark that closes a link.
     pub fn is_close(&self) -> bool
         ensures { result ≡ is_close (item_in self.now) }
     {
         matches!(self, Item::Close)
     }
 
+    /// Whether it is an end mark.
     pub fn is_end(&self) -> bool
         ensures { result ≡ is_end (item_in self.now) }
     {
         matches!(self, Item::End)
     }
 
+    /// A copy, its bytes too. `Err` where no memory is left.
     pub fn copied(&self) -> Result<Item, AllocError>
         ensures { IfOk result (λ x. item_in x ≡ item_in self.now) }
     {

@@ -23,7 +23,7 @@ impl Model for Looks {
 }
 
 impl Looks {
-    /// Of so many links, none seen empty.
+    /// Of so many links, none seen empty. `Err` where no memory is left.
     pub fn new(alloc: Global, count: usize) -> Result<Looks, AllocError>
         ensures { IfOk result (λ looks. looks ≡ replicate count false) }
     {
@@ -34,6 +34,7 @@ impl Looks {
         Ok(Looks { links })
     }
 
+    /// Whether the high pipe of a link was seen empty; false where there is no such link.
     pub fn get(&self, link: u16) -> bool
         ensures { result ≡ slice_index_or self.now link false }
     {

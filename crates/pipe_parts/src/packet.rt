@@ -26,6 +26,7 @@ pub struct Request {
 impl Packet {
     ghost use Rattle.std.specs.Prelude.{IfOk};
 
+    /// A copy, its bytes too. `Err` where no memory is left.
     pub fn copied(&self) -> Result<Packet, AllocError>
         ensures { IfOk result (λ packet. packet.came ≡ self.now.came) }
     {
@@ -37,6 +38,7 @@ impl Packet {
 impl Request {
     ghost use Rattle.std.specs.Prelude.{IfOk};
 
+    /// A copy, its bytes too. `Err` where no memory is left.
     pub fn copied(&self) -> Result<Request, AllocError>
         ensures came { IfOk result (λ request. request.came ≡ self.now.came) }
         ensures problem { IfOk result (λ request. request.problem ≡ self.now.problem) }

@@ -35,12 +35,14 @@ impl Model for Entry {
 }
 
 impl Entry {
+    /// The item, as this worker pushed it.
     pub fn new(from: WorkerIndex, item: Item) -> Entry
         ensures { result ≡ record { from = worker_of from; item = item_in item } }
     {
         Entry { from, item }
     }
 
+    /// What was pushed.
     pub fn item(&self) -> &Item
         ensures { item_in result.now ≡ self.now.item }
     {
@@ -69,6 +71,7 @@ impl Model for Refusal {
 impl Refusal {
     ghost use Rattle.std.specs.Prelude.{◌≡◌};
 
+    /// A refusal of this packet, when `length` entries had been pushed and `taken` of them taken.
     pub fn new(link: u16, number: u64, length: usize, taken: usize) -> Refusal
         ensures { result ≡ record { link = link; number = number; length = length; taken = taken } }
     {
@@ -81,7 +84,7 @@ impl Refusal {
     }
 }
 
-/// A pipe. Besides all that was pushed it keeps what its questions would look for there.
+/// A pipe. Besides all that was pushed it keeps the answers that would else be looked for there.
 #[derive(Debug, Drop)]
 pub struct Pipe {
     history: Vec<Entry>,
@@ -146,7 +149,8 @@ impl Pipe {
         }
     }
 
-    /// What arrives on a link, with nothing of it received.
+    /// What arrives on a link, with nothing of it received. `Err` where no memory is left; the
+    /// arrivals are dropped then.
     pub fn of_arrivals(alloc: Global, link: u16, arrivals: Vec<Arrival>) -> Result<Pipe, NoMemory>
         ensures { IfOk result (λ pipe. pipe ≡ source link arrivals.items) }
     {
@@ -198,7 +202,8 @@ impl Pipe {
         }
     }
 
-    /// Pushes an item.
+    /// Pushes an item, also beyond the capacity: `has_room` tells whether there is room. At `Err`
+    /// no memory was left, and the pipe is unchanged.
     pub fn push(&mut self, from: WorkerIndex, item: Item) -> Result<(), AllocError>
         ensures { self.new ≡ (if is_ok result then pushed self.old (worker_of from) (item_in item) else self.old) }
     {
@@ -213,7 +218,7 @@ impl Pipe {
         Ok(())
     }
 
-    /// Takes the first that is held.
+    /// Takes the first item that is held; there has to be one.
     pub fn advance(&mut self)
         requires { IsSome (front self.old) }
         ensures { self.new ≡ one_taken self.old }
@@ -242,7 +247,7 @@ impl Pipe {
         Refusal::new(link, number, self.history.len(), self.taken)
     }
 
-    /// Notes that an item was refused.
+    /// Notes that an item was refused. At `Err` no memory was left, and the pipe is unchanged.
     pub fn refuse(&mut self, item: &Item) -> Result<(), AllocError>
         ensures { self.new ≡ (if is_ok result then refused self.old (refusal_of (item_in item.now) self.old) else self.old) }
     {

@@ -107,7 +107,7 @@ impl Pipes {
         }
     }
 
-    /// Pushes an item.
+    /// Pushes an item to a pipe. At `Err` no memory was left, and nothing changes.
     pub fn push(&mut self, at: usize, from: WorkerIndex, item: Item) -> Result<(), AllocError>
         ensures { self.new ≡ (if is_ok result then slice_set self.old at (pushed (pipe_at self.old at) (worker_of from) (item_in item)) else self.old) }
     {
@@ -117,7 +117,7 @@ impl Pipes {
         Ok(())
     }
 
-    /// Takes the first that is held.
+    /// Takes the first item that a pipe holds; there has to be one.
     pub fn advance(&mut self, at: usize)
         requires { IsSome (front (pipe_at self.old at)) }
         ensures { self.new ≡ slice_set self.old at (one_taken (pipe_at self.old at)) }
@@ -127,7 +127,7 @@ impl Pipes {
         }
     }
 
-    /// Notes that an item was refused.
+    /// Notes that a pipe refused an item. At `Err` no memory was left, and nothing changes.
     pub fn refuse(&mut self, at: usize, item: &Item) -> Result<(), AllocError>
         ensures { self.new ≡ (if is_ok result then slice_set self.old at (refused (pipe_at self.old at) (refusal_of (item_in item.now) (pipe_at self.old at))) else self.old) }
     {

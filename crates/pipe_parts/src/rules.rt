@@ -61,7 +61,8 @@ fn route(config: &Config, came: &Came) -> Result<(Decision, Bytes), AllocError>
     Ok((decision, Bytes::new(bytes)))
 }
 
-/// What a processor makes of a packet.
+/// What a processor makes of a packet: an egress packet, a slow-path request, or its end for a
+/// cause. `Err` where no memory is left.
 pub fn decide(config: &Config, packet: &Packet) -> Result<Outcome, AllocError>
     ensures { IfOk result (λ made. outcome_in made ≡ next.decided (arrival_in packet.now.came) ((rules config.now).decide (arrival_in packet.now.came))) }
 {
@@ -89,7 +90,8 @@ pub fn decide(config: &Config, packet: &Packet) -> Result<Outcome, AllocError>
     }
 }
 
-/// What the slow path makes of a problem.
+/// What the slow path makes of a request: the answer, or its end for the cause for which there is
+/// none. `Err` where no memory is left.
 pub fn reply(alloc: Global, config: &Config, request: &Request) -> Result<Outcome, AllocError>
     ensures { IfOk result (λ made. outcome_in made ≡ next.replied (arrival_in request.now.came) ((rules config.now).reply (arrival_in request.now.came) request.now.problem)) }
 {

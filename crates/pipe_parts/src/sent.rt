@@ -100,7 +100,7 @@ impl Model for Sent {
 }
 
 impl Sent {
-    /// Of so many links, with nothing sent.
+    /// Of so many links, with nothing sent. `Err` where no memory is left.
     pub fn new(alloc: Global, count: usize) -> Result<Sent, AllocError>
         ensures { IfOk result (λ sent. sent ≡ replicate count []) }
     {
@@ -121,7 +121,8 @@ impl Sent {
         }
     }
 
-    /// Adds what leaves by a link; where there is none, nothing changes.
+    /// Adds what leaves by a link; where there is no such link, nothing changes. At `Err` no memory
+    /// was left, and nothing changes.
     pub fn push(&mut self, link: usize, out: Out) -> Result<(), AllocError>
         ensures { self.new ≡ (if is_ok result then slice_set self.old link (slice_index_or self.old link [] ++ outgoing_in out ∷ []) else self.old) }
     {

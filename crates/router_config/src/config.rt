@@ -233,11 +233,11 @@ pub(crate) fn config_at(alloc: Global, table: &Table) -> Result<Config, ConfigFa
 /// The keys are read in the order `version`, `isd_as`, `key`, `internal`, `internal_bands` (in
 /// version 2), `host_port`, `processors`, `capacity`, `seed`, `buffers` (64 where there is none),
 /// `link`, `sibling` and `service` (none where there is no such list); other keys are left alone. A
-/// list is tested for its type and its length before its members, which are read one after the other:
-/// of a link `id`, `kind`, `local`, `remote` and, in version 2, `bands`; of a sibling `id`, `kind` and
-/// `at`; of a service `number` and `at`. A value is tested for its type, then its form, then for 0 or
-/// a number that is doubled, then its range. The first fault is answered, and want of memory as
-/// `ConfigFault::Memory` wherever it is met.
+/// list is tested for its type and its length before its members, which are read one after the
+/// other: of a link `id`, `kind`, `local`, `remote` and, in version 2, `bands`; of a sibling `id`,
+/// `kind` and `at`; of a service `number` and `at`. A value is tested for its type, then its form,
+/// then for 0 or a number that is given twice, then its range. The first fault is answered, and
+/// want of memory as `ConfigFault::Memory` wherever it is met.
 pub fn read_config(alloc: Global, text: &str) -> Result<Config, ConfigFault>
     ensures { Answers values (values_of text.now) result }
 {

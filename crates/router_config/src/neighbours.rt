@@ -34,7 +34,8 @@ fn is_taken(links: &[Link], siblings: &[Sibling], id: u16) -> bool
     is_linked(links, id) || is_owned(siblings, id)
 }
 
-/// The number of an interface, beside those that have been given.
+/// The number of an interface. At `Interface` it is 0, or a link or a sibling before it has it; at
+/// `Limit` it is not in 1 to 65535.
 fn read_id(links: &[Link], siblings: &[Sibling], number: i64) -> Result<u16, ConfigFault>
     ensures value { result ≡ id_of (taken links.now siblings.now) number }
     ensures external { IfOk result (λ id. 1 ≤ id) }
@@ -62,7 +63,8 @@ fn is_served(given: &[Service], number: u16) -> bool
         .any(|other| other == number)
 }
 
-/// The number of a service, beside those that have been given.
+/// The number of a service. At `Limit` it is not in 0 to 32767; at `Interface`, which stands for a
+/// service given twice too, a service before it has it.
 fn read_service_number(given: &[Service], number: i64) -> Result<u16, ConfigFault>
     ensures value { result ≡ service_of_number (map service_number given.now) number }
     ensures small { IfOk result (λ found. found ≤ 32767) }

@@ -73,9 +73,9 @@ fn line_of(text: &str, span: Option<Range<usize>>) -> usize {
         .saturating_add(1)
 }
 
-/// Where the first fault of a text stands, in words: at which key, in a list also of which of its members,
-/// counted from 1; what stands there; and what is wanted. The forwarding key isn't told. None where the text
-/// is a configuration.
+/// Where the first fault of a text is, in words: at which key, in a list also of which of its
+/// members, counted from 1; what is there; and what is wanted. The forwarding key isn't told. None
+/// where the text is a configuration. `Err` where no memory is left.
 pub fn fault_words(alloc: Global, text: &str) -> Result<Option<String>, AllocError>
     ensures { IfOk result (λ words. is_some words ≡ is_err (values_of text.now)) }
 {

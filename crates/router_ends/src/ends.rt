@@ -24,6 +24,7 @@ impl<T> Model for Ends<T> {
 }
 
 impl<T: Drop> Ends<T> {
+    /// These producers, the first one first.
     pub fn of(items: Vec<Producer<T>>) -> Ends<T>
         ensures ends { result.ends ≡ items.items }
         ensures room { result.room ≡ vec_capacity items }
@@ -40,6 +41,7 @@ impl<T: Drop> Ends<T> {
         Ok(Ends { items })
     }
 
+    /// The producers, in their order.
     pub fn into_items(self) -> Vec<Producer<T>>
         ensures ends { result.items ≡ self.ends }
         ensures room { vec_capacity result ≡ self.room }

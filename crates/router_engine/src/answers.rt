@@ -136,7 +136,7 @@ fn decide_line(
 }
 
 /// Replaces the text with the answer to a line, by way of the datagram's bytes; false where the
-/// line is no hex.
+/// line is no hex. At `Err` no memory was left, and text and bytes mean nothing.
 pub fn answer_line(
     config: &Config,
     arriving: &ArrivalContext,

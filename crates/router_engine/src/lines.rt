@@ -54,7 +54,8 @@ pub(crate) fn read_line<R: BufRead>(reader: &mut R, line: &mut Vec<u8>) -> io::R
     Ok(true)
 }
 
-/// Replaces the line with the next one, without its end; false where nothing is left.
+/// Replaces the line with the next one, without its end; false where nothing is left. At `Err` the
+/// reader failed, or no memory was left, and the line means nothing.
 pub fn next_line<R: BufRead>(reader: &mut R, line: &mut Vec<u8>) -> Result<bool, LinesFault>
     ensures lines { IfOk result (λ more.
         Same (lines_in (R.remaining reader.old)) (left_of more line.new.items (R.remaining reader.new))) }

@@ -32,21 +32,24 @@ impl Closing {
     }
 }
 
-/// Adds the line that tells what became of a request to close a link.
+/// Adds the line that tells what became of a request to close a link. At `Err` no memory was left,
+/// and a beginning of the line may have been added.
 pub fn push_closing(text: &mut Vec<u8>, closing: Closing, link: u16) -> Result<(), AllocError>
     ensures { OnOk result (text.new.items ≡ text.old.items ++ closing_text closing link) }
 {
     push_count(text, closing.word(), link.into())
 }
 
-/// Adds the line that tells that a line was no command.
+/// Adds the line that tells that a line was no command. At `Err` no memory was left, and a
+/// beginning of the line may have been added.
 pub fn push_no_command(text: &mut Vec<u8>) -> Result<(), AllocError>
     ensures { OnOk result (text.new.items ≡ text.old.items ++ no_command_text) }
 {
     text.extend_from_slice(b"no command\n")
 }
 
-/// Adds the line that tells that the router runs.
+/// Adds the line that tells that the router runs. At `Err` no memory was left, and a beginning of
+/// the line may have been added.
 pub fn push_ready(text: &mut Vec<u8>) -> Result<(), AllocError>
     ensures { OnOk result (text.new.items ≡ text.old.items ++ ready_text) }
 {

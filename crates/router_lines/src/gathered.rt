@@ -10,7 +10,8 @@ use process_packet::{Arrival, Config};
 use router_rules::{link_count, link_index};
 use std::alloc::{AllocError, Global};
 
-/// A list for each link, in ascending order of the interfaces, with nothing in it yet.
+/// A list for each link, in ascending order of the interfaces, with nothing in it yet. `Err` where
+/// no memory is left.
 pub fn no_arrivals(alloc: Global, config: &Config) -> Result<Vec<Vec<Arrival>>, AllocError>
     ensures { IfOk result (λ lists. AreGathered config.now [] lists.items) }
 {
@@ -21,7 +22,8 @@ pub fn no_arrivals(alloc: Global, config: &Config) -> Result<Vec<Vec<Arrival>>, 
     Ok(lists)
 }
 
-/// Puts a datagram after those of its link, under the next number there.
+/// Puts a datagram after those of its link, under the next number there. At `Err` no memory was
+/// left, and the datagram is dropped.
 pub fn add_arrival(
     config: &Config,
     lists: &mut Vec<Vec<Arrival>>,

@@ -106,8 +106,9 @@ fn push_links(text: &mut Vec<u8>, world: &World) -> Result<(), AllocError>
     Ok(())
 }
 
-/// Adds the report of a pipeline: what each link sent, the counts of what was received, sent and answered
-/// and of what waits, and a line for each cause that something was dropped for.
+/// Adds the report of a pipeline: what each link sent, the counts of what was received, sent and
+/// answered and of what waits, and a line for each cause that something was dropped for. At `Err`
+/// no memory was left, and a beginning of the report may have been added.
 #[tactic(auto, unfolding(crate::specs::Report::report))]
 pub fn push_report(text: &mut Vec<u8>, world: &World) -> Result<(), AllocError>
     ensures { OnOk result (text.new.items ≡ text.old.items ++ report world.now) }
@@ -118,7 +119,8 @@ pub fn push_report(text: &mut Vec<u8>, world: &World) -> Result<(), AllocError>
     push_drops(text, &totals.dropped)
 }
 
-/// Adds the line that tells that the step of a line wasn't possible.
+/// Adds the line that tells that the step of a line wasn't possible. At `Err` no memory was left,
+/// and a beginning of the line may have been added.
 pub fn push_not_now(text: &mut Vec<u8>, line: u64) -> Result<(), AllocError>
     ensures { OnOk result (text.new.items ≡ text.old.items ++ not_now_text line) }
 {

@@ -40,8 +40,9 @@ fn push_totals(text: &mut Vec<u8>, totals: &Totals) -> Result<(), AllocError>
     push_count(text, b"answered", totals.answered)
 }
 
-/// Adds the report of a router that ran: how much each link sent, by its interface, the counts of what was
-/// received, sent and answered, and a line for each cause that something was dropped for.
+/// Adds the report of a router that ran: how much each link sent, by its interface, the counts of
+/// what was received, sent and answered, and a line for each cause that something was dropped for.
+/// At `Err` no memory was left, and a beginning of the report may have been added.
 #[tactic(auto, unfolding(crate::specs::RunReport::run_report))]
 pub fn push_run_report(
     text: &mut Vec<u8>,

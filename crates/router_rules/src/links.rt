@@ -37,7 +37,7 @@ fn rank(config: &Config, id: u16) -> usize
     if id == 0 { links } else { links + 1 }
 }
 
-/// The number of the link with this interface; `link_count` where there is none.
+/// The index of the link with this interface, from 0 on; `link_count` where there is none.
 pub fn link_index(config: &Config, id: u16) -> u16
     ensures index { result ≡ link_index config.now id }
     ensures few { result ≤ 33 }

@@ -7,7 +7,7 @@ ghost use Rattle.router_rules.specs.Rules.{rules};
 use crate::links::link_count;
 use process_packet::Config;
 
-/// The place of the hand of the slow path, and of its pipe.
+/// The place of the slow path's hand in the list of hands, and of its pipe in the list of pipes.
 pub fn slow_seat(config: &Config) -> usize
     ensures place { result ≡ slow_seat (rules config.now) }
     ensures few { result ≤ 49 }

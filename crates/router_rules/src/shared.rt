@@ -14,6 +14,7 @@ pub struct Shared {
 impl Shared {
     ghost use Rattle.std.specs.Prelude.{◌≡◌};
 
+    /// The configuration with its links, which are looked up once. It takes no memory.
     pub fn new(config: Config) -> Shared
         ensures { result.config ≡ config }
     {

@@ -14,7 +14,8 @@ use crate::places::{link_pipe, seat_count, slow_seat};
 use crate::worker::{Queue, Worker};
 use process_packet::Config;
 
-/// A worker, whose link goes by its number.
+/// A worker, its link by the index among the links, from 0 on. `Worker` has the link by its
+/// interface.
 #[derive(Clone, Copy, Debug, PartialEq, Eq)]
 pub enum WorkerIndex {
     Receiver(u16),
@@ -24,7 +25,7 @@ pub enum WorkerIndex {
     Controller,
 }
 
-/// A pipe, whose link goes by its number.
+/// A pipe, its link by the index among the links, from 0 on. `Queue` has the link by its interface.
 #[derive(Clone, Copy, Debug, PartialEq, Eq)]
 pub enum QueueIndex {
     Of(WorkerIndex),
@@ -45,7 +46,7 @@ impl WorkerIndex {
         }
     }
 
-    /// Whether it is there.
+    /// Whether the configuration has such a link or processor.
     pub fn is_there(self, config: &Config) -> bool
         ensures { result ≡ has_worker (rules config.now) (worker_of self) }
     {
@@ -58,7 +59,8 @@ impl WorkerIndex {
         }
     }
 
-    /// The place of its hand.
+    /// The place of its hand in the list of hands; for the controller, which has no hand, the
+    /// length of that list.
     pub fn seat(self, config: &Config) -> usize
         ensures { result ≡ seat_of (rules config.now) (worker_of self) }
     {
@@ -71,7 +73,7 @@ impl WorkerIndex {
         }
     }
 
-    /// Whether both are one.
+    /// Whether both are the same worker.
     pub fn is(self, other: WorkerIndex) -> bool
         ensures { result ≡ same_worker (worker_of self) (worker_of other) }
     {
@@ -139,7 +141,8 @@ impl QueueIndex {
         }
     }
 
-    /// Its place among the pipes.
+    /// Its place in the list of pipes, from 0 on. A link's list of arrivals counts as the pipe of
+    /// its receiver.
     pub fn place(self, config: &Config) -> usize
         ensures { result ≡ pipe_of (rules config.now) (queue_of self) }
     {
@@ -155,7 +158,7 @@ impl QueueIndex {
         }
     }
 
-    /// Who takes from it.
+    /// The worker that takes from it.
     pub fn consumer(self) -> WorkerIndex
         ensures { worker_of result ≡ consumer (queue_of self) }
     {
@@ -165,7 +168,7 @@ impl QueueIndex {
         }
     }
 
-    /// How many workers push to it.
+    /// How many workers push to it; 0 for a receiver's list of arrivals.
     pub fn producers(self, config: &Config) -> usize
         ensures { result ≡ producer_count (rules config.now) (queue_of self) }
     {

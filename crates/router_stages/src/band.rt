@@ -108,6 +108,7 @@ impl<N: Router> Band<N> {
         if used { self.take(rt) } else { None }
     }
 
+    /// The consumer, with what it took.
     pub fn into_consumer(self) -> Consumer<EgressPacket<N>>
         ensures { result ≡ self.taker }
     {

@@ -54,6 +54,7 @@ fn count<N: Router>(share: &mut Share<N>, took: bool, answer: bool)
 }
 
 impl<N: Router, R: Wait + Copy, K: Sink> Delivery<N, R, K> {
+    /// Whether each of its counts can still be raised.
     pub fn has_room(&self) -> bool
         ensures { MatchBool result (HasRoom self.now.share.counts) (HasRoom self.now.share.counts → ⊥) }
     {
@@ -128,6 +129,7 @@ impl<N: Router, R: Wait + Copy, K: Sink> Delivery<N, R, K> {
         book.post(&self.rt, &mut self.share);
     }
 
+    /// The sink, the ends of the pipes of free buffers, and the counts.
     pub fn into_parts(self) -> (K, Vec<Producer<Buffer>>, Share<N>)
         ensures { (result.0 ≡ self.sink) × (result.1.items ≡ self.free) × (result.2 ≡ self.share) }
     {

@@ -65,6 +65,7 @@ fn pipe_for<N: Router>(shared: &Shared, egress_packet: &EgressPacket<N>) -> usiz
 }
 
 impl<N: Router, R: Wait + Copy> Exits<N, R> {
+    /// Whether each of its counts can still be raised.
     pub fn has_room(&self) -> bool
         ensures { MatchBool result (HasRoom self.now.share.counts) (HasRoom self.now.share.counts → ⊥) }
     {

@@ -69,6 +69,7 @@ impl<N: Router, R: Wait + Copy> Intake<N, R> {
         }
     }
 
+    /// Whether each of its counts can still be raised.
     pub fn has_room(&self) -> bool
         ensures { MatchBool result (HasRoom self.now.side.share.counts) (HasRoom self.now.side.share.counts → ⊥) }
     {

@@ -57,6 +57,7 @@ fn take_buffer<R: Wait>(rt: &R, free: &mut Consumer<Buffer>) -> Option<Buffer>
 }
 
 impl<R: Wait + Copy> Pool<R> {
+    /// The pool that reads into this buffer, and takes free ones from the pipe.
     pub fn new(rt: R, first: Buffer, free: Consumer<Buffer>) -> Pool<R>
         ensures { result.stock ≡ stock None free }
     {
@@ -114,6 +115,7 @@ impl<R: Wait + Copy> Pool<R> {
         self.spare = Some(buffer);
     }
 
+    /// The end of the pipe of free buffers; the buffers in hand are dropped.
     pub fn into_free(self) -> Consumer<Buffer>
         ensures { result ≡ self.stock.free }
     {

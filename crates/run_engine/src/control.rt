@@ -11,7 +11,7 @@ pub struct Figures {
     pub totals: Totals,
 }
 
-/// A running router.
+/// A running router, as an engine of lines closes its links and ends it.
 pub trait Control {
     ghost use Rattle.std.specs.Prelude.{ℕ};
     ghost use Rattle.router_lines.specs.declared.closing.Closing.{Closing as Told};

@@ -20,6 +20,7 @@ impl<X> Model for Line<X> {
 }
 
 impl<X: Drop> Line<X> {
+    /// The whole list, its first one to be taken first.
     pub fn of(items: Vec<X>) -> Line<X>
         ensures { result ≡ items.items }
     {

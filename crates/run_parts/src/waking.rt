@@ -22,6 +22,7 @@ fn so_many(alloc: Global, count: usize) -> Result<Vec<Event>, AllocError> {
     Ok(events)
 }
 
+/// New events for a router with so many links and processors. `Err` where no memory is left.
 pub fn events_for(alloc: Global, links: usize, processors: usize) -> Result<Events, AllocError> {
     Ok(Events {
         processors: so_many(alloc, processors)?,

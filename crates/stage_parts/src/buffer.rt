@@ -5,8 +5,8 @@ ghost use Rattle.std.specs.Prelude.{◌≡◌, length};
 use std::alloc::{AllocError, Global};
 use std::marker::Model;
 
-/// So many bytes has a buffer, one more than the longest datagram that is carried: a longer one is seen
-/// to be too long.
+/// The length of a buffer in bytes: one more than the longest datagram that is carried, so that a
+/// longer one is seen to be too long.
 pub const ROOM: usize = 9217;
 
 /// Room for one datagram. Contracts know of it only that it is one.
@@ -26,7 +26,7 @@ impl Model for Buffer {
 }
 
 impl Buffer {
-    /// A buffer in memory of its own.
+    /// A buffer in memory of its own. `Err` where no memory is left.
     pub fn new(alloc: Global) -> Result<Buffer, AllocError> {
         let bytes = vec![in alloc; 0; ROOM]?;
         Ok(Buffer { bytes })
@@ -39,6 +39,7 @@ impl Buffer {
         Buffer { bytes }
     }
 
+    /// Its bytes, all 9,217, whatever was read into them.
     pub fn into_bytes(self) -> Vec<u8>
         ensures { length result.items ≡ 9217 }
     {

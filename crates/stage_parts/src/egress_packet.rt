@@ -80,6 +80,7 @@ impl<N: Router> EgressPacket<N> {
         }
     }
 
+    /// The bytes that leave.
     pub fn bytes(&self) -> &[u8]
         ensures { result.now ≡ self.now.parcel.bytes }
     {

@@ -12,6 +12,7 @@ pub struct Event {
 }
 
 impl Event {
+    /// A new event, which nobody sleeps on. `Err` where no memory is left.
     pub fn new(alloc: Global) -> Result<Event, AllocError> {
         let count = Arc::new(alloc, EventCount::new())?;
         Ok(Event { count })

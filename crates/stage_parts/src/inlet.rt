@@ -73,6 +73,7 @@ impl<T: Drop> Inlet<T> {
         Some(load)
     }
 
+    /// The consumer, with what it took.
     pub fn into_consumer(self) -> Consumer<T>
         ensures { result ≡ self }
     {

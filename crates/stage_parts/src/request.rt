@@ -17,7 +17,8 @@ use router_rules::Shared;
 use scmp_answer::{AnswerLen, LONGEST_ANSWER, answer_into};
 use std::marker::Model;
 
-/// A packet without a fault, and what its sender is to be told.
+/// A packet without a fault, on its way to the slow path, and what its sender is to be told by
+/// SCMP.
 #[derive(Drop)]
 pub struct SlowPathRequest<N: Router> {
     pub(crate) packet: Packet<N>,
@@ -83,7 +84,8 @@ impl<N: Router> SlowPathRequest<N> {
         packet.into_buffer()
     }
 
-    /// The answer, in the packet's buffer; or the cause for which there is none.
+    /// The answer, in the packet's buffer. At `Err` there is none: the cause is told, and the
+    /// buffer given back. It takes no memory.
     pub fn answer(self, shared: &Shared) -> Result<EgressPacket<N>, Withheld>
         ensures replied { reply_of result ≡ replied shared.now.config self.arrival.datagram self.problem }
         ensures named { IfOk result (λ o. o ≡ answering self.arrival o.link o.parcel.to o.parcel.bytes) }

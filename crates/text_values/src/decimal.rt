@@ -21,7 +21,8 @@ pub fn read_decimal(text: &str, limit: u64) -> Option<u64>
     }
 }
 
-/// Adds a number's decimal digits to the text.
+/// Adds a number's decimal digits to the text. At `Err` no memory was left, and a beginning of them
+/// may have been added.
 pub fn push_decimal<I: Integer>(text: &mut Vec<u8>, number: I) -> Result<(), AllocError>
     ensures { OnOk result (text.new.items ≡ text.old.items ++ I.text number) }
 {

@@ -4,7 +4,8 @@ ghost use Rattle.text_values.specs.Pieces.{strip_prefix, split_once, group_of, n
 
 use crate::decimal::read_decimal;
 
-/// The parts before and after the first such ASCII character.
+/// The parts before and after the first `mark`, an ASCII character; none where the text has no such
+/// character.
 pub fn split_once(text: &str, mark: char) -> Option<(&str, &str)>
     requires { mark < 128 }
     ensures { option_map (λ parts. (parts.0.now, parts.1.now)) result ≡ split_once mark text.now }
@@ -12,7 +13,7 @@ pub fn split_once(text: &str, mark: char) -> Option<(&str, &str)>
     text.split_once(mark)
 }
 
-/// What follows such an ASCII character where the text begins with it.
+/// The text without the ASCII character `mark` at its beginning; none where it begins otherwise.
 pub fn strip_prefix(text: &str, mark: char) -> Option<&str>
     requires { mark < 128 }
     ensures { option_map (λ rest. rest.now) result ≡ strip_prefix mark text.now }
@@ -21,7 +22,8 @@ pub fn strip_prefix(text: &str, mark: char) -> Option<&str>
     if before.is_empty() { Some(rest) } else { None }
 }
 
-/// The number up to the limit that a text is in plain decimal digits.
+/// The number that a text is in plain decimal digits, with no sign and no leading zero; none where
+/// it is not one, or above the limit.
 pub fn read_number(text: &str, limit: u64) -> Option<u64>
     ensures value { result ≡ number_up_to limit text.now }
     ensures within { IfSome result (λ number. number ≤ limit) }
@@ -29,7 +31,8 @@ pub fn read_number(text: &str, limit: u64) -> Option<u64>
     read_decimal(text, limit)
 }
 
-/// The number of one to four hex digits.
+/// The number of one to four hex digits of either case, as a group of an IPv6 address has them;
+/// none where the text is not such a group.
 pub fn read_group(text: &str) -> Option<u16>
     ensures { result ≡ group_of text.now }
 {

@@ -22,6 +22,7 @@ pub struct Idle {
 }
 
 impl Idle {
+    /// A worker that has just done something.
     pub fn new() -> Idle {
         Idle {
             backoff: Backoff::new(),
