@@ -10,7 +10,7 @@ use process_packet::{
 };
 use router_config::{push_decimal, push_underlay};
 use router_lines::{ArrivalContext, read_hex};
-use scmp_answer::{AnswerLen, answer_into};
+use scmp_answer::{AnswerLen, LONGEST_ANSWER, answer_into};
 use std::alloc::AllocError;
 
 /// Adds the bytes to the text, two lower-case hex digits each.
@@ -75,7 +75,7 @@ fn push_answer(
     requires { first_fault bytes.now ≡ None }
     ensures { OnOk result (text.new.items ≡ text.old.items ++ reply_text config.now arriving.now bytes.now problem.now) }
 {
-    let mut room = [0; 1232];
+    let mut room = [0; LONGEST_ANSWER];
     match answer_into(
         config,
         arriving.link,

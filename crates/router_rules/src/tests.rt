@@ -5,10 +5,13 @@ use crate::{
     is_urgent, link_count, link_index, link_pipe, processor_or_fault, seat_count, slow_seat,
 };
 use cmac_core::Cmac;
-use process_packet::{Bands, Cause, Config, Ip, Link, Underlay};
+use process_packet::{Bands, Cause, Config, Ip, LONGEST_DATAGRAM, Link, Underlay};
 use segment_switch::LinkKind;
 use std::alloc::{AllocError, Global};
 use std::test::*;
+
+/// One byte more than a receiver takes.
+const TOO_LONG: usize = LONGEST_DATAGRAM + 1;
 
 /// The address 10.NET.0.HOST with a port.
 fn at(net: u8, host: u8, port: u16) -> Underlay
@@ -126,7 +129,7 @@ fn tells_what_a_receiver_refuses(rt: HostRuntime) -> Result<(), Fail> {
         processor_or_fault(&config, &URGENT[..35]),
         Err(Cause::Short)
     );
-    assert_eq!(rt; inspect(&[0; 9217]), Some(Cause::TooLong));
+    assert_eq!(rt; inspect(&[0; TOO_LONG]), Some(Cause::TooLong));
     assert_eq!(rt; (is_urgent(&URGENT), is_urgent(&[0; 36])), (true, false));
     Ok(())
 }

@@ -7,7 +7,7 @@ use std::marker::Model;
 
 /// The length of a buffer in bytes: one more than the longest datagram that is carried, so that a
 /// longer one is seen to be too long.
-pub const ROOM: usize = 9217;
+pub const BUFFER_LEN: usize = 9217;
 
 /// Room for one datagram. Contracts know of it only that it is one.
 #[derive(Drop)]
@@ -28,7 +28,7 @@ impl Model for Buffer {
 impl Buffer {
     /// A buffer in memory of its own. `Err` where no memory is left.
     pub fn new(alloc: Global) -> Result<Buffer, AllocError> {
-        let bytes = vec![in alloc; 0; ROOM]?;
+        let bytes = vec![in alloc; 0; BUFFER_LEN]?;
         Ok(Buffer { bytes })
     }
 

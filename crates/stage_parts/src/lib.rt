@@ -19,7 +19,7 @@ mod source;
 #[cfg(test)]
 mod tests;
 
-pub use buffer::{Buffer, ROOM};
+pub use buffer::{BUFFER_LEN, Buffer};
 pub use egress_packet::EgressPacket;
 pub use event::Event;
 pub use gate::Gate;

@@ -1,7 +1,7 @@
 ghost use Rattle.std.specs.Prelude.{◌≡◌, []};
 
-use super::{Buffer, Inlet, ListSink, ListSource, Next, NextLen, Outlet, ROOM, Sink, Source};
-use process_packet::{Ip, Underlay};
+use super::{BUFFER_LEN, Buffer, Inlet, ListSink, ListSource, Next, NextLen, Outlet, Sink, Source};
+use process_packet::{Ip, LONGEST_DATAGRAM, Underlay};
 use router_rules::Outgoing;
 use ruled_pipe::{Consumer, Load, Mark, Pipe, Producer};
 use std::alloc::{AllocError, Global};
@@ -15,25 +15,31 @@ const NEAR: Underlay = Underlay {
 
 // Whether the source gives a datagram of so many bytes, with this first byte.
 fn gives(source: &mut ListSource, bytes: &mut Vec<u8>, want: usize, first: u8) -> bool {
-    if bytes.len() != ROOM || source.failures() > 5 {
+    if bytes.len() != BUFFER_LEN || source.failures() > 5 {
         return false;
     }
     match source.next_into(bytes.as_mut_slice()) {
         NextLen::Datagram { len, from, now } => {
-            len == want && from == NEAR && now == 7 && bytes.len() == ROOM && bytes[0] == first
+            len == want
+                && from == NEAR
+                && now == 7
+                && bytes.len() == BUFFER_LEN
+                && bytes[0] == first
         }
         _ => false,
     }
 }
 
 fn answers(source: &mut ListSource, bytes: &mut Vec<u8>, want: NextLen) -> bool {
-    bytes.len() == ROOM && source.failures() < 5 && source.next_into(bytes.as_mut_slice()) == want
+    bytes.len() == BUFFER_LEN
+        && source.failures() < 5
+        && source.next_into(bytes.as_mut_slice()) == want
 }
 
 // A datagram of 9,216 bytes, one that is too long, and the other answers.
 fn five_answers(alloc: Global) -> Result<Vec<Next>, AllocError> {
     let mut answers = Vec::new(alloc);
-    let bytes = vec![in alloc; 5; 9216]?;
+    let bytes = vec![in alloc; 5; LONGEST_DATAGRAM]?;
     answers.push(Next::Datagram {
         bytes,
         from: NEAR,
@@ -53,10 +59,10 @@ fn five_answers(alloc: Global) -> Result<Vec<Next>, AllocError> {
 fn reads_all(alloc: Global) -> Result<bool, AllocError> {
     let mut source = ListSource::new(five_answers(alloc)?);
     let mut bytes = Buffer::new(alloc)?.into_bytes();
-    let one = gives(&mut source, &mut bytes, 9216, 5);
+    let one = gives(&mut source, &mut bytes, LONGEST_DATAGRAM, 5);
     let two = answers(&mut source, &mut bytes, NextLen::Quiet);
     let three = answers(&mut source, &mut bytes, NextLen::Failed);
-    let four = gives(&mut source, &mut bytes, ROOM, 6);
+    let four = gives(&mut source, &mut bytes, BUFFER_LEN, 6);
     let five = answers(&mut source, &mut bytes, NextLen::End);
     let six = answers(&mut source, &mut bytes, NextLen::End);
     Ok(one && two && three && four && five && six && source.failures() == 1)

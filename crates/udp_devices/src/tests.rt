@@ -1,7 +1,7 @@
 use super::{Ends, UdpSink, UdpSource, open_link};
 use process_packet::{Ip, Underlay};
 use router_rules::Outgoing;
-use stage_parts::{NextLen, Sink, Source};
+use stage_parts::{BUFFER_LEN, NextLen, Sink, Source};
 use std::test::*;
 use std::time::Clock;
 
@@ -41,7 +41,7 @@ fn takes(sink: &mut UdpSink, to: Option<Underlay>, bytes: &[u8]) -> bool {
 /// Whether the source gives so many bytes of 7 from there, now or after a wait; the buffer has room for one
 /// byte more than the longest datagram.
 fn gives<R: Clock + Drop>(source: &mut UdpSource<R>, from: Underlay, len: usize) -> bool {
-    let mut buffer = [0u8; 9217];
+    let mut buffer = [0u8; BUFFER_LEN];
     if !source.wait() || source.failures() > 5 {
         return false;
     }
@@ -62,7 +62,7 @@ fn gives<R: Clock + Drop>(source: &mut UdpSource<R>, from: Underlay, len: usize)
 
 /// Whether nothing is there.
 fn is_quiet<R: Clock + Drop>(source: &mut UdpSource<R>) -> bool {
-    let mut buffer = [0u8; 9217];
+    let mut buffer = [0u8; BUFFER_LEN];
     source.failures() < 5 && source.next_into(&mut buffer) == NextLen::Quiet
 }
 
