@@ -84,7 +84,7 @@ impl Refusal {
     }
 }
 
-/// A pipe. Besides all that was pushed it keeps the answers that would else be looked for there.
+/// A pipe. Besides all that was pushed it keeps counts and marks that would else be looked for in it.
 #[derive(Debug, Drop)]
 pub struct Pipe {
     history: Vec<Entry>,

@@ -42,7 +42,7 @@ abbrev pub looks_first : Bool → Band → Band
 looks_first true b = band (looked b.taker) b.shut
 looks_first false b = b
 
--- the same after an empty look, a mark and a parcel
+-- the same after an empty look, a mark and a packet
 abbrev pub after_look : Band → Band
 after_look b = band (looked b.taker) b.shut
 
@@ -104,7 +104,7 @@ module _ {K : Type 0} where
     PassedMet shut None old new = new ≡ old
     PassedMet shut (Some o) old new = Delivered shut o old new
 
-    -- a mark or a parcel was taken from a pipe
+    -- a mark or a packet was taken from a pipe
     abbrev pub TookOf : Band → Band → Delivery K → Delivery K → Type 0
     TookOf b b' old new = (met : Option (Outgoing kinds)) × Met (Some met) b b' × PassedMet b'.shut met old new
 

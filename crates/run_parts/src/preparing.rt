@@ -55,7 +55,7 @@ fn thread_setup_for<N: Router, W: Work<N> + Drop>(
     })
 }
 
-/// The desks of all workers, and the forwarders' events.
+/// The thread setups of all workers, and the forwarders' events.
 #[derive(Drop)]
 struct ThreadSetups<N, S, K, G, R>
 where
