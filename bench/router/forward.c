@@ -46,20 +46,22 @@ static void one_by_one(int in, int out, struct sockaddr_in to)
 static void many_by_many(int in, int out, struct sockaddr_in to)
 {
     static char bytes[MANY][ROOM];
-    static struct iovec places[MANY];
+    static struct iovec rooms[MANY], places[MANY];
     static struct sockaddr_in from[MANY];
     static struct mmsghdr read[MANY], sent[MANY];
+    for (int i = 0; i < MANY; i++) {
+        rooms[i] = (struct iovec){bytes[i], ROOM};
+        places[i].iov_base = bytes[i];
+        read[i].msg_hdr = (struct msghdr){
+            .msg_name = &from[i], .msg_namelen = sizeof from[i], .msg_iov = &rooms[i], .msg_iovlen = 1};
+        sent[i].msg_hdr = (struct msghdr){
+            .msg_name = &to, .msg_namelen = sizeof to, .msg_iov = &places[i], .msg_iovlen = 1};
+    }
     for (;;) {
-        for (int i = 0; i < MANY; i++) {
-            places[i] = (struct iovec){bytes[i], ROOM};
-            read[i].msg_hdr = (struct msghdr){
-                .msg_name = &from[i], .msg_namelen = sizeof from[i], .msg_iov = &places[i], .msg_iovlen = 1};
-        }
         int count = recvmmsg(in, read, MANY, MSG_WAITFORONE, NULL);
         for (int i = 0; i < count; i++) {
             places[i].iov_len = read[i].msg_len;
-            sent[i].msg_hdr = (struct msghdr){
-                .msg_name = &to, .msg_namelen = sizeof to, .msg_iov = &places[i], .msg_iovlen = 1};
+            read[i].msg_hdr.msg_namelen = sizeof from[i]; /* the system wrote how long the name is */
         }
         for (int done = 0; done < count;) {
             int more = sendmmsg(out, sent + done, count - done, 0);

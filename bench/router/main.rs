@@ -118,6 +118,11 @@ fn main() {
     let length = Duration::from_secs(number("SECONDS", 2));
     let only = env::var("ONLY").unwrap_or_default();
     let is_timed = |kind: &Kind| kind.to_string().contains(&only);
+    assert!(rounds > 0, "ROUNDS is 0");
+    assert!(
+        CONTENDERS.iter().chain(&IDLE).any(is_timed),
+        "no row's name has {only:?}"
+    );
 
     let mut figures: Vec<[Figures; 2]> = CONTENDERS.iter().map(|_| Default::default()).collect();
     let mut idle: Vec<Vec<f64>> = IDLE.iter().map(|_| vec![]).collect();
@@ -145,7 +150,12 @@ fn main() {
         }
     }
 
-    for (at, size) in SIZES.iter().enumerate() {
+    let timed: Vec<_> = CONTENDERS
+        .iter()
+        .zip(&figures)
+        .filter(|(kind, _)| is_timed(kind))
+        .collect();
+    for (at, size) in SIZES.iter().enumerate().filter(|_| !timed.is_empty()) {
         let columns = [
             "thousand/s",
             "us at 20,000/s",
@@ -155,8 +165,7 @@ fn main() {
         ];
         print!("{:<28}", format!("{size} bytes"));
         println!("{}", columns.map(|name| format!("{name:>16}")).concat());
-        let timed = CONTENDERS.iter().zip(&figures);
-        for (kind, figures) in timed.filter(|(kind, _)| is_timed(kind)) {
+        for (kind, figures) in &timed {
             let of = &figures[at];
             let row = [
                 median(&of.flooded) / 1000.0,
@@ -172,15 +181,29 @@ fn main() {
             );
         }
     }
-    println!("{:<28}{:>16}", "idle", "% of a core");
-    for (kind, shares) in IDLE.iter().zip(&idle).filter(|(kind, _)| is_timed(kind)) {
+    let left_idle = IDLE.iter().zip(&idle);
+    let left_idle: Vec<_> = left_idle.filter(|(kind, _)| is_timed(kind)).collect();
+    if !left_idle.is_empty() {
+        println!("{:<28}{:>16}", "idle", "% of a core");
+    }
+    for (kind, shares) in left_idle {
         println!("{:<28}{:>16.1}", kind.to_string(), median(shares));
     }
+    // ONLY may have left out a side of a ratio
     let flooded = |kind: Kind| {
-        let at = CONTENDERS.iter().position(|own| *own == kind);
-        median(&figures[at.expect("a contender")][0].flooded)
+        let own = timed.iter().find(|(timed, _)| **timed == kind)?;
+        Some(median(&own.1[0].flooded))
     };
-    println!("run/rust {:.2}", flooded(ROUTER) / flooded(PLAIN));
-    println!("run/c {:.2}", flooded(ROUTER) / flooded(Kind::One));
-    println!("idle {:.1}", median(&idle[0]));
+    let ratio = |over: Kind| Some(flooded(ROUTER)? / flooded(over)?);
+    print_or_skip("run/rust", ratio(PLAIN), 2);
+    print_or_skip("run/c", ratio(Kind::One), 2);
+    print_or_skip("idle", is_timed(&ROUTER).then(|| median(&idle[0])), 1);
+}
+
+/// Prints a figure of the last lines, or that it wasn't measured.
+fn print_or_skip(name: &str, figure: Option<f64>, digits: usize) {
+    match figure {
+        Some(figure) => println!("{name} {figure:.digits$}"),
+        None => println!("{name} not measured: ONLY leaves out a row that it needs"),
+    }
 }
