@@ -1,5 +1,6 @@
 #include "datagrams.h"
 
+#include <netinet/in.h>
 #include <string.h>
 
 static uint8_t round_keys[11][16];
@@ -90,7 +91,7 @@ static uint16_t chained(const struct datagram *of) {
     return of->identifier ^ (uint16_t)(mac[0] << 8 | mac[1]);
 }
 
-enum { META = 36, IDENTIFIER = 42, HOPS = 48 };
+enum { META = 36, INFO = 40, IDENTIFIER = 42, HOPS = 48 };
 
 static uint8_t *put_path(const struct datagram *of, uint8_t *at) {
     /* The router checks the MAC of its own hop alone. */
@@ -141,4 +142,60 @@ size_t trace_request(uint16_t identifier, uint16_t sequence, uint8_t *payload) {
     put(payload + 4, identifier, 2);
     put(payload + 6, sequence, 2);
     return REQUEST;
+}
+
+/* The sum of 16-bit words, an odd end filled by a zero byte. */
+static uint32_t sum_of(const uint8_t *bytes, size_t length) {
+    uint32_t sum = 0;
+    for (size_t k = 0; k < length; k++) sum += k % 2 ? bytes[k] : (uint32_t)bytes[k] << 8;
+    return sum;
+}
+
+/* Of both addresses, the message's length, the protocol and the message with checksum 0. */
+static uint16_t checksum(const uint8_t *bytes, size_t message) {
+    uint32_t sum = sum_of(bytes + 12, 24) + (uint32_t)message + SCMP + sum_of(bytes + HEADER, message);
+    while (sum >> 16) sum = (sum & 0xffff) + (sum >> 16);
+    return (uint16_t)~sum;
+}
+
+/* The path travelled back, whose cursor is one hop further where the answer leaves the AS. */
+static void put_path_back(const uint8_t *datagram, bool outside, uint8_t *bytes) {
+    uint32_t hop = 2 - (datagram[META] & 63u) + outside;
+    put(bytes + META, hop << 24 | 3 << 12, 4);
+    memcpy(bytes + INFO, datagram + INFO, 8);
+    bytes[INFO] ^= 1;
+    for (int k = 0; k < 3; k++) {
+        memcpy(bytes + HOPS + 12 * k, datagram + HOPS + 12 * (2 - k), 12);
+        bytes[HOPS + 12 * k] = 0;
+    }
+}
+
+/* The message after its type, code and checksum; the answer is its end. */
+static uint8_t *put_message(const uint8_t *datagram, size_t length, const struct answer *answer,
+                            uint8_t *at) {
+    if (answer->type == TRACE_REPLY) {
+        memcpy(at, datagram + HEADER + 4, 4);
+        return put(put(at + 4, LOCAL_AS, 8), answer->interface, 8);
+    }
+    size_t quoted = length < LONGEST_QUOTE ? length : LONGEST_QUOTE;
+    at = put(put(at, 0, 2), answer->pointer, 2);
+    memcpy(at, datagram, quoted);
+    return at + quoted;
+}
+
+size_t answering(const uint8_t *datagram, size_t length, const struct answer *answer, uint8_t *bytes) {
+    uint8_t *message = bytes + HEADER;
+    memcpy(bytes, datagram, 12);
+    bytes[4] = SCMP;
+    memcpy(bytes + 12, datagram + 20, 8);
+    put(bytes + 20, LOCAL_AS, 8);
+    memcpy(bytes + 28, datagram + 32, 4);
+    put(bytes + 32, INADDR_LOOPBACK, 4);
+    put_path_back(datagram, answer->outside, bytes);
+    put(put(message, answer->type, 1), answer->code, 1);
+    put(message + 2, 0, 2);
+    size_t count = (size_t)(put_message(datagram, length, answer, message + 4) - message);
+    put(bytes + 6, count, 2);
+    put(message + 2, checksum(bytes, count), 2);
+    return HEADER + count;
 }

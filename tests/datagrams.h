@@ -43,4 +43,18 @@ void leaving(const struct datagram *of, uint8_t *bytes);
 /* Writes a traceroute request. */
 size_t trace_request(uint16_t identifier, uint16_t sequence, uint8_t *payload);
 
+enum { TRACE_REPLY = 131, LONGEST_ANSWER = 1232, LONGEST_QUOTE = LONGEST_ANSWER - HEADER - 8 };
+
+/* What a router answers: a parameter problem with its pointer, or a traceroute reply with its interface. */
+struct answer {
+    uint8_t type, code;
+    uint16_t pointer;
+    uint64_t interface;
+    bool outside; /* the datagram came from another AS */
+};
+
+/* Writes the SCMP message by which the router at the loopback address answers a datagram that arrives so, and
+   answers the message's own length as a datagram. */
+size_t answering(const uint8_t *datagram, size_t length, const struct answer *answer, uint8_t *bytes);
+
 #endif

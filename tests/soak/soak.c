@@ -127,21 +127,130 @@ static size_t packet(const struct mark *mark, bool leaves, uint8_t *bytes) {
     return HEADER + mark->length;
 }
 
+/* ---- datagrams that the router answers ---- */
+
+/* What is wrong with a packet, or asked by it, so that its sender gets an answer. */
+enum fault { WRONG_MAC, WRONG_LENGTH, EXPIRED, NOWHERE, TRACED, FAULTS };
+
+static const char *const names[FAULTS] = {"wrong MAC", "wrong length", "expired", "to nowhere", "traceroute"};
+
+/* The router's link by which a neighbour's datagrams come. */
+static int link_of(int from) { return from == SIBLING ? HOST : from; }
+
+static struct answer answer_to(const struct way *way, enum fault fault) {
+    bool outside = link_of(way->from) != HOST;
+    struct answer answer = {.type = 4, .pointer = (uint16_t)(48 + 12 * way->hop), .outside = outside};
+    switch (fault) {
+    case WRONG_MAC: answer.code = 51; break;
+    case WRONG_LENGTH: answer.code = 19, answer.pointer = 0; break;
+    case EXPIRED: answer.code = 52; break;
+    case NOWHERE: answer.code = way->along ? 50 : 49; break;
+    default: answer.type = TRACE_REPLY, answer.interface = (uint64_t)(outside ? way->from : way->to);
+    }
+    return answer;
+}
+
+/* What is delivered leaves by no link, so it can't be sent nowhere. */
+static bool is_delivered(const struct way *way) { return way->destination == LOCAL_AS; }
+
+/* A datagram that is expired, by a good MAC, that goes to a link that nobody has, or that is a traceroute
+   request: each is the same one for all packets of its way. */
+static size_t bad_datagram(const struct way *way, enum fault fault, uint8_t *bytes) {
+    struct datagram of = on(way);
+    uint8_t request[REQUEST];
+    switch (fault) {
+    case EXPIRED: of.timestamp -= 3 * 86400; return arriving(&of, (const uint8_t *)"expired", 7, bytes);
+    case NOWHERE:
+        *(of.along ? &of.egress : &of.ingress) = 77;
+        return arriving(&of, (const uint8_t *)"nowhere", 7, bytes);
+    default:
+        of.next_header = SCMP, of.alerts = 3;
+        return arriving(&of, request, trace_request(1, 2, request), bytes);
+    }
+}
+
+/* The requests of the gentle beginning; each has a sequence number of its own. */
+static size_t gentle_request(uint16_t sequence, uint8_t *bytes) {
+    struct datagram of = on(&ways[0]);
+    uint8_t request[REQUEST];
+    of.next_header = SCMP, of.alerts = 2;
+    return arriving(&of, request, trace_request(3, sequence, request), bytes);
+}
+
+/* The last byte of the MAC that the router checks. */
+static size_t mac_end(const struct way *way) { return HEADER - 1 - 12 * (2 - way->hop); }
+
+/* The packet of the way, with a wrong MAC or length, of which an answer quotes the beginning; no bytes if
+   nobody sent it. */
+static size_t quoted_packet(const struct way *way, enum fault fault, const uint8_t *quote, size_t count,
+                            uint8_t *bytes) {
+    struct mark mark = {0};
+    if (count < HEADER) return 0;
+    memcpy(&mark, quote + HEADER, count < HEADER + sizeof mark ? count - HEADER : sizeof mark);
+    if (count < HEADER + sizeof mark) { /* it is cut, and known by its header */
+        mark.way = quote[1] & 15, mark.sender = quote[2] >> 4;
+        mark.flow = (uint32_t)(quote[2] & 15) << 8 | quote[3];
+        mark.length = (uint32_t)quote[6] << 8 | quote[7];
+    }
+    if (mark.way != (uint32_t)(way - ways) || mark.length < sizeof mark || mark.length > 9216 - HEADER)
+        return 0;
+    size_t length = packet(&mark, false, bytes);
+    if (fault == WRONG_LENGTH && quote[7] == bytes[7]) return count < length ? count : 0; /* it is cut */
+    bytes[fault == WRONG_MAC ? mac_end(way) : 7] ^= 1;
+    return length;
+}
+
+static bool is_answer_to(const uint8_t *datagram, size_t length, const struct answer *answer,
+                         const uint8_t *bytes, size_t count) {
+    static uint8_t wanted[LONGEST_ANSWER];
+    return answering(datagram, length, answer, wanted) == count && !memcmp(wanted, bytes, count);
+}
+
+/* The fault for which a neighbour gets this answer, if each of its bytes is right; otherwise FAULTS. */
+static enum fault answered(int at, const uint8_t *bytes, size_t count) {
+    static uint8_t sent[1 << 16];
+    const uint8_t *quote = bytes + HEADER + 8;
+    for (const struct way *way = ways; way < ways + WAYS; way++) {
+        if (way->from != at) continue;
+        for (enum fault fault = 0; fault < FAULTS; fault++) {
+            struct answer answer = answer_to(way, fault);
+            if (count < HEADER + 8 || bytes[HEADER] != answer.type || bytes[HEADER + 1] != answer.code)
+                continue;
+            size_t length = fault >= EXPIRED ? bad_datagram(way, fault, sent)
+                                             : quoted_packet(way, fault, quote, count - HEADER - 8, sent);
+            if (length && is_answer_to(sent, length, &answer, bytes, count)) return fault;
+        }
+    }
+    struct answer gentle = answer_to(ways, TRACED);
+    uint16_t sequence = (uint16_t)(bytes[HEADER + 6] << 8 | bytes[HEADER + 7]);
+    size_t length = gentle_request(sequence, sent);
+    return at == ways->from && is_answer_to(sent, length, &gentle, bytes, count) ? TRACED : FAULTS;
+}
+
 /* ---- neighbours that read ---- */
 
-static atomic_ulong arrived[NEIGHBOURS], packets, answers, replies;
+static atomic_ulong arrived[NEIGHBOURS], packets, answers, of_fault[FAULTS];
 static uint64_t last[WAYS][SENDERS + 1][FLOWS];
+
+static bool is_answer(const uint8_t *bytes, size_t length) {
+    static const uint8_t local[8] = {0, 1, 0xff, 0, 0, 0, 1, 0x10}; /* LOCAL_AS */
+    return length > HEADER && bytes[4] == SCMP && !memcmp(bytes + 20, local, 8);
+}
+
+static void look_at_answer(int at, const uint8_t *bytes, size_t length) {
+    enum fault fault = answered(at, bytes, length);
+    if (fault == FAULTS)
+        return fail("a wrong answer of type %d and code %d arrives at %d", bytes[HEADER], bytes[HEADER + 1],
+                    at);
+    atomic_fetch_add(&of_fault[fault], 1);
+    atomic_fetch_add(&answers, 1);
+}
 
 /* A packet has to be what its way makes of it, and come after those of its flow that were sent before it. */
 static void look(int at, const uint8_t *bytes, size_t length) {
-    static const uint8_t local[8] = {0, 1, 0xff, 0, 0, 0, 1, 0x10}; /* LOCAL_AS */
     static uint8_t wanted[1 << 16];
     struct mark mark;
-    if (length > HEADER && bytes[4] == SCMP && !memcmp(bytes + 20, local, 8)) {
-        if (bytes[HEADER] == 131) atomic_fetch_add(&replies, 1);
-        atomic_fetch_add(&answers, 1);
-        return;
-    }
+    if (is_answer(bytes, length)) return look_at_answer(at, bytes, length);
     if (length < HEADER + sizeof mark) return fail("%zu bytes arrive at %d", length, at);
     memcpy(&mark, bytes + HEADER, sizeof mark);
     bool known =
@@ -194,9 +303,6 @@ static bool offer(int from, int link, const uint8_t *bytes, size_t length) {
     return true;
 }
 
-/* The router's link by which a neighbour's datagrams come. */
-static int link_of(int from) { return from == SIBLING ? HOST : from; }
-
 static uint64_t draw(uint64_t *state) {
     *state ^= *state << 13, *state ^= *state >> 7, *state ^= *state << 17;
     return *state >> 11;
@@ -205,28 +311,19 @@ static uint64_t draw(uint64_t *state) {
 /* A datagram that the router can't forward, made of a packet with room for the longest. */
 static size_t spoil(uint64_t *state, const struct way *way, uint8_t *bytes, size_t length, int *from) {
     static const size_t lengths[] = {0, 1, 9217, LONGEST};
-    struct datagram of = on(way);
-    uint8_t request[REQUEST];
     switch (draw(state) % 9) {
     case 0: return lengths[draw(state) % 4];
     case 1: return draw(state) % length;
-    case 2: bytes[HEADER - 1 - 12 * (2 - way->hop)] ^= 1; return length; /* the MAC's last byte */
-    case 3:
-        /* expired, by a good MAC */
-        of.timestamp -= 3 * 86400;
-        return arriving(&of, (const uint8_t *)"expired", 7, bytes);
+    case 2: bytes[mac_end(way)] ^= 1; return length;
+    case 3: return bad_datagram(way, EXPIRED, bytes);
     case 4: bytes[7] ^= 1; return length; /* the payload's length */
     case 5: *from = STRANGER; return length;
     case 6:
         for (size_t k = 0; k < length; k++) bytes[k] = (uint8_t)draw(state);
+        bytes[8] |= 2; /* no path type that is carried: no answer to random bytes can be compared */
         return length;
-    case 7: /* to a link that nobody has; what is delivered leaves by none */
-        if (way->destination == LOCAL_AS) return 1;
-        *(of.along ? &of.egress : &of.ingress) = 77;
-        return arriving(&of, (const uint8_t *)"nowhere", 7, bytes);
-    default:
-        of.next_header = SCMP, of.alerts = 3;
-        return arriving(&of, request, trace_request(1, 2, request), bytes);
+    case 7: return is_delivered(way) ? 1 : bad_datagram(way, NOWHERE, bytes);
+    default: return bad_datagram(way, TRACED, bytes);
     }
 }
 
@@ -273,7 +370,6 @@ static bool came(unsigned long wanted) {
    to be answered. */
 static void begin_gently(void) {
     static uint8_t bytes[1 << 16];
-    uint8_t request[REQUEST];
     uint64_t state = 42;
     unsigned long sent = 0, asked = 0;
     while (sent + asked < GENTLE) {
@@ -289,17 +385,16 @@ static void begin_gently(void) {
             stop("the gentle beginning");
         sent++;
         if (sent % 16 == 0) {
-            struct datagram of = on(&ways[0]);
-            of.next_header = SCMP, of.alerts = 2;
-            offer(1, 1, bytes, arriving(&of, request, trace_request(3, (uint16_t)asked, request), bytes));
+            offer(ways->from, link_of(ways->from), bytes, gentle_request((uint16_t)asked, bytes));
             asked++;
         }
         usleep(draw(&state) % 64 ? 100 : 5000);
     }
     came(sent + asked);
     printf("gentle: %lu of %lu packets arrived, %lu of %lu traceroutes were answered\n",
-           atomic_load(&packets), sent, atomic_load(&replies), asked);
-    if (atomic_load(&packets) != sent || atomic_load(&replies) != asked || atomic_load(&answers) != asked)
+           atomic_load(&packets), sent, atomic_load(&of_fault[TRACED]), asked);
+    if (atomic_load(&packets) != sent || atomic_load(&of_fault[TRACED]) != asked ||
+        atomic_load(&answers) != asked)
         fail("the gentle beginning");
 }
 
@@ -476,6 +571,9 @@ static unsigned long arrived_by(int link) {
 /* Each part of the flood was tried: packets crossed, and calls of each kind were refused. */
 static void judge_flood(unsigned long crossed, unsigned long growths, unsigned long given) {
     if (!crossed) fail("no packet of the flood arrived, so this wasn't tried");
+    for (int fault = 0; fault < FAULTS; fault++)
+        if (!atomic_load(&of_fault[fault]))
+            fail("no answer for '%s' arrived, so this wasn't tried", names[fault]);
     if (!atomic_load(&page->failed[RECEIVE])) fail("no receive was refused, so this wasn't tried");
     if (!atomic_load(&page->failed[POLL])) fail("no poll was refused, so this wasn't tried");
     if (growths > given) fail("%lu growths for %lu commands", growths, given);
@@ -557,8 +655,10 @@ int main(int count, char **words) {
     judge_flood(atomic_load(&packets) - gentle, growths, given);
     printf("sent to it %lu, of which the system gave it %lu\n", atomic_load(&offered),
            atomic_load(&page->received));
-    printf("arrived: %lu packets, each as it should and in order, and %lu answers\n", atomic_load(&packets),
-           atomic_load(&answers));
+    printf("arrived: %lu packets, each as it should and in order, and %lu answers, each as it should:\n",
+           atomic_load(&packets), atomic_load(&answers));
+    for (int fault = 0; fault < FAULTS; fault++)
+        printf("    %s %lu\n", names[fault], atomic_load(&of_fault[fault]));
     printf("the system refused %lu sends, %lu receives, %lu polls\n", atomic_load(&page->failed[SEND]),
            atomic_load(&page->failed[RECEIVE]), atomic_load(&page->failed[POLL]));
     printf("the flood made %lu growths for %lu commands; resident before it %ld KiB, and %ld at its end\n",
