@@ -85,9 +85,15 @@ bench-router: bin/router
 
 # Refuses each growth, read, write, send and more in turn, and gives bad input: each run has to end as documented.
 # It needs cc too.
-faults: bin/router
+faults: bin/router bin/walk_tests
 	tests/faults/run.sh
 	tests/faults/input.sh
+	tests/faults/walk.sh
+
+bin/walk_tests: FORCE
+	cd crates/walk_tests && $(RT) test
+	mkdir -p bin
+	cp crates/walk_tests/out/walk_tests_tests bin/walk_tests
 
 .PHONY: docs-check
 

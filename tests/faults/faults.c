@@ -81,8 +81,6 @@ static size_t cross(int from, const uint8_t *sent, size_t length, int to, uint8_
 /* A packet each way, a traceroute and a datagram that is too short: what the running router is tried with.
    Each is through before the next one is sent, so that the report is the same each time. */
 static unsigned exchange(void) {
-    /* A traceroute reply: type, code, and after the checksum what the request had. */
-    static const uint8_t type[2] = {131, 0}, identity[4] = {0, 7, 0, 8};
     uint8_t came[2000], sent[2000], wanted[2000], request[REQUEST];
     for (int k = 0; k < 2; k++)
         while (recv(neighbours[k], came, sizeof came, 0) >= 0) {
@@ -112,8 +110,9 @@ static unsigned exchange(void) {
     of.alerts = 2;
     of.next_header = SCMP;
     size_t length = arriving(&of, request, trace_request(7, 8, request), sent);
-    arrived += cross(0, sent, length, 0, came) >= HEADER + 8 && came[4] == SCMP &&
-               !memcmp(came + HEADER, type, 2) && !memcmp(came + HEADER + 4, identity, 4);
+    struct answer reply = {.type = TRACE_REPLY, .interface = 1, .outside = true};
+    size_t replied = answering(sent, length, &reply, wanted);
+    arrived += cross(0, sent, length, 0, came) == replied && !memcmp(came, wanted, replied);
     struct sockaddr_in at = loopback(ROUTER + 2);
     if (sendto(neighbours[1], sent, 11, 0, (struct sockaddr *)&at, sizeof at) < 0) stop("sendto");
     return arrived;
