@@ -1,1 +1,2 @@
+pub mod DatagramLemmas
 pub mod EndLemmas

@@ -1,7 +1,11 @@
 //! Datagrams that sources give.
 
-ghost use Rattle.std.specs.Prelude.{◌≡◌, length};
-ghost use Rattle.stage_parts.specs.Heard.{failures_of, fits};
+ghost use Rattle.std.specs.Prelude.{◌≡◌, IfOk, length, map, replicate, take};
+ghost use Rattle.router_laws.specs.Heard.{Gave};
+ghost use Rattle.sample_packets.specs.declared.datagram.TheConstants.{FIRST, IN_TIME};
+ghost use Rattle.sample_stages.specs.declared.datagrams.TheConstants.{NEAR};
+ghost use Rattle.stage_parts.specs.Heard.{failures_of, fits, heard};
+ghost use Rattle.stage_parts.specs.ListSource.{heard_of};
 
 use process_packet::{Ip, Underlay};
 use sample_packets::{FIRST, IN_TIME};
@@ -15,13 +19,17 @@ pub const NEAR: Underlay = Underlay {
 };
 
 /// A datagram from an underlay address, at a moment.
-pub fn datagram(alloc: Global, bytes: &[u8], from: Underlay, now: u64) -> Result<Next, AllocError> {
+pub fn datagram(alloc: Global, bytes: &[u8], from: Underlay, now: u64) -> Result<Next, AllocError>
+    ensures { IfOk result (λ n. heard_of n ≡ Gave from now (take 9217 bytes.now)) }
+{
     let bytes = Vec::from_slice(alloc, bytes)?;
     Ok(Next::Datagram { bytes, from, now })
 }
 
 /// The first datagram, so often.
-pub fn firsts(alloc: Global, count: usize) -> Result<Vec<Next>, AllocError> {
+pub fn firsts(alloc: Global, count: usize) -> Result<Vec<Next>, AllocError>
+    ensures { IfOk result (λ v. map heard_of v.items ≡ replicate count (Gave NEAR IN_TIME FIRST)) }
+{
     let mut answers = Vec::new(alloc);
     for _ in 0..count {
         answers.push(datagram(alloc, &FIRST, NEAR, IN_TIME)?)?;
@@ -33,7 +41,8 @@ pub fn firsts(alloc: Global, count: usize) -> Result<Vec<Next>, AllocError> {
 pub fn give(datagram: &[u8; 92], buffer: &mut [u8]) -> NextLen
     requires { length buffer.old ≡ 9217 }
     ensures same { length buffer.new ≡ length buffer.old }
-    ensures gave { failures_of result ≡ 0 }
+    ensures gave { heard buffer.new result ≡ Gave NEAR IN_TIME datagram.now }
+    ensures failed { failures_of result ≡ 0 }
     ensures fits { fits result }
 {
     let (front, _) = buffer.split_at_mut(92);
