@@ -6,7 +6,7 @@ ghost use Rattle.stage_parts.specs.Heard.{failures_of, fits, heard};
 ghost use Rattle.stage_parts.specs.Told.{telling};
 
 use crate::cues::{Cue, Words, comes};
-use crate::lists::URGENT;
+use crate::lists::urgent;
 use router_rules::{Outgoing, Worker};
 use sample_packets::FIRST;
 use sample_stages::give;
@@ -52,7 +52,8 @@ impl Source for CuedSource {
             return NextLen::Quiet;
         }
         self.given = self.given.wrapping_add(1);
-        give(if cue.is_urgent() { &URGENT } else { &FIRST }, buffer)
+        let datagram = if cue.is_urgent() { urgent() } else { FIRST };
+        give(&datagram, buffer)
     }
 
     fn failures(&self) -> u64 {

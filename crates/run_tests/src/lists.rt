@@ -1,20 +1,21 @@
 //! An urgent datagram, and devices over lists.
 
-ghost use Rattle.std.specs.Prelude.{◌≡◌, IfOk};
+ghost use Rattle.std.specs.Prelude.{◌≡◌, [], ◌∷◌, IfOk};
+ghost use Rattle.field_rows.specs.Place.{Puts};
 ghost use Rattle.pipeline_laws.specs.Deeds.{Each};
 ghost use Rattle.router_laws.specs.Heard.{ToldNothing};
+ghost use Rattle.sample_packets.specs.declared.datagram.TheConstants.{FIRST};
 
+use sample_packets::{FIRST, with_bytes};
 use stage_parts::{ListSink, ListSource, Next};
 use std::alloc::{AllocError, Global};
 
 /// The first datagram, with the traffic class of what is urgent.
-pub const URGENT: [u8; 92] = *b"\x0b\x80\x00\x01\x11\x15\x00\x08\x01\x00\x00\x00\
-    \x00\x01\xff\x00\x00\x00\x01\x12\x00\x01\xff\x00\x00\x00\x01\x11\x0a\x02\x00\x07\x0a\x01\x00\x05\
-    \x01\x00\x30\x00\x01\x00\x12\x34\x65\x00\x00\x00\
-    \x00\x3f\x00\x00\x00\x11\xa0\xa1\xa2\xa3\xa4\xa5\
-    \x00\x3f\x00\x01\x00\x02\x0e\x66\xd2\x97\x45\x36\
-    \x00\x3f\x00\x12\x00\x00\xb0\xb1\xb2\xb3\xb4\xb5\
-    \x75\x59\x75\x59\x00\x08\x00\x00";
+pub fn urgent() -> [u8; 92]
+    ensures { Puts FIRST result 0 (11 ∷ 128 ∷ []) }
+{
+    with_bytes(FIRST, 0, b"\x0b\x80")
+}
 
 /// Sources that give the answers of a list each.
 pub fn list_sources(alloc: Global, lists: Vec<Vec<Next>>) -> Result<Vec<ListSource>, AllocError>
