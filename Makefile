@@ -88,12 +88,13 @@ bench-router: bin/router
 faults: bin/router bin/walk_tests
 	tests/faults/run.sh
 	tests/faults/input.sh
-	tests/faults/walk.sh
+	tests/faults/growths.sh
 
-bin/walk_tests: FORCE
-	cd crates/walk_tests && $(RT) test
+# The compiled tests of a crate.
+bin/walk_tests: bin/%: FORCE
+	cd crates/$* && $(RT) test
 	mkdir -p bin
-	cp crates/walk_tests/out/walk_tests_tests bin/walk_tests
+	cp crates/$*/out/$*_tests bin/$*
 
 .PHONY: docs-check
 

@@ -1,6 +1,6 @@
-/* Runs tests of `walk` over and over, and each time refuses the next growth, or it and all after it, up to
-   the last. A refused test has to stop by the error of what was refused: while it walks this is `NoMemory`,
-   and never another walk. */
+/* Runs tests over and over, and each time refuses the next growth, or it and all after it, up to the last. A
+   test to which one is refused has to stop by the error of what was refused. What is tried answers by an
+   error that is named, or, named `pass`, by a result that the test checks; no other test may pass. */
 #define _GNU_SOURCE
 #include "../harness.h"
 
@@ -18,7 +18,7 @@
 
 enum { PATIENCE = 10000 };
 
-static const char *tests, *library;
+static const char *tests, *library, *wanted;
 static struct page *page;
 
 /* How a run of a test ended. */
@@ -54,15 +54,21 @@ static void run(const char *test, struct ending *ending) {
     close(errors[0]);
 }
 
-/* A test stops by a signal, after what it was at and the error that it met. */
+static bool passes(const struct ending *ending) { return !ending->status && !*ending->errors; }
+
+/* A test stops by a signal, after the error that it met, which mostly stands after what it was at. */
 static bool stops_by(const struct ending *ending, const char *error) {
-    const char *found = strstr(ending->errors, ": ");
+    const char *at = strstr(ending->errors, ": "), *found = at ? at + 2 : ending->errors;
     size_t length = strlen(error);
-    return ending->status == -SIGABRT && found && !strncmp(found + 2, error, length) &&
-           !strcmp(found + 2 + length, "\n");
+    return ending->status == -SIGABRT && !strncmp(found, error, length) && !strcmp(found + length, "\n");
 }
 
-/* While it makes its net and its datagrams it meets other errors of want of memory. */
+/* What is tried was refused memory, and answers as it should. */
+static bool answers(const struct ending *ending) {
+    return strcmp(wanted, "pass") ? stops_by(ending, wanted) : passes(ending);
+}
+
+/* While a test makes what it needs it meets other errors of want of memory. */
 static bool tells(const struct ending *ending) {
     static const char *const errors[] = {"NoMemory", "Memory", "AllocError", "AllocFailed { .. }"};
     for (size_t k = 0; k < sizeof errors / sizeof *errors; k++)
@@ -71,7 +77,7 @@ static bool tells(const struct ending *ending) {
 }
 
 struct counts {
-    unsigned long tried, walking, bad;
+    unsigned long tried, answered, bad;
 };
 
 static void refuse(const char *test, int lasts, struct counts *all) {
@@ -85,9 +91,9 @@ static void refuse(const char *test, int lasts, struct counts *all) {
         page->lasts = lasts;
         run(test, &ending);
         bool met = atomic_load(&page->failed[GROWTH]);
-        bool good = !ending.hangs && (met ? tells(&ending) : !ending.status && !*ending.errors);
+        bool good = !ending.hangs && (met ? answers(&ending) || tells(&ending) : passes(&ending));
         own.tried += met;
-        own.walking += met && stops_by(&ending, "NoMemory");
+        own.answered += met && good && answers(&ending);
         own.bad += !good;
         if (!good && own.bad <= 3)
             printf("  %s, growth %lu%s: %s %d, standard error: %s", test, at, lasts ? " and all after" : "",
@@ -95,26 +101,26 @@ static void refuse(const char *test, int lasts, struct counts *all) {
                    *ending.errors ? ending.errors : "-\n");
         if (!met) break;
     }
-    printf("%-42s %-10s %6lu %8lu %6lu\n", test, lasts ? "from it on" : "alone", own.tried, own.walking,
+    printf("%-46s %-10s %6lu %8lu %6lu\n", test, lasts ? "from it on" : "alone", own.tried, own.answered,
            own.bad);
-    all->tried += own.tried, all->walking += own.walking, all->bad += own.bad;
+    all->tried += own.tried, all->answered += own.answered, all->bad += own.bad;
 }
 
 int main(int count, char **words) {
     struct counts all = {0, 0, 0};
-    if (count < 4) {
-        fprintf(stderr, "usage: walk TESTS LIBRARY TEST..\n");
+    if (count < 5) {
+        fprintf(stderr, "usage: growths TESTS LIBRARY ERROR|pass TEST..\n");
         return 2;
     }
-    tests = words[1], library = words[2];
+    tests = words[1], library = words[2], wanted = words[3];
     page = make_page();
     /* A test that stops would leave a core file. */
     if (setrlimit(RLIMIT_CORE, &(struct rlimit){0, 0})) stop("no core files");
     setvbuf(stdout, NULL, _IOLBF, 0);
-    printf("%-53s %6s %8s %6s\n", "growths", "tried", "in walk", "failed");
-    for (int k = 3; k < count; k++)
+    printf("%-57s %6s %8s %6s\n", "growths", "tried", "answered", "failed");
+    for (int k = 4; k < count; k++)
         for (int lasts = 0; lasts < 2; lasts++) refuse(words[k], lasts, &all);
-    printf("tried %lu, of them %lu in walk, failed %lu\n", all.tried, all.walking, all.bad);
-    if (!all.walking) printf("no growth of walk was refused, so this wasn't tried\n");
-    return all.bad > 0 || !all.walking;
+    printf("tried %lu, answered %lu (%s), failed %lu\n", all.tried, all.answered, wanted, all.bad);
+    if (!all.answered) printf("what is tried was refused no growth\n");
+    return all.bad > 0 || !all.answered;
 }

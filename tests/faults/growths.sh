@@ -1,0 +1,31 @@
+#!/bin/sh
+# Refuses each growth in compiled tests of crates. Prints for each test, for one growth alone and for it with all
+# after it, how many growths were refused, how many of these were answered by what is tried, and how many of the
+# runs ended otherwise. The words say which crates' tests are run; none: those of all.
+set -eu
+cd "$(dirname "$0")/../.."
+CC=${CC:-cc}
+folder=${TESTS:-bin}
+mkdir -p bin
+"$CC" -O2 -Wall -Wextra -fPIC -shared -o bin/faults-preload.so tests/faults/preload.c -ldl
+"$CC" -O2 -Wall -Wextra -o bin/faults-growths tests/faults/growths.c tests/harness.c
+failed=0
+
+# try CRATE ANSWER TESTS: how what is tried answers, and the names of the tests.
+try() {
+    # shellcheck disable=SC2046
+    bin/faults-growths "$folder/$1" "$PWD/bin/faults-preload.so" "$2" \
+        $("$folder/$1" --list | sed -n 's/: test$//p' | grep -x "$3") || failed=1
+}
+
+[ $# -gt 0 ] || set -- walk_tests
+for crate; do
+    case $crate in
+        walk_tests) try walk_tests NoMemory 'walks::.*' ;;
+        *)
+            echo "growths: no tests are of $crate" >&2
+            exit 2
+            ;;
+    esac
+done
+exit $failed
