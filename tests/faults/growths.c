@@ -16,7 +16,10 @@
 #include <sys/wait.h>
 #include <unistd.h>
 
-enum { PATIENCE = 10000 };
+enum { PATIENCE = 10000, RETURNED = 101 };
+
+/* What is written after the error that a test returns. */
+static const char returned[] = "\nthe test failed: its result gives status 1\n";
 
 static const char *tests, *library, *wanted;
 static struct page *page;
@@ -56,11 +59,13 @@ static void run(const char *test, struct ending *ending) {
 
 static bool passes(const struct ending *ending) { return !ending->status && !*ending->errors; }
 
-/* A test stops by a signal, after the error that it met, which mostly stands after what it was at. */
+/* A test stops by a signal or returns the error that it met, which mostly stands after what it was at. */
 static bool stops_by(const struct ending *ending, const char *error) {
     const char *at = strstr(ending->errors, ": "), *found = at ? at + 2 : ending->errors;
     size_t length = strlen(error);
-    return ending->status == -SIGABRT && !strncmp(found, error, length) && !strcmp(found + length, "\n");
+    if (strncmp(found, error, length)) return false;
+    return ending->status == -SIGABRT ? !strcmp(found + length, "\n")
+                                      : ending->status == RETURNED && !strcmp(found + length, returned);
 }
 
 /* What is tried was refused memory, and answers as it should. */

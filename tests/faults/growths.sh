@@ -18,13 +18,15 @@ try() {
         $("$folder/$1" --list | sed -n 's/: test$//p' | grep -x "$3" | grep -vx "${4-}") || failed=1
 }
 
-[ $# -gt 0 ] || set -- walk_tests stages_tests
+[ $# -gt 0 ] || set -- walk_tests stages_tests run_tests
 for crate; do
     case $crate in
         walk_tests) try walk_tests NoMemory 'walks::.*' ;;
         # Only the sink takes memory while the workers run. Refused it fails once more; a test that sees just this
         # passes. The one that is left out expects it also of the call at which it tells the sink to fail.
         stages_tests) try stages_tests pass 'turns::.*' turns::a_refused_packet_is_dropped ;;
+        # A growth that is refused once the router runs would let this test pass, which is a failure.
+        run_tests) try run_tests 'a router that starts' pool::a_thousand_datagrams_take_no_memory ;;
         *)
             echo "growths: no tests are of $crate" >&2
             exit 2
