@@ -1,5 +1,5 @@
 //! Runs of the workers, turn by turn. Where a growth is refused a run ends for want of memory, but where it is
-//! refused to the sink, that sink fails once more.
+//! refused to the sink, that sink fails once more, unless it is told to fail at this call anyhow.
 
 use crate::run::{Outcome, Plan, run};
 use process_packet::Totals;
@@ -60,11 +60,17 @@ fn is_one_less(totals: &Totals, wanted: &Totals) -> bool {
         && totals.dropped[SEND_FAILED] == wanted.dropped[SEND_FAILED].wrapping_add(1)
 }
 
+// Whether a sink that couldn't keep a packet failed at it alone, or would have failed there anyway.
+fn is_counted(totals: &Totals, wanted: &Totals) -> bool {
+    let fails = wanted.dropped[SEND_FAILED] > 0;
+    is_one_less(totals, wanted) || (fails && *totals == *wanted)
+}
+
 // Whether all turns went as told, the sink was handed these packets, and these are the totals.
 fn is(outcome: &Outcome, numbers: &[u64], wanted: &Totals) -> bool {
     let went = match outcome.sink.told() {
         Some(list) => took(list, numbers) && outcome.totals == *wanted,
-        None => is_one_less(&outcome.totals, wanted),
+        None => is_counted(&outcome.totals, wanted),
     };
     outcome.as_told && went
 }
