@@ -107,7 +107,7 @@ fn crossed_or_back(started: Started) -> bool {
 }
 
 /// With a source too few, and with a sink too many, both lists come back, and then serve a router. With each
-/// growth of the start refused by hand they come back too.
+/// growth of the start refused by hand they come back too, except one for a thread, which drops them.
 #[test]
 fn a_refused_start_gives_both_lists_back(rt: HostRuntime) -> Result<(), Fail> {
     let alloc = rt.alloc();
