@@ -46,5 +46,6 @@ pub use parsed_headers::LONGEST_DATAGRAM;
 pub use refusal::header_cause;
 pub use request::trace_request;
 pub use routed::route;
+pub use scmp::{DESTINATION_UNREACHABLE, PARAMETER_PROBLEM, TRACEROUTE_REPLY};
 pub use totals::Totals;
 pub use underlay::{Ip, Underlay};

@@ -2,13 +2,13 @@
 //! "Parameter Problem", "Traceroute Reply").
 
 /// Type 1, destination unreachable.
-pub(crate) const DESTINATION_UNREACHABLE: u8 = 1;
+pub const DESTINATION_UNREACHABLE: u8 = 1;
 
 /// Its code 0, no route to the destination.
 pub(crate) const NO_ROUTE: u8 = 0;
 
 /// Type 4, parameter problem.
-pub(crate) const PARAMETER_PROBLEM: u8 = 4;
+pub const PARAMETER_PROBLEM: u8 = 4;
 
 /// Its code 19, invalid packet size.
 pub(crate) const INVALID_PACKET_SIZE: u8 = 19;
@@ -41,4 +41,4 @@ pub(crate) const PATH_EXPIRED: u8 = 52;
 pub(crate) const INVALID_SEGMENT_CHANGE: u8 = 53;
 
 /// Type 131, traceroute reply; its code is 0.
-pub(crate) const TRACEROUTE_REPLY: u8 = 131;
+pub const TRACEROUTE_REPLY: u8 = 131;

@@ -6,6 +6,7 @@ use Rattle.process_packet.specs.declared.decision.Problem.{Problem}
 use Rattle.process_packet.specs.Request.{request}
 use Rattle.scion_packet.specs.Header.{HostAddress}
 use Rattle.scion_packet.specs.Packet.{Packet}
+use Rattle.process_packet.specs.Scmp.{traceroute_reply_type}
 
 -- the most bytes that an answer has
 abbrev pub longest : ℕ
@@ -43,13 +44,13 @@ numbers_of (Some numbers) = numbers
 -- the fields of a message, by its type
 abbrev pub table_of : HostAddress → ℕ × ℕ → Problem → ℕ → List (List Field)
 table_of here numbers problem checksum =
-    if problem.kind == 131 then traceroute_reply_table here numbers.0 numbers.1 problem.pointer checksum
+    if problem.kind == traceroute_reply_type then traceroute_reply_table here numbers.0 numbers.1 problem.pointer checksum
     else if problem.kind == 1 then unreachable_table problem.code checksum
     else parameter_problem_table problem.code problem.pointer checksum
 
 -- how many bytes they have
 abbrev pub fixed_len : Problem → ℕ
-fixed_len problem = if problem.kind == 131 then 24 else 8
+fixed_len problem = if problem.kind == traceroute_reply_type then 24 else 8
 
 abbrev pub message_table : HostAddress → Packet → Problem → ℕ → List (List Field)
 message_table here p problem checksum = table_of here (numbers_of (request p.header.next_header p.payload)) problem checksum
@@ -57,7 +58,7 @@ message_table here p problem checksum = table_of here (numbers_of (request p.hea
 -- An error message quotes the datagram: its first bytes, as many as the answer has room for after its header and its own 8
 -- bytes. A traceroute reply quotes nothing.
 abbrev pub quote : ℕ → Problem → List ℕ → List ℕ
-quote header_len problem bytes = if problem.kind == 131 then [] else take (longest - header_len - 8) bytes
+quote header_len problem bytes = if problem.kind == traceroute_reply_type then [] else take (longest - header_len - 8) bytes
 
 abbrev pub message : HostAddress → Packet → ℕ → Problem → List ℕ → ℕ → List ℕ
 message here p header_len problem bytes checksum =

@@ -7,6 +7,7 @@ use Rattle.process_packet.specs.declared.decision.Problem.{Problem}
 use Rattle.process_packet.specs.declared.underlay.Ip.{Ip}
 use Rattle.process_packet.specs.declared.underlay.Ip.TheVariants.{V4, V6}
 use Rattle.process_packet.specs.declared.underlay.Underlay.{Underlay}
+use Rattle.process_packet.specs.Scmp.{traceroute_reply_type}
 use Rattle.scion_header.specs.Upper.{upper_of}
 use Rattle.scion_header.specs.declared.upper.Upper.{Upper}
 use Rattle.scion_header.specs.declared.upper.Upper.TheVariants.{Scmp, Other, Cut}
@@ -38,7 +39,7 @@ may_be_error Other = false
 
 -- No SCMP error message is answered by another one. A traceroute reply answers a request, which is none.
 abbrev pub is_left_unanswered : Packet → Problem → Bool
-is_left_unanswered p problem = not (problem.kind == 131) && may_be_error (upper_of (upper_layer p.header.next_header p.payload))
+is_left_unanswered p problem = not (problem.kind == traceroute_reply_type) && may_be_error (upper_of (upper_layer p.header.next_header p.payload))
 
 -- ---- the answer
 

@@ -17,7 +17,7 @@ use crate::parsed_packet::ParsedPacket;
 use crate::way_back::{has_no_way_back, way_back};
 use crate::writing::{path_len, seal, write_front, write_message};
 use path_fields::Path;
-use process_packet::{Arrival, Cause, Config, NoMemory, Problem, Underlay};
+use process_packet::{Arrival, Cause, Config, NoMemory, Problem, TRACEROUTE_REPLY, Underlay};
 use scion_header::{Address, Header, Upper, header_is_lawful, upper_layer};
 use std::alloc::Global;
 
@@ -29,7 +29,7 @@ pub const LONGEST_ANSWER: usize = 1232;
 fn is_left_unanswered(header: &Header, payload: &[u8], problem: &Problem) -> bool
     ensures { (p : Packet) → header_fields header.now ≡ p.header → payload.now ≡ p.payload → result ≡ is_left_unanswered p problem.now }
 {
-    if problem.kind == 131 {
+    if problem.kind == TRACEROUTE_REPLY {
         return false;
     }
     match upper_layer(header, payload) {

@@ -9,15 +9,10 @@ ghost use Rattle.scion_header.specs.Header.{header_fields};
 ghost use Rattle.scmp_answer.specs.Message.{fixed_len, longest, numbers_of, parameter_problem_table, quote, table_of, traceroute_reply_table, unreachable_table};
 
 use field_rows::{put, put_u8, put_u16, put_u32, put_u48};
-use process_packet::{Problem, trace_request};
+use process_packet::{
+    DESTINATION_UNREACHABLE, PARAMETER_PROBLEM, Problem, TRACEROUTE_REPLY, trace_request,
+};
 use scion_header::{Address, Header};
-
-/// The SCMP types of the messages.
-const UNREACHABLE: u8 = 1;
-
-const PARAMETER_PROBLEM: u8 = 4;
-
-const TRACEROUTE_REPLY: u8 = 131;
 
 /// How many bytes of a message stand before its quote.
 pub(crate) fn fixed_len(problem: &Problem) -> usize
@@ -50,7 +45,7 @@ fn write_unreachable(code: u8, out: &mut [u8], at: usize)
     requires { at + 8 ≤ length out.old }
     ensures { Puts out.old out.new at (rows (unreachable_table code 0)) }
 {
-    put_u8(out, at, UNREACHABLE);
+    put_u8(out, at, DESTINATION_UNREACHABLE);
     put_u8(out, at + 1, code);
     put_u16(out, at + 2, 0);
     put_u32(out, at + 4, 0);
@@ -116,7 +111,7 @@ pub(crate) fn write_fixed(
             let numbers = numbers_of(arriving, payload);
             write_traceroute_reply(here, numbers, problem.pointer, out, at);
         }
-        UNREACHABLE => write_unreachable(problem.code, out, at),
+        DESTINATION_UNREACHABLE => write_unreachable(problem.code, out, at),
         _ => write_parameter_problem(problem.code, problem.pointer, out, at),
     }
 }
