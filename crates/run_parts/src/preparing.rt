@@ -184,7 +184,7 @@ fn book_for<N: Router>(
     Ok(made)
 }
 
-/// The workers without their devices, what they share, and their desks.
+/// The workers without their devices, what they share, and the setup of their threads.
 #[derive(Drop)]
 struct Staff<N, S, K, G, R>
 where
