@@ -67,6 +67,13 @@ impl Fault {
             _ => Fault::Input,
         }
     }
+
+    /// What an error in writing to the standard output means.
+    pub fn of_output(_error: io::Error) -> Fault
+        ensures { result ≡ fault.Lines LinesFault.Output }
+    {
+        Fault::Lines(LinesFault::Output)
+    }
 }
 
 impl<T: Drop> From<AllocFailed<T>> for Fault {

@@ -3,12 +3,10 @@
 //! steps of the pipeline, one a line; `router check --config FILE` tells whether a configuration is good.
 #![tactic(auto)]
 
-ghost use Rattle.std.specs.Prelude.{◌≡◌, IfErr, is_ok};
-
 use command_words::{Order, WordsFault, read_words};
 use process_packet::{Config, Underlay};
 use router_config::{ConfigFault, fault_words, read_config};
-use router_engine::{LinesFault, replay_lines, route_lines};
+use router_engine::{replay_lines, route_lines};
 use router_faults::Fault;
 use router_lines::{ArrivalContext, usual_source};
 use std::alloc::Global;
@@ -50,36 +48,26 @@ fn told(alloc: Global, fault: ConfigFault, text: &str) -> Fault {
     }
 }
 
-/// What it means that the standard output was written to, or couldn't be.
-fn written(done: io::Result<()>) -> Result<(), Fault>
-    ensures done { is_ok result ≡ is_ok done }
-    ensures fault { IfErr result (λ fault. fault ≡ Fault.Lines LinesFault.Output) }
-{
-    match done {
-        Ok(()) => Ok(()),
-        Err(_) => Err(Fault::Lines(LinesFault::Output)),
-    }
-}
-
 /// Tells whether the configuration in a file is good, and else where it isn't.
 fn check_config<R: Files + Print + AllocGlobal>(rt: &R, path: &str) -> Result<(), Fault> {
     let text = text_at(rt, path)?;
     match read_config(rt.alloc(), text.as_str()) {
-        Ok(_) => written(println!(rt; "ok")),
+        Ok(_) => println!(rt; "ok").map_err(Fault::of_output),
         Err(fault) => Err(told(rt.alloc(), fault, text.as_str())),
     }
 }
 
 /// Answers the datagrams on the standard input, which arrive on a link at a moment.
-fn route_datagrams<R: Input + Print + AllocGlobal>(
+fn route_datagrams<R: Files + Input + Print + AllocGlobal>(
     rt: &R,
-    config: &Config,
+    path: &str,
     link: u16,
     moment: u64,
     from: Option<Underlay>,
 ) -> Result<(), Fault> {
     let alloc = rt.alloc();
-    let Some(usual) = usual_source(config, link) else {
+    let config = config_at(rt, path)?;
+    let Some(usual) = usual_source(&config, link) else {
         return Err(Fault::Link);
     };
     let arriving = ArrivalContext {
@@ -89,23 +77,39 @@ fn route_datagrams<R: Input + Print + AllocGlobal>(
     };
     let mut reader = BufReader::new(alloc, rt.reader()).map_err(|_| Fault::Memory)?;
     let mut writer = io::writer(rt);
-    route_lines(alloc, config, &arriving, &mut reader, &mut writer).map_err(Fault::Lines)
+    route_lines(alloc, &config, &arriving, &mut reader, &mut writer).map_err(Fault::Lines)
 }
 
 /// Makes the steps on the standard input.
-fn replay_schedule<R: Input + Print + AllocGlobal>(rt: &R, config: Config) -> Result<(), Fault> {
+fn replay_schedule<R: Files + Input + Print + AllocGlobal>(
+    rt: &R,
+    path: &str,
+) -> Result<(), Fault> {
     let alloc = rt.alloc();
+    let config = config_at(rt, path)?;
     let mut reader = BufReader::new(alloc, rt.reader()).map_err(|_| Fault::Memory)?;
     let mut writer = io::writer(rt);
     replay_lines(alloc, config, &mut reader, &mut writer).map_err(Fault::Lines)
 }
 
 /// Runs the router over its sockets, led by the standard input.
-fn run_over_sockets<R>(rt: &R, config: Config) -> Result<(), Fault>
+fn run_over_sockets<R>(rt: &R, path: &str) -> Result<(), Fault>
 where
-    R: Input + Print + AllocGlobal + Net + Threads + Wait + Clock + Copy + Send + Drop + 'static,
+    R: Files
+        + Input
+        + Print
+        + AllocGlobal
+        + Net
+        + Threads
+        + Wait
+        + Clock
+        + Copy
+        + Send
+        + Drop
+        + 'static,
 {
     let alloc = rt.alloc();
+    let config = config_at(rt, path)?;
     let mut reader = BufReader::new(alloc, rt.reader()).map_err(|_| Fault::Memory)?;
     let mut writer = io::writer(rt);
     run_router(*rt, alloc, config, &mut reader, &mut writer).map_err(Fault::Run)
@@ -135,9 +139,9 @@ where
             link,
             now,
             from,
-        } => route_datagrams(rt, &config_at(rt, config)?, link, now, from),
-        Order::Replay { config } => replay_schedule(rt, config_at(rt, config)?),
-        Order::Run { config } => run_over_sockets(rt, config_at(rt, config)?),
+        } => route_datagrams(rt, config, link, now, from),
+        Order::Replay { config } => replay_schedule(rt, config),
+        Order::Run { config } => run_over_sockets(rt, config),
         Order::Check { config } => check_config(rt, config),
     }
 }
@@ -157,7 +161,7 @@ fn main(rt: HostRuntime) -> ExitCode {
     let fault = match fault {
         Fault::Words(WordsFault::Told(error)) => match error.print(&rt) {
             Ok(()) => return ExitCode::from(if error.use_stderr() { 2 } else { 0 }),
-            Err(_) => Fault::Lines(LinesFault::Output),
+            Err(error) => Fault::of_output(error),
         },
         other => other,
     };
