@@ -1,4 +1,4 @@
-use Rattle.std.proofs.Common.{true}
+use Rattle.std.proofs.Common.{rules, true}
 use Rattle.hop_check.proofs.BeaconingLemmas.{mac_of_input}
 use Rattle.path_fields.specs.Fields.{hop_field}
 use Rattle.hop_check.proofs.beaconing.write_mac.Goals as goal
@@ -8,3 +8,6 @@ returns-clause-mac c info same =
     mac_of_input c.args.key.now c.mac_input.result c.tag6_block-mac.result c.args.segment_id
     (record { reserved_flags = 0; along = true; reserved = 0; segment_id = c.args.segment_id; timestamp = c.args.timestamp })
     info (hop_field c.args.hop.now) c.tag6_block-mac.ensures c.mac_input.ensures same
+
+pub returns-clause-others : goal.returns-clause-others
+returns-clause-others c = search rules

@@ -1,4 +1,4 @@
-use Rattle.std.proofs.Common.{ap, arith}
+use Rattle.std.proofs.Common.{rules, ap, arith}
 use Rattle.process_packet.specs.Decide.{decision_of}
 use Rattle.process_packet.specs.Network.{network}
 use Rattle.process_packet.proofs.ParsedHeadersLemmas.{too_long_dropped}
@@ -8,3 +8,6 @@ pub returns-then-len-gt-LONGEST_DATAGRAM : goal.returns-then-len-gt-LONGEST_DATA
 returns-then-len-gt-LONGEST_DATAGRAM c =
     let a = c.args.arrival.now in
     ap decision_of (too_long_dropped (network c.args.config.now) a.link a.source a.now a.bytes.items (omega (arith, c.if-len-gt-LONGEST_DATAGRAM.true, c.len-len.ensures)))
+
+pub returns-in_ok-bytes-in-Send : goal.returns-in_ok-bytes-in-Send
+returns-in_ok-bytes-in-Send c = search rules

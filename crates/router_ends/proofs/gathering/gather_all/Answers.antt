@@ -1,4 +1,4 @@
-use Rattle.std.proofs.Common.{◌≡◌, ◌∷◌, [], length, ℕ, List, sym, ap, subst, ◌∙◌, arith, length-append}
+use Rattle.std.proofs.Common.{rules, ◌≡◌, ◌∷◌, [], length, ℕ, List, sym, ap, subst, ◌∙◌, arith, length-append}
 use Rattle.ruled_pipe.specs.Producer.{Sender}
 use Rattle.ruled_pipe.specs.Pipe.{Shape}
 use Rattle.router_ends.specs.Rows.{HaveLeft, Row}
@@ -69,3 +69,6 @@ returns g c =
     let at = c.loop-k in
     let none : length at.pipes.items ≡ 0 = let a = at.auto.k-end in let f = c.loop-k-test.false in let w = at.invariant.3 in let n = c.len-count.ensures in let o = c.args.pipes.ok in omega arith in
     at.invariant.2 (none_left at.pipes.items at.takers.items _ none (takers_long at.invariant.1.uses (length at.bundles.items) at.pipes.items at.takers.items at.invariant.1.taken))
+
+pub loop-k-init : goal.loop-k-init
+loop-k-init g c = search rules

@@ -1,4 +1,4 @@
-use Rattle.std.proofs.Common.{List, [], ◌∷◌, ◌++◌, length, sym, ap, subst, ◌∙◌, append_assoc, arith}
+use Rattle.std.proofs.Common.{rules, List, [], ◌∷◌, ◌++◌, length, sym, ap, subst, ◌∙◌, append_assoc, arith}
 use Rattle.ruled_pipe.specs.Producer.{Sender}
 use Rattle.router_ends.specs.Handing.{NeverClosed}
 use Rattle.router_ends.proofs.HandingLemmas.{bare_more, never_closed, one_short}
@@ -30,3 +30,6 @@ pub returns-clause-unclosed : goal.returns-clause-unclosed
 returns-clause-unclosed g c =
     let at = c.loop-outlet in
     subst (λ (l : List (Sender g.row.T.Denot)). NeverClosed l) (sym at.invariant.0) (never_closed at.yielded at.invariant.1)
+
+pub loop-outlet-init : goal.loop-outlet-init
+loop-outlet-init g c = search rules

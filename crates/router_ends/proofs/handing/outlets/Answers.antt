@@ -1,4 +1,4 @@
-use Rattle.std.proofs.Common.{◌≡◌, List, [], ◌∷◌, ◌++◌, length, sym, ap, subst, ◌∙◌, append_assoc, append-nil, arith}
+use Rattle.std.proofs.Common.{rules, ◌≡◌, List, [], ◌∷◌, ◌++◌, length, sym, ap, subst, ◌∙◌, append_assoc, append-nil, arith}
 use Rattle.std.specs.Vec.Iter.{into_iter_items}
 use Rattle.stage_parts.specs.Outlet.{Offering}
 use Rattle.stage_parts.specs.Outlets.{AreFresh, senders}
@@ -35,3 +35,6 @@ returns-clause-ends g c =
     let empty : into_iter_items at.end-iterator ≡ [] = nothing_left _ (sym at.invariant.4 ∙ none.0) in
     let all = sym (append-nil at.yielded) ∙ rw empty at at.invariant.3 ∙ at.invariant.5 in
     λ p shapes is. ends_of_new (senders at.outlets.items) p shapes (at.invariant.0 ∙ (all ∙ is))
+
+pub loop-end-init : goal.loop-end-init
+loop-end-init g c = search rules

@@ -1,4 +1,4 @@
-use Rattle.std.proofs.Common.{◌≡◌, List, [], ◌∷◌, ◌++◌, length, sym, ap, subst, ◌∙◌, append_assoc, append-nil, arith}
+use Rattle.std.proofs.Common.{rules, ◌≡◌, List, [], ◌∷◌, ◌++◌, length, sym, ap, subst, ◌∙◌, append_assoc, append-nil, arith}
 use Rattle.std.specs.Vec.Iter.{into_iter_items}
 use Rattle.router_ends.specs.Shutting.{PushMarks, Shutting}
 use Rattle.router_ends.proofs.HandingLemmas.{nothing_left}
@@ -34,3 +34,6 @@ returns-clause-marks g c =
     let empty : into_iter_items at.shutter-iterator ≡ [] = nothing_left _ (sym at.invariant.4 ∙ none.0) in
     let all = sym (append-nil at.yielded) ∙ rw empty at at.invariant.3 ∙ at.invariant.5 in
     subst (λ (l : List (Shutting g.row.T.Denot)). PushMarks l) all (push_marks at.yielded at.invariant.1)
+
+pub loop-shutter-init : goal.loop-shutter-init
+loop-shutter-init g c = search rules

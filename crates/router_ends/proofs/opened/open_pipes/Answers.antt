@@ -1,4 +1,4 @@
-use Rattle.std.proofs.Common.{List, [], ◌∷◌, length, sym, ap, subst, ◌∙◌, arith, length-append}
+use Rattle.std.proofs.Common.{rules, List, [], ◌∷◌, length, sym, ap, subst, ◌∙◌, arith, length-append}
 use Rattle.ruled_pipe.specs.Pipe.{Shape}
 use Rattle.router_ends.specs.Rows.{AreWide}
 use Rattle.router_ends.proofs.RowLemmas.{wide_more}
@@ -13,3 +13,9 @@ loop-k-preserved g c =
       ap length p.1 ∙ (let l = at.invariant.1 in omega (arith, length-append at.opened.pipes (p.0 ∷ []))),
       subst (λ (l : List Shape). AreWide cap l) (sym p.1) (wide_more cap at.opened.pipes p.0 at.invariant.2 p.3),
     )
+
+pub loop-k-init : goal.loop-k-init
+loop-k-init g c = search rules
+
+pub returns-clause-count : goal.returns-clause-count
+returns-clause-count g c = search rules

@@ -14,3 +14,6 @@ loop-preserved c =
       ap length pushed ∙ length-append c.loop.lists.items (c.new.result ∷ []) ∙ ap (λ n. n + 1) c.loop.invariant.0,
       subst P (sym pushed) (one_more_list c.args.config.now 0 c.loop.lists.items c.new.result c.new.ensures.items c.loop.invariant.1),
     )
+
+pub loop-init : goal.loop-init
+loop-init c = search rules

@@ -18,3 +18,6 @@ returns c =
     let count : c.link_count-index-end.result ≡ link_count p.config = c.link_count-index-end.ensures.count ∙ ap link_count c.config-config.ensures in
     let last : c.loop-index.index ≡ c.link_count-index-end.result = omega arith in
     c.loop-index.invariant ∙ ap (λ (k : ℕ). c.args.text.now.items ++ flat_map (link_line p) (range_with_len 0 k)) (last ∙ count)
+
+pub loop-index-init : goal.loop-index-init
+loop-index-init c = search rules

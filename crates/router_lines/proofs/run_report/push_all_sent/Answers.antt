@@ -10,3 +10,9 @@ loop-index-preserved c =
     let wrote : c.push_sent.new.text.items ≡ c.loop-index.text.items ++ f c.loop-index.index = search rules in
     one_more_line f c.args.text.now.items c.loop-index.text.items c.push_sent.new.text.items (f c.loop-index.index) c.loop-index.index
     c.loop-index.invariant refl wrote
+
+pub loop-index-init : goal.loop-index-init
+loop-index-init c = search rules
+
+pub returns : goal.returns
+returns c = search rules

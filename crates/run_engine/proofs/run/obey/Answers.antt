@@ -13,3 +13,6 @@ pub returns-in-Err-push_no_command : goal.returns-in-Err-push_no_command
 returns-in-Err-push_no_command g c =
     let is : command_of c.args.line.now ≡ None = search rules in
     no_command_unwritten g.C.Control.closes (command_of c.args.line.now) c.args.router.now is
+
+pub returns-in-Ok : goal.returns-in-Ok
+returns-in-Ok g c = search rules

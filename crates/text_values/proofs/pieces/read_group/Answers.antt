@@ -1,3 +1,4 @@
+use Rattle.std.proofs.lemmas.Grind.{common_steps}
 use Rattle.std.proofs.Common.{◌≤◌, length, arith, rules}
 use Rattle.std.specs.Prelude.{slice_index, ◌≢◌}
 use Rattle.text_values.proofs.NumberLemmas.{group_read, group_refused}
@@ -14,3 +15,6 @@ returns-in-Err c =
     let few : length c.args.text.now ≤ 4 = omega arith in
     let other : slice_index c.args.text.now 0 ≢ 43 = search rules in
     group_refused c.args.text.now c.in-Err.ensures.value few other
+
+pub returns-then-is_empty : goal.returns-then-is_empty
+returns-then-is_empty c = grind (arith, common_steps)

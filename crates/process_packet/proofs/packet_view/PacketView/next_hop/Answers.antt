@@ -1,4 +1,4 @@
-use Rattle.std.proofs.Common.{◌≡◌, ◌≢◌, ◌+◌, ◌==◌, true, false, sym, ◌∙◌, arith}
+use Rattle.std.proofs.Common.{rules, ◌≡◌, ◌≢◌, ◌+◌, ◌==◌, true, false, sym, ◌∙◌, arith}
 use Rattle.std.proofs.lemmas.Bool.Decides.{Decides-eqb}
 use Rattle.scion_packet.specs.Path.{place_at}
 use Rattle.process_packet.proofs.LeavingLemmas.{another_follows, crosses, goes_on_within}
@@ -21,3 +21,6 @@ returns-else-is_last_of_segment-clause-number_fits c =
     let more : v.current.position + 1 ≢ v.current.hops = λ same. let no-way : true ≡ false = sym ((Decides-eqb _ _).1 same) ∙ other in absurd cc in
     let next = goes_on_within v.current on.segments (place_at v.current.segment v.current.position) on.whole on.lies more in
     omega (arith, next.number_fits)
+
+pub returns-else-is_last_of_segment-clause-next : goal.returns-else-is_last_of_segment-clause-next
+returns-else-is_last_of_segment-clause-next c = search rules

@@ -1,4 +1,4 @@
-use Rattle.std.proofs.Common.{◌≡◌, sym, ap, subst}
+use Rattle.std.proofs.Common.{rules, ◌≡◌, sym, ap, subst}
 use Rattle.ruled_pipe.specs.Gathered.{ends_in}
 use Rattle.router_stages.specs.Exits.{is_used}
 use Rattle.router_rules.specs.Links.{has_two_bands}
@@ -11,3 +11,6 @@ invariant_of-self g c =
     let s = c.self.inside in
     let done = subst (λ (w : Working g.row.G.Denot). IsDone w) (sym c.self.view_is) c.requires in
     keeps_ending g.N.Router.config s.from s.hand s.slow s.exits c.self.invariant (is_used (has_two_bands s.exits.config)) c.end-links.result c.end-slow.new.self c.end-links.new.self done c.end-slow.ensures.tried c.end-links.ensures.tried c.end-links.ensures.same
+
+pub returns : goal.returns
+returns g c = search rules

@@ -1,4 +1,4 @@
-use Rattle.std.proofs.Common.{sym, ap, subst, ◌∙◌, Option}
+use Rattle.std.proofs.Common.{rules, sym, ap, subst, ◌∙◌, Option}
 use Rattle.pipeline_laws.specs.Item.{Arrival}
 use Rattle.router_rules.specs.Rules.{kinds}
 use Rattle.packet_ledger.specs.Share.{HasRoom}
@@ -16,3 +16,6 @@ invariant_of-self-2 g c =
     let held = sym c.take.ensures.value ∙ c.in-Some.is in
     let kept = keeps_passed g.N.Router.config s.from s.hand s.slow s.exits c.self.invariant c.in-Some.packet c.pass_on.new.slow c.pass_on.new.self held c.pass_on.ensures.some c.pass_on.ensures.passed in
     subst (λ (h : Option (Arrival kinds)). KeepsWorking g.N.Router.config s.from h c.pass_on.new.slow c.pass_on.new.self) (sym c.take.ensures.after) kept
+
+pub returns : goal.returns
+returns g c = search rules

@@ -1,0 +1,5 @@
+use Rattle.std.proofs.Common.{rules}
+use Rattle.path_fields.proofs.reading.read_hop.Goals as goal
+
+pub returns : goal.returns
+returns c = search rules

@@ -1,0 +1,5 @@
+use Rattle.std.proofs.Common.{rules}
+use Rattle.pipe_model.proofs.state.State.is_over.Goals as goal
+
+pub returns-in-Processor : goal.returns-in-Processor
+returns-in-Processor c = search rules
