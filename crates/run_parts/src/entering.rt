@@ -75,6 +75,20 @@ impl<N: Router> Entering<N> {
     }
 }
 
+// What the next receiver shares with others, and its first buffer.
+fn begun(
+    alloc: Global,
+    shared: &Arc<Shared, Global>,
+    stop: &Arc<AtomicU64, Global>,
+) -> Result<(Arc<Shared, Global>, Arc<AtomicU64, Global>, Buffer), AllocError>
+    ensures { IfOk result (λ r. arc_value r.0 ≡ arc_value shared.now) }
+{
+    let shared = Arc::try_clone(shared)?;
+    let stop = Arc::try_clone(stop)?;
+    let first = Buffer::new(alloc)?;
+    Ok((shared, stop, first))
+}
+
 fn entering_at<N: Router>(
     alloc: Global,
     shared: &Arc<Shared, Global>,
@@ -93,10 +107,8 @@ fn entering_at<N: Router>(
     ensures config { IfOk result (λ e. (e.config ≡ (arc_value shared.now).config) × (e.link ≡ link)) }
     ensures processors { IfOk result (λ e. (p : ℕ) (shapes : List Shape) → bundle.ends ≡ fresh_ends p shapes → AreEndsOf p shapes (senders e.processors)) }
 {
-    let shared = Arc::try_clone(shared)?;
-    let stop = Arc::try_clone(stop)?;
-    let first = Buffer::new(alloc)?;
     let processors = wake(outlets(alloc, bundle)?, events.processors.as_slice(), 1)?;
+    let (shared, stop, first) = begun(alloc, shared, stop)?;
     Ok(Entering {
         shared,
         stop,

@@ -20,7 +20,9 @@ use router_ends::{Ends, outlets};
 use router_rules::{Shared, link_count};
 use router_stages::{Processor, SlowPath};
 use ruled_pipe::{Consumer, Pipe, Producer};
-use stage_parts::{Buffer, EgressPacket, Gate, Inlet, Outlet, Packet, Router, SlowPathRequest};
+use stage_parts::{
+    Buffer, EgressPacket, Event, Gate, Inlet, Outlet, Packet, Router, SlowPathRequest,
+};
 use std::alloc::{AllocError, Global};
 use std::marker::Model;
 use std::sync::{Arc, Wait};
@@ -68,6 +70,20 @@ fn next_ways<N: Router>(
     })
 }
 
+// What the next processor shares with others, and the slow path's event.
+fn clones<G: Drop>(
+    shared: &Arc<Shared, Global>,
+    gate: &Arc<G, Global>,
+    events: &Events,
+) -> Result<(Arc<Shared, Global>, Arc<G, Global>, Event), AllocError>
+    ensures { IfOk result (λ r. arc_value r.0 ≡ arc_value shared.now) }
+{
+    let shared = Arc::try_clone(shared)?;
+    let gate = Arc::try_clone(gate)?;
+    let event = events.slow.another()?;
+    Ok((shared, gate, event))
+}
+
 fn processor_at<N: Router, G: Gate + Drop, R: Wait + Copy>(
     rt: R,
     shared: &Arc<Shared, Global>,
@@ -87,9 +103,7 @@ fn processor_at<N: Router, G: Gate + Drop, R: Wait + Copy>(
     ensures ends { IfOk result (λ w. (w.taker ≡ taker) × (w.slow.sender ≡ asking) × (w.side.links ≡ ways.links)) }
     ensures fresh { IfOk result (λ w. AreFresh w.side.links) }
 {
-    let shared = Arc::try_clone(shared)?;
-    let gate = Arc::try_clone(gate)?;
-    let event = events.slow.another()?;
+    let (shared, gate, event) = clones(shared, gate, events)?;
     let Ways { links, free, share } = ways;
     let from = Inlet::of(taker, producers);
     let mut slow = Outlet::of(asking);
@@ -131,12 +145,12 @@ fn processors_of<N: Router, G: Gate + Drop, R: Wait + Copy>(
     let mut takers = Line::of(takers);
     let mut asking = Line::of(asking);
     for index in 0..count {
-        let taker = takers.next();
-        let slow = asking.next();
         let bundle = links.next();
         let back = free.next();
         let share = shares.next();
         let ways = next_ways(alloc, bundle, back, share, events)?;
+        let taker = takers.next();
+        let slow = asking.next();
         made.push_reserved(processor_at(
             rt,
             shared,

@@ -6,6 +6,7 @@ ghost use Rattle.run_laws.specs.Crew.{IsTakerOf};
 ghost use Rattle.run_parts.specs.Dealing.{AreFree, IsDealing, IsNewEnd};
 ghost use Rattle.run_parts.specs.Rest.{IsRest};
 
+use crate::results::both;
 use router_ends::{Dealt, Ends, Opened, deal, open_pipes, take_last};
 use router_rules::{Shared, link_count};
 use ruled_pipe::{Consumer, Pipe, Producer};
@@ -182,10 +183,9 @@ pub fn all_pipes<N: Router, R: Wait>(
     ensures outer { IfOk result (λ a. IsDealing (shared.now.config.processors + 2) (2 * link_count shared.now.config) a.pipes.outer.items a.pipes.outer_rooms.items a.egress_packets.items a.to_links.items) }
     ensures free { IfOk result (λ a. AreFree shared.now.config a.free.takers.items a.free.bundles.items) }
 {
-    let inner = inner_pipes(alloc, shared)?;
-    let (middle, asking, asked) = middle_pipe(alloc, shared)?;
-    let outer = outer_pipes(alloc, shared)?;
     let free = free_pipes(rt, alloc, shared)?;
+    let (middle, asking, asked) = middle_pipe(alloc, shared)?;
+    let (inner, outer) = both(inner_pipes(alloc, shared), outer_pipes(alloc, shared))?;
     Ok(AllPipes {
         pipes: Pipes {
             inner: inner.pipes,

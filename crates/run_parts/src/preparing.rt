@@ -39,14 +39,15 @@ fn thread_setup_for<N: Router, W: Work<N> + Drop>(
     ensures workers { IfOk result (λ d. (d.workers.items ≡ []) × (vec_capacity d.workers ≡ count)) }
     ensures room { IfOk result (λ d. (d.room.items ≡ []) × (vec_capacity d.room ≡ count)) }
 {
-    let workers = Vec::<W>::with_capacity(alloc, count)?;
     let mut each = Vec::new(alloc);
     for k in 0..count {
-        each.push(match events.get(k) {
-            Some(event) => orders.another_with(event)?,
-            None => orders.another()?,
-        })?;
+        let next = match events.get(k) {
+            Some(event) => orders.another_with(event),
+            None => orders.another(),
+        };
+        each.push(next?)?;
     }
+    let workers = Vec::<W>::with_capacity(alloc, count)?;
     let room = Vec::<Handle<N, W>>::with_capacity(alloc, count)?;
     Ok(ThreadSetup {
         workers,
@@ -95,14 +96,17 @@ where
         slow,
         forwarders: ends,
     } = events;
-    let receivers = thread_setup_for(alloc, orders, &[], links)?;
-    let working = thread_setup_for(alloc, orders, each.as_slice(), processors)?;
-    let answering = thread_setup_for(alloc, orders, &[slow], 1)?;
-    let forwarders = thread_setup_for(alloc, orders, ends.as_slice(), links)?;
+    let receivers = thread_setup_for(alloc, orders, &[], links);
+    let forwarders = thread_setup_for(alloc, orders, ends.as_slice(), links);
+    let working = thread_setup_for(alloc, orders, each.as_slice(), processors);
+    let answering = thread_setup_for(alloc, orders, &[slow], 1);
+    let edges = both(receivers, forwarders);
+    let middle = both(working, answering);
+    let ((receivers, forwarders), (processors, slow)) = both(edges, middle)?;
     Ok(ThreadSetups {
         receivers,
-        processors: working,
-        slow: answering,
+        processors,
+        slow,
         forwarders,
         forwarder_events: ends,
     })
@@ -133,11 +137,11 @@ fn common_for<N: Router>(
     ensures shares { IfOk result (λ c. AreNewShares (2 * link_count config + config.processors + 1) c.shares.items) }
 {
     let processors = usize::from(config.processors);
-    let events = events_for(alloc, links, processors)?;
+    let shared = Arc::new(alloc, Shared::new(config))?;
     let word = Arc::new(alloc, AtomicU64::new(HOLD))?;
     let (book, shares) = book_for(alloc, blank, links, processors)?;
     let book = Arc::new(alloc, book)?;
-    let shared = Arc::new(alloc, Shared::new(config))?;
+    let events = events_for(alloc, links, processors)?;
     Ok(Common {
         shared,
         word,

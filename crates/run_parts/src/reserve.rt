@@ -1,6 +1,6 @@
 //! Room for all that comes back, taken before the first thread is made.
 
-ghost use Rattle.std.specs.Prelude.{◌≡◌, ◌≤◌, ◌+◌, ◌*◌, IfOk, length};
+ghost use Rattle.std.specs.Prelude.{◌≡◌, ◌≤◌, ◌+◌, ◌*◌, IfOk, [], length, vec_capacity};
 ghost use Rattle.pipeline_laws.specs.Deeds.{Each};
 ghost use Rattle.run_parts.specs.Room.{HaveWorkerSlots, HaveSpace, IsRoomy};
 
@@ -111,6 +111,64 @@ where
     })
 }
 
+// Room for the ends of the pipes of one kind: a row for each worker, their bundles, and the consumers.
+#[derive(Drop)]
+struct EndsSpace<T> {
+    rows: Vec<Ends<T>>,
+    bundles: Vec<Ends<T>>,
+    takers: Vec<Consumer<T>>,
+}
+
+fn ends_space_for<T: Drop>(
+    alloc: Global,
+    workers: usize,
+    pipes: usize,
+) -> Result<EndsSpace<T>, AllocError>
+    ensures rows { IfOk result (λ s. Each (IsRoomy pipes) s.rows.items × (length s.rows.items ≡ workers)) }
+    ensures bundles { IfOk result (λ s. (s.bundles.items ≡ []) × (vec_capacity s.bundles ≡ workers)) }
+    ensures takers { IfOk result (λ s. (s.takers.items ≡ []) × (vec_capacity s.takers ≡ pipes)) }
+{
+    let rows = rows_of(alloc, workers, pipes)?;
+    let bundles = Vec::<Ends<T>>::with_capacity(alloc, workers)?;
+    let takers = Vec::<Consumer<T>>::with_capacity(alloc, pipes)?;
+    Ok(EndsSpace {
+        rows,
+        bundles,
+        takers,
+    })
+}
+
+// Room for the shares, for what each link sent, and for the devices.
+#[derive(Drop)]
+struct ReportSpace<N: Router, S, K> {
+    shares: Vec<Share<N>>,
+    sent: Vec<u128>,
+    sources: Vec<S>,
+    sinks: Vec<K>,
+}
+
+fn report_space_for<N: Router, S: Drop, K: Drop>(
+    alloc: Global,
+    links: usize,
+    workers: usize,
+) -> Result<ReportSpace<N, S, K>, AllocError>
+    ensures shares { IfOk result (λ s. (s.shares.items ≡ []) × (vec_capacity s.shares ≡ workers)) }
+    ensures sent { IfOk result (λ s. (s.sent.items ≡ []) × (vec_capacity s.sent ≡ links)) }
+    ensures sources { IfOk result (λ s. (s.sources.items ≡ []) × (vec_capacity s.sources ≡ links)) }
+    ensures sinks { IfOk result (λ s. (s.sinks.items ≡ []) × (vec_capacity s.sinks ≡ links)) }
+{
+    let sent = Vec::<u128>::with_capacity(alloc, links)?;
+    let shares = Vec::<Share<N>>::with_capacity(alloc, workers)?;
+    let sources = Vec::<S>::with_capacity(alloc, links)?;
+    let sinks = Vec::<K>::with_capacity(alloc, links)?;
+    Ok(ReportSpace {
+        shares,
+        sent,
+        sources,
+        sinks,
+    })
+}
+
 /// Room for all else of such a router.
 pub fn space_for<N: Router, S: Drop, K: Drop>(
     alloc: Global,
@@ -120,28 +178,21 @@ pub fn space_for<N: Router, S: Drop, K: Drop>(
     requires few { (links ≤ 33) × (processors ≤ 16) }
     ensures { IfOk result (λ r. HaveSpace links processors r) }
 {
-    let inner_rows = rows_of(alloc, links, processors)?;
-    let inner_bundles = Vec::<Ends<Packet<N>>>::with_capacity(alloc, links)?;
-    let inner_takers = Vec::<Consumer<Packet<N>>>::with_capacity(alloc, processors)?;
+    let report = report_space_for(alloc, links, 2 * links + processors + 1)?;
     let middle_row = Ends::with_room(alloc, processors)?;
-    let outer_rows = rows_of(alloc, processors + 2, 2 * links)?;
-    let outer_bundles = Vec::<Ends<EgressPacket<N>>>::with_capacity(alloc, processors + 2)?;
-    let outer_takers = Vec::<Consumer<EgressPacket<N>>>::with_capacity(alloc, 2 * links)?;
-    let shares = Vec::<Share<N>>::with_capacity(alloc, 2 * links + processors + 1)?;
-    let sent = Vec::<u128>::with_capacity(alloc, links)?;
-    let sources = Vec::<S>::with_capacity(alloc, links)?;
-    let sinks = Vec::<K>::with_capacity(alloc, links)?;
+    let inner = ends_space_for(alloc, links, processors)?;
+    let outer = ends_space_for(alloc, processors + 2, 2 * links)?;
     Ok(Space {
-        inner_rows,
-        inner_bundles,
-        inner_takers,
+        inner_rows: inner.rows,
+        inner_bundles: inner.bundles,
+        inner_takers: inner.takers,
         middle_row,
-        outer_rows,
-        outer_bundles,
-        outer_takers,
-        shares,
-        sent,
-        sources,
-        sinks,
+        outer_rows: outer.rows,
+        outer_bundles: outer.bundles,
+        outer_takers: outer.takers,
+        shares: report.shares,
+        sent: report.sent,
+        sources: report.sources,
+        sinks: report.sinks,
     })
 }
