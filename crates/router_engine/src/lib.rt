@@ -5,20 +5,8 @@
 mod answers;
 mod fault;
 mod lines;
-#[cfg(test)]
-mod malicious_tests;
 mod replay;
-#[cfg(test)]
-mod replay_tests;
 mod route;
-#[cfg(test)]
-mod rows;
-#[cfg(test)]
-mod schedules;
-#[cfg(test)]
-mod tests;
-#[cfg(test)]
-mod worked_tests;
 
 pub use answers::answer_line;
 pub use fault::LinesFault;

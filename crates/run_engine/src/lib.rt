@@ -5,8 +5,6 @@
 mod control;
 mod fault;
 mod run;
-#[cfg(test)]
-mod tests;
 
 pub use control::{Control, Figures};
 pub use fault::RunFault;

@@ -1,9 +1,9 @@
 //! The engine of `route` over readers and writers in memory: lines, and devices that fail.
-use crate::fault::LinesFault;
-use crate::route::route_lines;
+use crate::calls::count_call;
 use crate::rows::{LONG_ANSWER, LONG_HEADER};
 use process_packet::{Config, Ip, Underlay};
 use router_config::{ConfigFault, read_config};
+use router_engine::{LinesFault, route_lines};
 use router_lines::ArrivalContext;
 use sample_packets::{CONFIGURATION, IN_TIME};
 use std::alloc::Global;
@@ -153,20 +153,9 @@ pub struct FailsAt {
     pub bytes: Vec<u8>,
 }
 
-impl FailsAt {
-    /// Counts a call, and fails where it is the one.
-    fn call(&mut self) -> io::Result<()> {
-        if self.left == 0 {
-            return Err(io::Error::from(io::ErrorKind::BrokenPipe));
-        }
-        self.left -= 1;
-        Ok(())
-    }
-}
-
 impl Read for FailsAt {
     fn read(&mut self, buf: &mut [u8]) -> io::Result<usize> {
-        self.call()?;
+        count_call(&mut self.left)?;
         match (buf.first_mut(), self.bytes.pop()) {
             (Some(first), Some(byte)) => {
                 *first = byte;
@@ -179,7 +168,7 @@ impl Read for FailsAt {
 
 impl Write for FailsAt {
     fn write(&mut self, buf: &[u8]) -> io::Result<usize> {
-        self.call()?;
+        count_call(&mut self.left)?;
         match buf.first() {
             Some(byte) => {
                 self.bytes.push(*byte)?;
@@ -190,7 +179,7 @@ impl Write for FailsAt {
     }
 
     fn flush(&mut self) -> io::Result<()> {
-        self.call()
+        count_call(&mut self.left)
     }
 }
 

@@ -1,6 +1,6 @@
 //! The engine of `route` over worked datagrams.
+use crate::route::{answers_datagram, push_hex};
 use crate::rows::ROWS;
-use crate::tests::{answers_datagram, push_hex};
 use process_packet::Config;
 use router_config::{read_config, read_underlay};
 use router_lines::{ArrivalContext, usual_source};

@@ -1,11 +1,10 @@
 //! The engine of `replay` over readers and writers in memory: worked schedules, each kind of line, and
 //! what is refused.
-use crate::fault::LinesFault;
-use crate::replay::replay_lines;
+use crate::route::{FailsAt, push_hex};
 use crate::schedules::{BANDED, SCHEDULES, Schedule, TWO_BANDS, USUAL};
-use crate::tests::{FailsAt, push_hex};
 use process_packet::Config;
 use router_config::{ConfigFault, read_config};
+use router_engine::{LinesFault, replay_lines};
 use sample_packets::FIRST;
 use std::alloc::{AllocError, Global};
 use std::io;

@@ -1,7 +1,10 @@
-use super::{Control, Figures, run_lines};
+//! The engine of `run` over readers and writers in memory, and over a router that is made for it.
+
+use crate::calls::count_call;
 use process_packet::Totals;
 use router_engine::LinesFault;
 use router_lines::Closing;
+use run_engine::{Control, Figures, run_lines};
 use std::alloc::{AllocError, Global};
 use std::io::{self, Read, Write};
 use std::test::*;
@@ -100,20 +103,9 @@ struct FailsAt<'a> {
     bytes: Vec<u8>,
 }
 
-impl FailsAt<'_> {
-    /// Counts a call, and fails where it is the one.
-    fn call(&mut self) -> io::Result<()> {
-        if self.left == 0 {
-            return Err(io::Error::from(io::ErrorKind::BrokenPipe));
-        }
-        self.left -= 1;
-        Ok(())
-    }
-}
-
 impl Read for FailsAt<'_> {
     fn read(&mut self, buf: &mut [u8]) -> io::Result<usize> {
-        self.call()?;
+        count_call(&mut self.left)?;
         match (buf.first_mut(), self.input.split_first()) {
             (Some(first), Some((byte, rest))) => {
                 *first = *byte;
@@ -127,7 +119,7 @@ impl Read for FailsAt<'_> {
 
 impl Write for FailsAt<'_> {
     fn write(&mut self, buf: &[u8]) -> io::Result<usize> {
-        self.call()?;
+        count_call(&mut self.left)?;
         match buf.first() {
             Some(byte) => {
                 self.bytes.push(*byte)?;
@@ -138,7 +130,7 @@ impl Write for FailsAt<'_> {
     }
 
     fn flush(&mut self) -> io::Result<()> {
-        self.call()
+        count_call(&mut self.left)
     }
 }
 

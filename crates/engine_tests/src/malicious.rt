@@ -1,5 +1,5 @@
 //! The engine of `route` over malicious datagrams: each cut of a good one, and each with one byte changed.
-use crate::tests::{ARRIVING, answers_datagram};
+use crate::route::{ARRIVING, answers_datagram};
 use path_fields::read_path;
 use process_packet::Config;
 use router_config::read_config;
