@@ -11,8 +11,6 @@ mod outgoing;
 mod places;
 mod ports;
 mod shared;
-#[cfg(test)]
-mod tests;
 mod worker;
 mod worker_index;
 

@@ -16,8 +16,6 @@ mod request;
 mod router;
 mod sink;
 mod source;
-#[cfg(test)]
-mod tests;
 
 pub use buffer::{BUFFER_LEN, Buffer};
 pub use egress_packet::EgressPacket;

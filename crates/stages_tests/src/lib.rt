@@ -1,10 +1,14 @@
-//! Tests of the workers by turns, over a configuration that is read from its text. Nothing here runs in
-//! the router.
+//! Tests of the workers by turns, over a configuration that is read from its text, of their parts, and of
+//! the rules that they follow. Nothing here runs in the router.
 #![tactic(auto)]
 
 #[cfg(test)]
+mod devices;
+#[cfg(test)]
 mod ends;
 mod letters;
+#[cfg(test)]
+mod rules;
 #[cfg(test)]
 mod run;
 #[cfg(test)]

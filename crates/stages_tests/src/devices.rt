@@ -1,9 +1,13 @@
+//! Devices over lists, and the end mark of a pipe.
+
 ghost use Rattle.std.specs.Prelude.{◌≡◌, []};
 
-use super::{BUFFER_LEN, Buffer, Inlet, ListSink, ListSource, Next, NextLen, Outlet, Sink, Source};
 use process_packet::{Ip, LONGEST_DATAGRAM, Underlay};
 use router_rules::Outgoing;
 use ruled_pipe::{Consumer, Load, Mark, Pipe, Producer};
+use stage_parts::{
+    BUFFER_LEN, Buffer, Inlet, ListSink, ListSource, Next, NextLen, Outlet, Sink, Source,
+};
 use std::alloc::{AllocError, Global};
 use std::sync::Wait;
 use std::test::*;

@@ -1,11 +1,13 @@
+//! The rules' links, workers and pipes, of a configuration that is made by hand.
+
 ghost use Rattle.std.specs.Prelude.{◌≡◌};
 
-use crate::{
+use cmac_core::Cmac;
+use process_packet::{Bands, Cause, Config, Ip, LONGEST_DATAGRAM, Link, Underlay};
+use router_rules::{
     Ports, Queue, QueueIndex, Shared, Worker, WorkerIndex, has_two_bands, inspect, interface_at,
     is_urgent, link_count, link_index, link_pipe, processor_or_fault, seat_count, slow_seat,
 };
-use cmac_core::Cmac;
-use process_packet::{Bands, Cause, Config, Ip, LONGEST_DATAGRAM, Link, Underlay};
 use segment_switch::LinkKind;
 use std::alloc::{AllocError, Global};
 use std::test::*;
