@@ -12,8 +12,6 @@ mod laws;
 mod marking;
 mod opened;
 mod shutter;
-#[cfg(test)]
-mod tests;
 
 pub use dealing::{Dealt, deal};
 pub use ends::{Ends, last_row};

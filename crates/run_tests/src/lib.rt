@@ -1,4 +1,5 @@
-//! Tests of the running router over memory. Nothing here runs in the router.
+//! Tests of the running router over memory, and of what its threads and the ends of its pipes are made of.
+//! Nothing here runs in the router.
 #![tactic(auto)]
 
 #[cfg(test)]
@@ -7,6 +8,8 @@ mod closing;
 mod cued;
 #[cfg(test)]
 mod cues;
+#[cfg(test)]
+mod dealing;
 #[cfg(test)]
 mod devices;
 #[cfg(test)]
@@ -24,5 +27,7 @@ mod pool;
 mod reports;
 #[cfg(test)]
 mod routers;
+#[cfg(test)]
+mod threads;
 
 pub use reports::sent_by;

@@ -9,8 +9,6 @@ mod processor;
 mod receiver;
 mod slow_path;
 mod starting;
-#[cfg(test)]
-mod tests;
 mod thread;
 mod work;
 

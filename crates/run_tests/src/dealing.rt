@@ -1,6 +1,8 @@
+//! Ends of pipes, dealt to workers.
+
 ghost use Rattle.std.specs.Prelude.{◌≡◌};
 
-use super::{Dealt, Ends, Opened, deal, open_pipes, take_last};
+use router_ends::{Dealt, Ends, Opened, deal, open_pipes, take_last};
 use std::alloc::{AllocError, Global};
 use std::test::*;
 

@@ -2,7 +2,6 @@
 
 ghost use Rattle.std.specs.Prelude.{◌≡◌, ◌≤◌, [], IfOk, length, vec_capacity};
 
-use crate::{HOLD, Handle, Orders, Team, Work, join_all, start_both, start_four};
 use packet_ledger::{Blank, Book, Ledger, Share};
 use router_stages::Turn;
 use ruled_pipe::{Load, Pipe};
@@ -14,6 +13,7 @@ use std::sync::{Arc, Wait};
 use std::test::*;
 use std::thread::Threads;
 use std::time::Clock;
+use worker_threads::{HOLD, Handle, Orders, Team, Work, join_all, start_both, start_four};
 
 // It counts so many as received, one in a turn, is quiet so often, and has ended.
 #[derive(Drop)]
