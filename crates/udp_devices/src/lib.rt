@@ -8,8 +8,6 @@ mod address;
 mod binding;
 mod ends;
 mod readiness;
-#[cfg(test)]
-mod tests;
 mod udp_sink;
 mod udp_source;
 

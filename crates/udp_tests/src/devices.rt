@@ -1,9 +1,11 @@
-use super::{Ends, UdpSink, UdpSource, open_link};
+//! Sources and sinks on sockets of this machine.
+
 use process_packet::{Ip, Underlay};
 use router_rules::Outgoing;
 use stage_parts::{BUFFER_LEN, NextLen, Sink, Source};
 use std::test::*;
 use std::time::Clock;
+use udp_devices::{Ends, UdpSink, UdpSource, open_link};
 
 /// An end at an address of this machine alone, at a port that the system picks.
 const HERE: Ends = Ends {
