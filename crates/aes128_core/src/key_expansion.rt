@@ -9,7 +9,7 @@ use crate::tables::ROUND_CONSTANTS;
 
 // What is added to word `i - 4` to give word `i`, from the word before it. At each fourth word that
 // is the word before, turned (RotWord) and taken through the S-box (SubWord), plus a round constant,
-// which stands in the first row.
+// which is in the first row.
 #[tactic(auto, using(crate::proofs::TableRules::x_power_at), unfolding(crate::specs::KeyExpansion::word_change))]
 fn word_change(i: usize, before: u32) -> u32
     requires { (0 < i) × (i < 44) }

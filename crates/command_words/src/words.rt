@@ -20,10 +20,10 @@ use thiserror::Error;
 /// The last second since 1970 that `--now` takes.
 const LAST_SECOND: u64 = 1099511627775;
 
-/// What is told of `--config`.
+/// The help of `--config`.
 const CONFIG_HELP: &str = "The border router's configuration, as TOML";
 
-/// What is told of the orders that take a configuration alone.
+/// The help of the commands that take a configuration alone.
 const REPLAY_ABOUT: &str =
     "Makes the steps of the pipeline that the standard input lists, and reports";
 

@@ -31,7 +31,7 @@ fn turn(config: &Config, arrived: &Arrived, bytes: &mut [u8]) -> u64 {
     Told::of(decision).sum()
 }
 
-/// Decides each datagram `rounds` times, and gives a sum of all that is told. The bytes are then as
+/// Decides each datagram `rounds` times, and gives a sum over all decisions. The bytes are then as
 /// they were, where `arrived` says so. Without memory it is 0.
 #[unsafe(no_mangle)]
 pub extern "C" fn decision_bench_rounds(

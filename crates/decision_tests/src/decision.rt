@@ -26,8 +26,8 @@ const CAUSES: [Cause; 18] = [
     Cause::NoBuffer,
 ];
 
-/// How many causes, from the first one on, have their places for numbers, and whose drops are told by
-/// these totals.
+/// How many causes, from the first one on, have their places for numbers, and whose drops these
+/// totals count.
 fn causes_in_order(totals: &Totals) -> u8 {
     let mut place = 0u8;
     for cause in CAUSES {
@@ -54,7 +54,7 @@ fn numbers_each_cause_and_tells_its_drops(rt: HostRuntime) {
     assert_eq!(rt; causes_in_order(&totals), 18);
 }
 
-/// The request that stands in the bytes after the header of an SCMP message.
+/// The request that is in the bytes after the header of an SCMP message.
 fn request_in(message: &[u8]) -> Option<(u16, u16)> {
     match scion_header::read_header(&with_bytes(FIRST, 4, &[202])) {
         Ok(header) => trace_request(&header, message),

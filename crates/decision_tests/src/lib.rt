@@ -1,5 +1,5 @@
 //! Tests of the decision and of the answers, by the public functions of `process_packet` and `scmp_answer`.
-//! They stand apart from these crates, each of which would be proved a second time for its tests.
+//! They are kept apart from these crates, each of which would be proved a second time for its tests.
 #![tactic(auto)]
 
 #[cfg(test)]

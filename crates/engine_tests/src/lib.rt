@@ -1,4 +1,4 @@
-//! Tests of the engines of the router's commands, over readers and writers in memory. They stand apart from
+//! Tests of the engines of the router's commands, over readers and writers in memory. They are kept apart from
 //! these crates, each of which would be proved a second time for its tests.
 #![tactic(auto)]
 

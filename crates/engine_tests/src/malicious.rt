@@ -71,7 +71,7 @@ fn reads_back(answer: &[u8]) -> bool {
     }
 }
 
-/// Whether these digits are those of an answer that reads back, which stands in its place then.
+/// Whether these digits are those of an answer that reads back, which is in its place then.
 fn reads_back_from(digits: &[u8], answer: &mut Vec<u8>) -> bool {
     answer.clear();
     if answer.resize(digits.len() / 2, 0).is_err() {

@@ -20,7 +20,7 @@ pub const ARRIVING: ArrivalContext = ArrivalContext {
     moment: IN_TIME,
 };
 
-/// Whether the engine reads the whole text; what it writes stands in the line then.
+/// Whether the engine reads the whole text; what it writes is in the line then.
 pub fn answers(
     alloc: Global,
     config: &Config,
@@ -33,7 +33,7 @@ pub fn answers(
     route_lines(alloc, config, arriving, &mut reader, line).is_ok()
 }
 
-/// The same of a datagram as a line of hex, which stands in the text then.
+/// The same of a datagram as a line of hex, which is in the text then.
 pub fn answers_datagram(
     alloc: Global,
     config: &Config,

@@ -5,7 +5,7 @@
 /// line begins; and what the bytes there have in place of its own where it is sent, and in place of the
 /// usual answer's where it is answered.
 ///
-/// Bytes are told as `offset=hex`. A datagram that is longer than the first one ends in zeros.
+/// Bytes are given as `offset=hex`. A datagram that is longer than the first one ends in zeros.
 pub const ROWS: &str = "\
 along a segment; 1; 1694499816; -; 92;; send 2 -; 36=02 42=1c52\n\
 against a segment; 2; 1694499816; -; 92; 40=00001c52; send 1 -; 36=02 42=1234\n\

@@ -134,7 +134,7 @@ impl Write for FailsAt<'_> {
     }
 }
 
-/// Whether a reader that fails at this call is told, no report is written, and what is written is a beginning.
+/// Whether a reader that fails at this call is reported, no report is written, and what is written is a beginning.
 fn tells_of_its_reader(alloc: Global, left: u64) -> io::Result<bool> {
     let bytes = Vec::new(alloc);
     let fails = FailsAt {
@@ -152,7 +152,7 @@ fn tells_of_its_reader(alloc: Global, left: u64) -> io::Result<bool> {
     Ok(result == Ok(()) && writer.as_slice().starts_with(whole))
 }
 
-/// Whether a writer that fails at this call is told, and what is written is a beginning.
+/// Whether a writer that fails at this call is reported, and what is written is a beginning.
 fn tells_of_its_writer(alloc: Global, left: u64) -> io::Result<bool> {
     let mut reader = INPUT;
     let mut writer = FailsAt {

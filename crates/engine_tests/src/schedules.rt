@@ -6,7 +6,7 @@ pub struct Schedule {
     pub name: &'static str,
     /// The configuration from its version on, up to its links.
     pub sizes: &'static str,
-    /// What is told of the bands of the links 1, 2 and 3.
+    /// What the configuration says of the bands of the links 1, 2 and 3.
     pub bands: [&'static str; 3],
     /// The lines that tell what arrives, each datagram by its first four bytes, after which it is the first datagram.
     pub arrivals: &'static str,

@@ -1,4 +1,4 @@
-//! Fields of bits as rows of bytes: the words in which every format of the router is told, reads and
+//! Fields of bits as rows of bytes: the words in which every format of the router is written, reads and
 //! writes of numbers at a place, and the laws of tables. It knows nothing of SCION.
 #![tactic(auto)]
 

@@ -29,7 +29,7 @@ fn write_mac(key: &Cmac, segment_id: u16, timestamp: u32, hop: &mut Hop) -> u16
     chain(segment_id, &mac)
 }
 
-/// Writes the MACs of a segment's hop fields, which stand in the direction of construction, each with
+/// Writes the MACs of a segment's hop fields, which are in the direction of construction, each with
 /// the key of its AS. The first is made for the identifier `beta`, each other one for the identifier
 /// chained by the MAC before it (draft-dekater-scion-dataplane, "Hop Field MAC Computation").
 ///

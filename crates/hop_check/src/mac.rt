@@ -25,7 +25,7 @@ pub fn mac_input(info: &Info, hop: &Hop) -> [u8; 16]
 }
 
 /// Whether all six bytes of the hop field's MAC are those that the AS's key gives for the segment's
-/// identifier as it stands in the info field.
+/// identifier as it is in the info field.
 #[inline(always)]
 pub fn verify(cmac: &Cmac, info: &Info, hop: &Hop) -> bool
     ensures { result ≡ is_authentic cmac.now (info_field info.now) (hop_field hop.now) }

@@ -39,7 +39,7 @@ given parts counts v = holder parts (plus v.posted counts)
 abbrev pub joined : View → View → View
 joined v w = record { keeps = v.keeps; parts = v.parts + w.parts; posted = plus v.posted w.posted; booked = v.booked }
 
--- a token with so many parts more, and so much posted
+-- a token with a number of further parts, and the sum of what was posted
 abbrev pub gathered : ℕ → Totals → View → View
 gathered parts posted v = record { keeps = v.keeps; parts = v.parts + parts; posted = posted; booked = v.booked }
 

@@ -96,7 +96,7 @@ fn refuses_what_is_no_header(rt: HostRuntime) {
 
 #[test]
 fn finds_the_upper_layer(rt: HostRuntime) {
-    // the protocol after the header, what stands there, the upper layer's protocol and place if there
+    // the protocol after the header, what is there, the upper layer's protocol and place if there
     // is one, and what it is
     let layers = [
         (17, b"".as_slice(), Some((17, 0)), Upper::Other),

@@ -1,5 +1,5 @@
 //! Tests of the crates below the decision: of the fields, the ciphers, the header, the path, the rules of
-//! one hop and the flow, all by their public functions. They stand apart from these crates, each of which
+//! one hop and the flow, all by their public functions. They are kept apart from these crates, each of which
 //! would be proved a second time for its tests.
 #![tactic(auto)]
 

@@ -5,7 +5,7 @@ pub const UDP: u8 = 17;
 
 pub const SCMP: u8 = 202;
 
-/// The number in so many bytes from a place on, if they are there.
+/// The number in a run of bytes from an offset on, if all of them are there.
 pub fn number_at(bytes: &[u8], at: usize, len: usize) -> Option<u64> {
     let rest = bytes.get(at..)?;
     let digits = rest.get(..len)?;

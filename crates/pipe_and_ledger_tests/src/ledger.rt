@@ -43,7 +43,7 @@ fn two_shares<L: Ledger, R: Wait>(
     Ok(Some((left, book.close(rt, shares))))
 }
 
-// Counts so many as received, where there is room.
+// Counts a number of datagrams as received, where there is room.
 fn receive<L: Ledger>(share: &mut Share<L>, n: u32) {
     for _ in 0..n {
         if share.has_room() {

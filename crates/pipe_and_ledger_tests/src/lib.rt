@@ -1,4 +1,4 @@
-//! Tests of what threads share, the pipe and the ledger, by their public functions. They stand apart from
+//! Tests of what threads share, the pipe and the ledger, by their public functions. They are kept apart from
 //! these crates, each of which would be proved a second time for its tests.
 #![tactic(auto)]
 

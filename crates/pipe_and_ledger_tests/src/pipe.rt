@@ -424,7 +424,7 @@ fn three_producers(rt: HostRuntime) -> Result<(), Fail> {
     Ok(())
 }
 
-// Offers so many, and says whether none was refused.
+// Offers a number of items, and says whether none was refused.
 fn all_fit<R: Wait>(rt: &R, producer: &mut Producer<u32>, count: u32) -> bool {
     for i in 0..count {
         if producer.offer(rt, i).is_err() {

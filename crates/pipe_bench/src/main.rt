@@ -33,7 +33,7 @@ enum Kind {
     Buffer,
 }
 
-// Waits until so many threads have come, so that they run side by side from the first item on.
+// Waits until all threads have come, so that they run side by side from the first item on.
 fn meet<R: Wait>(rt: &R, come: &AtomicUsize, count: usize) {
     come.fetch_add(1, Ordering::SeqCst);
     for _ in rt.forever() {
@@ -78,7 +78,7 @@ fn take_one<T: Drop, R: Wait>(rt: &R, consumer: &mut Consumer<T>) -> Option<T> {
     unreachable!()
 }
 
-// Takes so many, and keeps them.
+// Takes a number of items, and keeps them.
 fn take_all<T: Drop, R: Wait>(
     rt: &R,
     consumer: &mut Consumer<T>,
@@ -93,7 +93,7 @@ fn take_all<T: Drop, R: Wait>(
     Ok(())
 }
 
-// Moves so many of the items to a list of their own.
+// Moves a number of the items to a list of their own.
 fn split_off<T: Drop>(
     alloc: Global,
     items: &mut Vec<T>,
@@ -108,7 +108,7 @@ fn split_off<T: Drop>(
     Ok(split)
 }
 
-// Starts a thread that offers so many of the items, once so many threads have come.
+// Starts a thread that offers a number of the items, once all threads have come.
 fn start_one<T, R>(
     rt: R,
     alloc: Global,
@@ -153,7 +153,7 @@ where
     Ok(children)
 }
 
-// Takes so many, once so many threads have come, and gives the nanoseconds that it took.
+// Takes a number of items, once all threads have come, and gives the nanoseconds that it took.
 fn take_timed<T, R>(
     rt: &R,
     consumer: &mut Consumer<T>,

@@ -89,7 +89,7 @@ const WITHOUT_MEMORY: [(Step, Result<(), StepFault>); 8] = [
     (Step::Lack(PROCESSOR), NOT),
 ];
 
-/// A link is closed, and what stands after the mark is swept.
+/// A link is closed, and what comes after the mark is swept.
 const CLOSED: [(Step, Result<(), StepFault>); 13] = [
     (Step::CloseMark(TO_PROCESSOR), NOT),
     (Step::CloseMark(BACK), DONE),

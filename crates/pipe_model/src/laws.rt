@@ -1,4 +1,4 @@
-//! What is told of all runs: nothing here runs.
+//! Laws of all runs; nothing here runs.
 
 ghost use Rattle.pipe_model.specs.Headline.{ArrivalsStay};
 

@@ -1,4 +1,4 @@
-//! Where a packet is: the first of the places at which it stands.
+//! Where a packet is: the first of the places at which it is.
 
 ghost use Rattle.std.specs.List.{flat_map};
 ghost use Rattle.std.specs.Prelude.{◌≡◌, ◌≤◌, Some, option_map, slice_index_or};
@@ -46,7 +46,7 @@ pub fn worker_at(config: &Config, seat: usize) -> Worker
     }
 }
 
-/// Where a link's packet stands that is in one of the pipes of the links, which are counted from 0, two
+/// Where a link's packet is that is in one of the pipes of the links, which are counted from 0, two
 /// of each link.
 fn link_place(config: &Config, pipe: usize) -> Place
     ensures { result ≡ stands_in config.now (Rattle.pipeline_laws.specs.Place.link_place pipe) }
@@ -59,7 +59,7 @@ fn link_place(config: &Config, pipe: usize) -> Place
     }
 }
 
-/// Where a packet stands that is in a pipe.
+/// Where a packet is that is in a pipe.
 pub fn place_at(config: &Config, pipe: usize) -> Place
     requires { link_count config.now ≤ pipe }
     ensures { result ≡ stands_in config.now (place_at (rules config.now) pipe) }

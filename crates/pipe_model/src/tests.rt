@@ -157,7 +157,7 @@ fn steps_that_are_not_possible(rt: HostRuntime) {
     world.headline();
 }
 
-/// The first packet is sent, the second is answered, and the answer stands after the mark with which
+/// The first packet is sent, the second is answered, and the answer comes after the mark with which
 /// its link is closed. Six of the steps are not possible.
 const TO_THE_END: [Step; 26] = [
     Step::Send(2, true),
@@ -209,7 +209,7 @@ fn tell_the_same(one: &World, other: &World) -> bool {
     one.totals() == other.totals() && one.waiting() == other.waiting()
 }
 
-/// With any one allocation refused (`--fail-alloc`): the pipeline stands where the steps before it led,
+/// With any one allocation refused (`--fail-alloc`): the pipeline is where the steps before it led,
 /// and goes on from there.
 #[test]
 fn goes_on_without_memory(rt: HostRuntime) {

@@ -1,4 +1,4 @@
-//! The pipeline over any list of steps, and what is told of it.
+//! The pipeline over any list of steps, and its report.
 
 ghost use Rattle.std.specs.Prelude.{◌≡◌, ◌<◌, ◌↔◌, length, take, Some, None, OnOk, OnErr, IsErrOf, IfOk, IfErr, ◌+◌, sum};
 ghost use Rattle.pipe_model.specs.Begun.{AreArrivals, begun};
@@ -41,7 +41,7 @@ impl Model for World {
 pub struct NoMemoryAt(pub usize);
 
 impl World {
-    /// The pipeline before its first step. What arrives stands in a list for each link, the
+    /// The pipeline before its first step. What arrives is in a list for each link, the
     /// internal network first and then the others in ascending order of their interfaces; each list
     /// is numbered from 1. At `NoMemory` no memory was left, and both arguments are dropped.
     pub fn new(
@@ -130,7 +130,7 @@ impl World {
             .on(usize::from(link_index(&self.config, link)))
     }
 
-    /// Where the packet with this number stands that came by the link with this interface; `None` where
+    /// The place of the packet with this number that came by the link with this interface; `None` where
     /// it isn't received.
     pub fn place(&self, link: u16, number: u64) -> Option<Place>
         ensures { result ≡ place_of self.now link number }

@@ -52,7 +52,7 @@ impl Model for Hands {
 }
 
 impl Hands {
-    /// So many empty hands. `Err` where no memory is left.
+    /// A number of empty hands. `Err` where no memory is left.
     pub fn new(alloc: Global, count: usize) -> Result<Hands, AllocError>
         ensures { IfOk result (λ hands. hands ≡ replicate count Empty) }
     {

@@ -1,4 +1,4 @@
-//! What stands in a pipe or in a worker's hand.
+//! What is in a pipe or in a worker's hand.
 
 ghost use Rattle.std.specs.Prelude.{◌≡◌, IfOk};
 ghost use Rattle.pipeline_laws.specs.Item.{is_close, is_end, is_named, is_one};

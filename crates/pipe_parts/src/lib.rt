@@ -1,4 +1,4 @@
-//! The parts of the pipeline as a machine: what stands in pipes and hands, all that is kept of a run, and
+//! The parts of the pipeline as a machine: what is in pipes and hands, all that is kept of a run, and
 //! what the pipeline asks of the router of one packet.
 #![tactic(auto)]
 

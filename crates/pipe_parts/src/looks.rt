@@ -23,7 +23,7 @@ impl Model for Looks {
 }
 
 impl Looks {
-    /// Of so many links, none seen empty. `Err` where no memory is left.
+    /// The looks of a number of links, none seen empty. `Err` where no memory is left.
     pub fn new(alloc: Global, count: usize) -> Result<Looks, AllocError>
         ensures { IfOk result (λ looks. looks ≡ replicate count false) }
     {

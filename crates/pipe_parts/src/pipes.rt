@@ -31,7 +31,7 @@ impl Model for Pipes {
 }
 
 impl Pipes {
-    /// The sources, and after them so many empty pipes.
+    /// The sources, and after them a number of empty pipes.
     pub fn new(
         alloc: Global,
         sources: Vec<Pipe>,
@@ -141,7 +141,7 @@ impl Pipes {
 impl Pipes {
     ghost use Rattle.std.specs.Prelude.{drop, take};
 
-    /// The first so many.
+    /// The first `count` of them.
     pub fn up_to(&self, count: usize) -> &[Pipe]
         ensures { result.now ≡ take count self.now }
     {
@@ -152,7 +152,7 @@ impl Pipes {
         }
     }
 
-    /// Those after the first so many.
+    /// Those after the first `count`.
     pub fn after(&self, count: usize) -> &[Pipe]
         ensures { result.now ≡ drop count self.now }
     {

@@ -100,7 +100,7 @@ impl Model for Sent {
 }
 
 impl Sent {
-    /// Of so many links, with nothing sent. `Err` where no memory is left.
+    /// What a number of links sent: nothing yet. `Err` where no memory is left.
     pub fn new(alloc: Global, count: usize) -> Result<Sent, AllocError>
         ensures { IfOk result (λ sent. sent ≡ replicate count []) }
     {

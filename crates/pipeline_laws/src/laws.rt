@@ -31,7 +31,7 @@ pub fn keeps_order<D, P, Q, R, K>()
     ensures law { KeepsOrder (record { Datagram = D; Parcel = P; Problem = Q; RuleCause = R; Key = K }) }
 {}
 
-/// After any list of steps all that is under way or ended comes from the arrivals by the rules, and stands in its own pipe.
+/// After any list of steps all that is under way or ended comes from the arrivals by the rules, and is in its own pipe.
 pub fn keeps_rules<D, P, Q, R, K>()
     ensures law { KeepsRules (record { Datagram = D; Parcel = P; Problem = Q; RuleCause = R; Key = K }) }
 {}

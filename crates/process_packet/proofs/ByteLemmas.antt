@@ -36,7 +36,7 @@ more_places Q R a b within rewritten = record {
 
 -- ---- after a text, and before one
 
--- a place after so many bytes
+-- a place after n bytes
 abbrev pub AfterFront : ℕ → (ℕ → Type 0) → ℕ → Type 0
 AfterFront front Q i = (front ≤ i) × Q (i - front)
 

@@ -1,5 +1,5 @@
-//! Whether the routers of a net agree: what each is told fits what the others are told, and how they are
-//! wired.
+//! Whether the routers of a net agree: each one's configuration fits those of the others, and how
+//! they are wired.
 
 ghost use Rattle.std.specs.Prelude.{◌≡◌, ◌↔◌, ◌==◌, ◌&&◌, ◌||◌, ℕ, IsTrue, map, option_copied};
 ghost use Rattle.std.specs.List.{list_all};
@@ -70,7 +70,7 @@ fn lists_router(config: &Config, other: &Config) -> bool
     !config.internal.is_same(&other.internal) && lists_all(config, other)
 }
 
-/// Whether the router is told of the service.
+/// Whether the router's configuration lists the service.
 fn has_service(config: &Config, service: &Service) -> bool
     ensures { result ≡ agreement.has_service config.now.services.items service.now }
 {
@@ -78,7 +78,7 @@ fn has_service(config: &Config, service: &Service) -> bool
         && service.at.is_same(&other.at))
 }
 
-/// Whether the other router is told of each service of this one.
+/// Whether the other router's configuration lists each service of this one's.
 fn shares_services(config: &Config, other: &Config) -> bool
     ensures { result ≡ list_all (agreement.has_service other.now.services.items) config.now.services.items }
 {

@@ -1,4 +1,4 @@
-//! What a border router is told of itself and of its AS.
+//! What a border router's configuration says of itself and of its AS.
 
 ghost use Rattle.std.specs.Prelude.{◌≤◌, ◌<◌, ◌^◌, ◌++◌, IsTrue, map, length};
 ghost use Rattle.std.specs.List.{list_all};
@@ -9,7 +9,7 @@ use crate::underlay::Underlay;
 use cmac_core::Cmac;
 
 /// The configuration of a border router. Its type keeps each value's range, the limits of the lists,
-/// and that no interface and no service stands twice.
+/// and that no interface and no service is listed twice.
 #[derive(Drop)]
 pub struct Config {
     /// The isolation domain of the local AS, at least 1.

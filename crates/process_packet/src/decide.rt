@@ -1,5 +1,5 @@
 //! The decision table: its rows in the order in which they are tried, where the first that ends the decision
-//! decides. The rows stand beside, phase by phase: `parsed_headers`, `arriving`, `authority`, `delivery`, `leaving`.
+//! decides. The rows are beside it, phase by phase: `parsed_headers`, `arriving`, `authority`, `delivery`, `leaving`.
 
 ghost use Rattle.std.specs.Prelude.{◌≡◌, [], ◌∷◌, None, IfOk, length};
 ghost use Rattle.scion_packet.specs.Header.{header_fault, header_of};

@@ -32,7 +32,7 @@ pub fn nothing_else_changes()
     ensures { NothingElseChanges }
 {}
 
-/// A packet that leaves by a link of this router stands at the next hop of its path, as `path_fields::advance`
+/// A packet that leaves by a link of this router is at the next hop of its path, as `path_fields::advance`
 /// moves a path; where the path has no next hop it doesn't leave.
 pub fn next_place_is_next()
     ensures { NextPlaceIsNext }
@@ -58,7 +58,7 @@ pub fn authorised_is_sent()
 {}
 
 /// A packet is sent by one of three ways: to its own host, by a link of this router with the cursor at the
-/// next hop of its path, or as it stands to the router of the AS that has its egress interface.
+/// next hop of its path, or unchanged to the router of the AS that has its egress interface.
 pub fn sent_by_three_ways()
     ensures { SentByThreeWays }
 {}

@@ -164,7 +164,7 @@ impl PacketView {
         Ok(())
     }
 
-    /// How it leaves with its path as it stands: no cursor moves, and no identifier is chained.
+    /// How it leaves with its path unchanged: no cursor moves, and no identifier is chained.
     pub(crate) fn unchanged(&self, link: u16, to: Option<Underlay>) -> Departure
         requires on { IsOnPath self.now }
         ensures { (s : PacketState) (p : Packet) → Shows self.now s → Keeps self.now s p → Departs result (row.Sent link to (packet s)) p }

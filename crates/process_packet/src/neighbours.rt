@@ -1,4 +1,4 @@
-//! What a border router is told of the links, routers and services around it.
+//! What a border router's configuration says of the links, routers and services around it.
 
 use crate::underlay::Underlay;
 use segment_switch::LinkKind;

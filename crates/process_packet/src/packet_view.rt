@@ -17,7 +17,7 @@ pub(crate) struct PacketView {
     pub moment: u64,
     /// Where the path begins in the datagram, in bytes: at 60 at the most.
     pub path_begin: usize,
-    /// How many bytes stand after the header.
+    /// How many bytes come after the header.
     pub payload: usize,
     /// How many segments the path has.
     pub segments: usize,
@@ -114,14 +114,14 @@ impl PacketView {
         self.is_last_of_segment() && !self.is_followed()
     }
 
-    /// Where the current hop field stands in the datagram, in bytes.
+    /// Where the current hop field is in the datagram, in bytes.
     pub(crate) fn hop_pointer(&self) -> u16
         ensures { (s : PacketState) → Shows self.now s → result ≡ hop_pointer s }
     {
         (self.path_begin + 4 + 8 * self.segments + 12 * self.current.number) as u16
     }
 
-    /// Where the current info field stands in the datagram, in bytes.
+    /// Where the current info field is in the datagram, in bytes.
     pub(crate) fn info_pointer(&self) -> u16
         ensures { (s : PacketState) → Shows self.now s → result ≡ info_pointer s }
     {

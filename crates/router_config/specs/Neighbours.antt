@@ -77,7 +77,7 @@ abbrev pub count_of : Items → ℕ
 count_of no_items = 0
 count_of (item member members) = suc (count_of members)
 
--- at most so many members
+-- at most `most` members
 unfoldable pub at_most : {A : Type 0} → ℕ → (List A → Data → Result A ConfigFault) → Items → Result (List A) ConfigFault
 at_most most read members = if nat_lt most (count_of members) then Err Limit else members_from read [] members
 

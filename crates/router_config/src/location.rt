@@ -1,4 +1,4 @@
-//! Where the first fault of a configuration stands.
+//! Where the first fault of a configuration is.
 ghost use Rattle.std.specs.Prelude.{◌≡◌, is_err, is_some};
 ghost use Rattle.toml.specs.View.{table_view, view};
 ghost use Rattle.router_config.specs.Config.{internal_at, local_at, sizes_at};
@@ -42,7 +42,7 @@ pub(crate) enum Key {
     Number,
 }
 
-/// Where a value stands.
+/// Where a value is.
 #[derive(Clone, Copy, Debug, PartialEq, Eq)]
 pub(crate) enum Location {
     /// At a key of the configuration.
@@ -328,7 +328,7 @@ fn location_of_services(alloc: Global, table: &Table) -> Result<Location, AllocE
     }
 }
 
-/// The first refused place of the lists; it stands among the services where links and siblings are sound.
+/// The first refused place of the lists; it is among the services where links and siblings are sound.
 fn location_around(alloc: Global, version: Version, table: &Table) -> Result<Location, AllocError> {
     let links = match links_at(alloc, version, table) {
         Ok(links) => links,

@@ -9,7 +9,7 @@ use std::alloc::{AllocError, Global};
 use std::ops::Range;
 use toml::{Table, Value};
 
-/// What stands there, in one line. The forwarding key isn't told.
+/// What is there, in one line. The forwarding key isn't shown.
 fn found(alloc: Global, key: Key, value: &Value) -> Result<String, AllocError> {
     match value {
         Value::String(text) if key == Key::Forwarding => {
@@ -22,7 +22,7 @@ fn found(alloc: Global, key: Key, value: &Value) -> Result<String, AllocError> {
     }
 }
 
-/// What stands at a key of a table, if there is one.
+/// What is at a key of a table, if there is one.
 fn found_at(alloc: Global, key: Key, table: Option<&Table>) -> Result<String, AllocError> {
     match table {
         Some(table) => match table.get(key.name()) {
@@ -39,7 +39,7 @@ fn member_at(table: &Table, list: Key, number: usize) -> Option<&Table> {
     members.get(number.checked_sub(1)?)?.as_table()
 }
 
-/// What stands at a place, and what is wanted there.
+/// What is at a place, and what is wanted there.
 fn words_at(alloc: Global, table: &Table, location: Location) -> Result<String, AllocError> {
     match location {
         Location::Value(key) => {
@@ -74,7 +74,7 @@ fn line_of(text: &str, span: Option<Range<usize>>) -> usize {
 }
 
 /// Where the first fault of a text is, in words: at which key, in a list also of which of its
-/// members, counted from 1; what is there; and what is wanted. The forwarding key isn't told. None
+/// members, counted from 1; what is there; and what is wanted. The forwarding key isn't shown. None
 /// where the text is a configuration. `Err` where no memory is left.
 pub fn fault_words(alloc: Global, text: &str) -> Result<Option<String>, AllocError>
     ensures { IfOk result (λ words. is_some words ≡ is_err (values_of text.now)) }

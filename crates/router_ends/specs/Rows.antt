@@ -9,12 +9,12 @@ pub record Row (T : Type 0) : Type 0 where
   pub ends : List (Sender T)
   pub room : ℕ
 
--- all pipes have so many producers
+-- all pipes have this number of producers
 abbrev pub AreFor : ℕ → List Shape → Type 0
 AreFor producers [] = Unit {0}
 AreFor producers (s ∷ ss) = (s.producers ≡ producers) × AreFor producers ss
 
--- all pipes hold so many entries
+-- all pipes hold this number of entries
 abbrev pub AreWide : ℕ → List Shape → Type 0
 AreWide capacity [] = Unit {0}
 AreWide capacity (s ∷ ss) = (s.capacity ≡ capacity) × AreWide capacity ss

@@ -40,7 +40,7 @@ pub fn deal<T: Drop>(alloc: Global, opened: Opened<T>) -> Result<Dealt<T>, Alloc
     })
 }
 
-// Deals rows of new ends to so many workers. The emptied rows keep their room.
+// Deals rows of new ends to a number of workers. The emptied rows keep their room.
 fn deal_rows<T: Drop>(
     alloc: Global,
     pipes: &Vec<Pipe<T>>,

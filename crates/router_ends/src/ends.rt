@@ -33,7 +33,7 @@ impl<T: Drop> Ends<T> {
         Ends { items }
     }
 
-    /// An empty row with room for so many.
+    /// An empty row with room for a number of producers.
     pub fn with_room(alloc: Global, room: usize) -> Result<Ends<T>, AllocError>
         ensures { IfOk result (λ e. (e.ends ≡ []) × (room ≤ e.room)) }
     {

@@ -1,5 +1,5 @@
 //! All ends of the pipes between the router's workers: dealt to the workers before a run, and gathered
-//! from them after it. Each kind of pipe is opened for so many producers, and worker p gets producer p of
+//! from them after it. All pipes of a kind have as many producers, and worker p gets producer p of
 //! each pipe in a bundle. Once the workers have ended, the ends of each pipe are gathered, and what its
 //! consumer took is all that its producers had accepted. Gathering takes no memory.
 #![tactic(auto)]

@@ -68,7 +68,7 @@ impl<T: Drop> Opened<T> {
     }
 }
 
-/// So many pipes of one capacity, from 1 to 65,536, each for from 1 to 64 producers.
+/// A number of pipes of one capacity, from 1 to 65,536, each for 1 to 64 producers.
 pub fn open_pipes<T: Drop>(
     alloc: Global,
     count: usize,

@@ -152,7 +152,7 @@ fn write_report<W: Write>(alloc: Global, world: &World, writer: &mut W) -> Resul
 /// the number of each line whose step isn't possible, and at the end the report.
 ///
 /// It stops at a line that is no replay line, at a failure of the reader or the writer, and where no
-/// memory is left; what was noted of the lines before then stands written, without a report.
+/// memory is left; what was noted of the lines before then stays written, without a report.
 pub fn replay_lines<R: BufRead, W: Write>(
     alloc: Global,
     config: Config,

@@ -15,7 +15,7 @@ use std::io::{BufRead, Write};
 /// reads the next one.
 ///
 /// It stops at a line that is no hex, at a failure of the reader or the writer, and where no
-/// memory is left; the answers to the lines before then stand written.
+/// memory is left; the answers to the lines before then stay written.
 pub fn route_lines<R: BufRead, W: Write>(
     alloc: Global,
     config: &Config,

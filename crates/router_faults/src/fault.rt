@@ -25,7 +25,7 @@ pub enum Fault {
     /// The configuration is none.
     #[error("config {number}", number = .0.number())]
     Config(ConfigFault),
-    /// The configuration is none, in words: where it isn't, what stands there, and what is wanted.
+    /// The configuration is none, in words: where it isn't, what is there, and what is wanted.
     #[error("config {number}: {1}", number = .0.number())]
     Told(ConfigFault, String),
     /// The configuration has no such link.

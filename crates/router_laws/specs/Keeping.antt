@@ -18,7 +18,7 @@ use Rattle.stage_laws.specs.Counting.{counted_receiving, counted_working, counte
 use Rattle.router_laws.specs.Heard.{Heard, TellsOf}
 use Rattle.router_laws.specs.Shares.{Counts}
 
--- The receiver of a link, which numbered so many datagrams, and looked so often for a buffer in vain.
+-- The receiver of a link, with how many datagrams it numbered, and how often it looked for a buffer in vain.
 pub record IsReceiving (c : Config) (link interface number : ℕ) (told : Option (List Heard)) (looks : List ℕ) (senders : List (Sender (Arrival kinds))) (share : Held) : Type 0 where
   pub log : List (Deed Cause (Arrival kinds))
   pub law : KeepsReceiver (rules c) link log senders
@@ -38,7 +38,7 @@ pub record IsAnswering (c : Config) (taker : Taker (SlowPathRequest kinds)) (sen
   pub law : KeepsAnswers (rules c) log taker senders
   pub counts : Counts share (counted_answering {K = kinds} log)
 
--- A forwarder, which began with so many failures of its sink; what it hands over its sink shows in its own way.
+-- A forwarder, with how often its sink had failed at the start; what it hands over its sink shows in its own way.
 pub record IsForwarding {T : Type 0} (shows : Handed kinds → T) (low high : Taker (Outgoing kinds)) (low_shut high_shut : Bool) (told : Option (List T)) (began failed : ℕ) (share : Held) : Type 0 where
   pub went : List (Handed kinds)
   pub law : KeepsForwarder shows went (pushes low.taken) (pushes high.taken) low_shut high_shut told began failed

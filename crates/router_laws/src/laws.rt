@@ -12,7 +12,7 @@ pub fn shares_add_up()
 
 /// Workers that came back keeping their laws, with pipes of which all was taken: for each arriving link, flow and leaving link
 /// what was handed to the sink is what the sequential router sends of what was received, in order and byte for byte, less what
-/// was dropped; each packet stands at one place; each drop has its reason; nothing is swept of a link's band that wasn't closed; what
+/// was dropped; each packet is at one place; each drop has its reason; nothing is swept of a link's band that wasn't closed; what
 /// sources told was received, and sinks tell what they were handed; the totals are exact, cause by cause.
 pub fn runs_as_told<T>()
     ensures { RunsAsTold T }

@@ -1,4 +1,4 @@
-//! What a running router prints for the lines that it is told.
+//! What a running router prints for its commands.
 ghost use Rattle.std.specs.Prelude.{◌≡◌, ◌++◌, OnOk};
 ghost use Rattle.router_lines.specs.Closing.{closing_text, closing_word, no_command_text, ready_text};
 

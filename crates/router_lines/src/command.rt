@@ -1,11 +1,11 @@
-//! The lines by which a running router is told what to do.
+//! The commands of a running router, one a line.
 ghost use Rattle.std.specs.Prelude.{◌≡◌, option_map};
 ghost use Rattle.router_lines.specs.Command.{close_of, command_of, if_close, order_of};
 
 use crate::text::text_of;
 use router_config::pieces::{read_number, split_once};
 
-/// What a running router is told to do.
+/// A command of a running router.
 #[derive(Clone, Copy, Debug, PartialEq, Eq)]
 pub enum Command {
     /// To close the link of this interface.

@@ -1,4 +1,4 @@
-//! What is told of a replay's arrivals: nothing here runs.
+//! Laws of a replay's arrivals; nothing here runs.
 
 ghost use Rattle.router_lines.specs.Gathered.{GatheredBegin};
 

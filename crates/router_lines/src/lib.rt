@@ -1,5 +1,5 @@
 //! The lines that the router's commands read and write: datagrams in hex, the arrivals and steps of a replay,
-//! and its report; what a running router is told, and its report. Nothing is decided here.
+//! and its report; a running router's commands, and its report. Nothing is decided here.
 #![tactic(auto)]
 
 mod arrival_context;

@@ -18,7 +18,7 @@ pub(crate) fn read_link(config: &Config, text: &str) -> Option<u16>
     if config.has_link(id) { Some(id) } else { None }
 }
 
-/// The link whose interface stands after a letter.
+/// The link whose interface comes after a letter.
 #[tactic(auto, unfolding(crate::specs::Names::link_after))]
 fn read_link_after(config: &Config, letter: char, text: &str) -> Option<u16>
     requires { letter < 128 }
@@ -27,7 +27,7 @@ fn read_link_after(config: &Config, letter: char, text: &str) -> Option<u16>
     read_link(config, strip_prefix(text, letter)?)
 }
 
-/// The link with two bands whose interface stands after an `h`.
+/// The link with two bands whose interface comes after an `h`.
 #[tactic(auto, unfolding(crate::specs::Names::high_link_of))]
 pub(crate) fn read_high_link(config: &Config, text: &str) -> Option<u16>
     ensures { result ≡ high_link_of config.now text.now }
@@ -40,7 +40,7 @@ pub(crate) fn read_high_link(config: &Config, text: &str) -> Option<u16>
     }
 }
 
-/// The processor whose number stands after a `p`.
+/// The processor whose number comes after a `p`.
 #[tactic(auto, unfolding(crate::specs::Names::processor_of))]
 pub(crate) fn read_processor(config: &Config, text: &str) -> Option<u8>
     ensures { result ≡ processor_of config.now text.now }

@@ -1,4 +1,4 @@
-//! What is told of the router's rules as a whole: nothing here runs. A law of the decision is called for
+//! Laws of the router's rules as a whole; nothing here runs. A law of the decision is called for
 //! what it says.
 
 ghost use Rattle.router_rules.specs.Example.{RulesAreTold};

@@ -209,7 +209,7 @@ where
     G: Gate + Drop,
     R: Threads + Wait + Clock + Copy,
 {
-    /// Closes the link with an interface: its forwarder sends nothing that stands after the closing marks.
+    /// Closes the link with an interface: its forwarder sends nothing that comes after the closing marks.
     /// With two bands each has a mark of its own, and each missing one is tried, the high band's first. At
     /// `Full` one was refused, since its pipe was full; a mark that was pushed stays. It takes no memory.
     pub fn close_link(&mut self, link: u16) -> Result<(), CloseFault>

@@ -58,7 +58,7 @@ fn counted(mark: Mark, ends: usize, most: usize) -> usize
 }
 
 impl<N: Router> Band<N> {
-    /// The pipe of a consumer that took nothing yet, with so many producers.
+    /// The band of a consumer that has taken nothing yet, whose pipe has this many producers.
     pub fn of(consumer: Consumer<EgressPacket<N>>, producers: usize) -> Band<N>
         requires fresh { consumer.taken ≡ [] }
         requires producers { consumer.producers ≡ producers }

@@ -21,7 +21,7 @@ use std::marker::Model;
 use std::sync::{Arc, Wait};
 
 /// Takes what leaves from the pipes of its link, the high band's first, and hands it to the link's sink.
-/// What stands in a pipe after a closing mark is swept.
+/// What comes after a closing mark in a pipe is swept.
 #[derive(Drop)]
 pub struct Forwarder<N: Router, R, K: Sink> {
     rt: R,
@@ -114,7 +114,7 @@ impl<N: Router, R: Wait + Copy, K: Sink> Forwarder<N, R, K> {
     }
 
     /// Takes one entry of the high band's pipe, or, where that was seen empty, of the low one's. A sink
-    /// whose count of failures stands at the largest number isn't asked.
+    /// whose count of failures is at the largest number isn't asked.
     pub fn turn(&mut self) -> Turn
         requires { HasRoom self.old.side.share.counts }
         ensures { Forwarded K.told K.failed result self.old self.new }

@@ -99,7 +99,7 @@ impl<N: Router, R: Wait + Copy, S: Source> Receiver<N, R, S> {
         self.intake.has_room()
     }
 
-    /// Asks the source once, and passes on what it gives. A source whose count of failures stands at the
+    /// Asks the source once, and passes on what it gives. A source whose count of failures is at the
     /// largest number isn't asked. After its end it tries the end marks that it owes.
     pub fn turn(&mut self) -> Turn
         requires { HasRoom self.old.side.share.counts }

@@ -23,7 +23,7 @@ module _ {T : Type 0} where
   abbrev pub producer : ℕ → Size → List (Entry T) → View T
   producer p size offers = record { sends = true; takes = false; from = p; made = 0; size = size; offers = offers; taken = []; known = [] }
 
-  -- the consumer's seat: it made so many producers, and knows what those that have left had offered
+  -- the consumer's seat: how many producers it made, and what those that have left had offered
   abbrev pub consumer : ℕ → Size → List (Entry T) → List (List (Entry T)) → View T
   consumer made size taken known = record { sends = false; takes = true; from = 0; made = made; size = size; offers = []; taken = taken; known = known }
 

@@ -24,7 +24,7 @@ pub struct Entry<T> {
 }
 
 /// A push that the queue refused, and how many its producer had had accepted before. No value of it is
-/// made: it stands in the notes of a producer, which exist in proofs alone.
+/// made: it is in the notes of a producer, which exist in proofs alone.
 pub struct Refusal<T> {
     pub entry: Entry<T>,
     pub before: usize,

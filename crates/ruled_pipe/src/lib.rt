@@ -1,7 +1,7 @@
 //! A bounded pipe between threads, with several producers and one consumer.
 //!
 //! A pipe carries entries: payloads of any type, and marks, each with the number of its producer. Its
-//! queue is under a rule: each producer's entries stand in what was taken and is held just as they were
+//! queue is under a rule: each producer's entries are in what was taken and is held just as they were
 //! accepted, and no more are held than the capacity. Each end is a token of what its holder has seen: the
 //! offers that were accepted and those that were refused, what was taken, and the looks that found
 //! nothing. These lists exist in proofs alone. Each call makes one step of the queue, and `offer`,

@@ -7,7 +7,7 @@
 //! where that is few it waits a little. After an empty look it doesn't, so that a rare entry is taken at once.
 use std::hint;
 
-/// So many looks in a row find an entry before what is held is counted, and as many at least between two counts.
+/// How many looks in a row find an entry before what is held is counted; at least as many lie between two counts.
 const APART: usize = 32;
 
 /// How often it spins where fewer than `APART` are held. That takes some microseconds.
@@ -38,7 +38,7 @@ impl Pace {
         true
     }
 
-    /// So many are held. Where these are few it spins, so that more gather.
+    /// Takes note of how many entries are held, and spins briefly when these are few, so that more can gather.
     pub(crate) fn keep(&mut self, held: usize) {
         if held < APART {
             for _ in 0..SPINS {

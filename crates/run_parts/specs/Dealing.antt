@@ -10,7 +10,7 @@ use Rattle.run_laws.specs.Crew.{Piping}
 use Rattle.run_parts.specs.Rest.{IsRest}
 
 module _ {T : Type 0} where
-  -- So many pipes, each for so many producers, with what is dealt of them.
+  -- A number of pipes, each for a number of producers, with what is dealt of them.
   pub record IsDealing (producers number : ℕ) (pipes : List Shape) (rooms : List (Row T)) (takers : List (Taker T)) (bundles : List (Row T)) : Type 0 where
     pub measure : AreFor producers pipes
     pub count : length pipes ≡ number
@@ -32,7 +32,7 @@ pub record IsTakerThere {T : Type 0} (pipes : List Shape) (i : ℕ) (t : Taker T
   pub there : slice_get pipes i ≡ Some own
   pub fresh : t ≡ new_taker own.pipe own.producers own.capacity
 
--- a consumer that found nothing yet, and a worker's producers of so many pipes
+-- a consumer that found nothing yet, and a worker's producers, one for each of n pipes
 abbrev pub IsUnlooked : ℕ → Taker (Unit {0}) → Type 0
 IsUnlooked n t = t.looks ≡ []
 

@@ -6,7 +6,7 @@ use Rattle.pipeline_laws.specs.Settled.{SlowPathRequest}
 use Rattle.router_rules.specs.Rules.{kinds}
 use Rattle.router_ends.specs.Rows.{Row}
 
--- an empty row for so many
+-- an empty row with room for n
 abbrev pub IsRoomy : {T : Type 0} → ℕ → Row T → Type 0
 IsRoomy n r = (r.ends ≡ []) × (n ≤ r.room)
 
@@ -31,7 +31,7 @@ pub record Space : Type 0 where
   pub sources : ℕ
   pub sinks : ℕ
 
--- of a router with so many links and processors
+-- of a router with these numbers of links and processors
 pub record HaveWorkerSlots (links processors : ℕ) (r : WorkerSlots) : Type 0 where
   pub receivers_fit : links ≤ r.receivers
   pub processors_fit : processors ≤ r.processors

@@ -1,5 +1,5 @@
 //! What a running router is made of, before its first thread: the pipes with all their ends dealt, the
-//! workers as far as they stand without a device, and room for all that comes back.
+//! workers but for their devices, and room for all that comes back.
 #![tactic(auto)]
 
 mod entering;

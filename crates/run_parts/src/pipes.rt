@@ -92,7 +92,7 @@ fn free_pipes<R: Wait>(rt: &R, alloc: Global, shared: &Shared) -> Result<Free, A
     Ok(Free { takers, bundles })
 }
 
-// Puts so many buffers into each pipe.
+// Puts a number of buffers into each pipe.
 fn fill<R: Wait>(
     rt: &R,
     alloc: Global,

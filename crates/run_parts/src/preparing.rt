@@ -151,7 +151,7 @@ fn common_for<N: Router>(
     })
 }
 
-/// All that stands ready.
+/// All that is ready.
 #[derive(Drop)]
 pub struct Prepared<N, S, K, G, R>
 where

@@ -74,7 +74,7 @@ impl<N: Router, S, K> Model for Space<N, S, K> {
     ghost invariant = { λ r. (r.inner_bundles.items ≡ []) × (r.inner_takers.items ≡ []) × (r.outer_bundles.items ≡ []) × (r.outer_takers.items ≡ []) × (r.shares.items ≡ []) × (r.sent.items ≡ []) × (r.sources.items ≡ []) × (r.sinks.items ≡ []) };
 }
 
-// So many empty rows for the ends of so many pipes.
+// An empty row for each worker, with room for an end of each pipe.
 fn rows_of<T: Drop>(alloc: Global, workers: usize, pipes: usize) -> Result<Vec<Ends<T>>, AllocError>
     ensures { IfOk result (λ v. Each (IsRoomy pipes) v.items × (length v.items ≡ workers)) }
 {
@@ -85,7 +85,7 @@ fn rows_of<T: Drop>(alloc: Global, workers: usize, pipes: usize) -> Result<Vec<E
     Ok(rows)
 }
 
-/// Room for the workers of a router with so many links and processors.
+/// Room for the workers of a router with these numbers of links and processors.
 pub fn worker_slots_for<N, S, K, G, R>(
     alloc: Global,
     links: usize,

@@ -22,7 +22,7 @@ fn so_many(alloc: Global, count: usize) -> Result<Vec<Event>, AllocError> {
     Ok(events)
 }
 
-/// New events for a router with so many links and processors. `Err` where no memory is left.
+/// New events for a router with these numbers of links and processors. `Err` where no memory is left.
 pub fn events_for(alloc: Global, links: usize, processors: usize) -> Result<Events, AllocError> {
     Ok(Events {
         processors: so_many(alloc, processors)?,
@@ -31,7 +31,7 @@ pub fn events_for(alloc: Global, links: usize, processors: usize) -> Result<Even
     })
 }
 
-/// Gives each end the event of its pipe's consumer, where each consumer has so many pipes.
+/// Gives each end the event of its pipe's consumer, where each consumer has this number of pipes.
 pub fn wake<T: Drop>(
     outlets: Vec<Outlet<T>>,
     events: &[Event],

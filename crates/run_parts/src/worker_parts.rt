@@ -1,4 +1,4 @@
-//! The pipes, and all workers as far as they stand without a device.
+//! The pipes, and all workers but for their devices.
 
 ghost use Rattle.std.specs.Prelude.{◌≡◌, ◌+◌, ◌*◌, IfOk, Some, [], length};
 ghost use Rattle.std.specs.Arc.{arc_value};

@@ -39,7 +39,7 @@ impl Words {
 }
 
 /// When a packet of link 1 is given and admitted, of the low band or urgent: the source gives it once the gate
-/// was asked for the packet of a number, and the gate admits it once the sink was handed so many and the
+/// was asked for the packet of a number, and the gate admits it once the sink was handed a number of them and the
 /// controller has come to a stage.
 #[derive(Clone, Copy)]
 pub enum Cue {
@@ -78,11 +78,11 @@ impl Cue {
 /// What the controller does.
 #[derive(Clone, Copy)]
 pub enum Order {
-    /// Waits until so many datagrams were passed on.
+    /// Waits until this number of datagrams were passed on.
     Passed(u64),
     /// Waits until the gate was asked for the packet of this number.
     Asked(u64),
-    /// Waits until the sink was handed so many.
+    /// Waits until the sink was handed this number of packets.
     Handed(u64),
     /// Comes to a stage.
     Stage(u64),

@@ -36,7 +36,7 @@ pub fn four_sources(alloc: Global, one: Vec<Next>) -> Result<Vec<ListSource>, Al
     list_sources(alloc, Vec::from_array(alloc, lists)?)
 }
 
-/// So many sinks, which fail at their first calls, so many of them.
+/// A number of sinks, each of which fails at a number of its first calls.
 pub fn list_sinks(alloc: Global, count: usize, fails: u64) -> Result<Vec<ListSink>, AllocError>
     ensures { IfOk result (λ v. Each (λ s. ToldNothing s.told) v.items) }
 {
@@ -48,7 +48,7 @@ pub fn list_sinks(alloc: Global, count: usize, fails: u64) -> Result<Vec<ListSin
     Ok(sinks)
 }
 
-// The numbers from 1 on, so many.
+// The numbers from 1 to `count`.
 fn first_numbers(alloc: Global, count: u64) -> Result<Vec<u64>, AllocError> {
     let mut numbers = Vec::new(alloc);
     for k in 0..count {

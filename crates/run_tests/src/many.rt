@@ -35,7 +35,7 @@ const FIRST_HOP: usize = PATH_AT + 12;
 
 const SECOND_HOP: usize = PATH_AT + 24;
 
-/// Where the source's AS stands.
+/// Where the source's AS is.
 const SOURCE_AS: usize = 20;
 
 /// The fields of a hop that enters by an interface and leaves by link 1, from its flags on.
@@ -110,7 +110,7 @@ fn is_in_order(list: &[Sent]) -> bool {
     true
 }
 
-/// Whether all were received, so many were sent, and the others dropped at full pipes or for want of a buffer.
+/// Whether all were received, this number of them sent, and the others dropped at full pipes or for want of a buffer.
 fn adds_up(totals: &Totals, sent: u128) -> bool {
     let processor = totals.dropped[FULL_PROCESSOR];
     let link = totals.dropped[FULL_LINK];

@@ -11,7 +11,7 @@ use stage_parts::{Next, Sent, Sink, Source};
 use std::alloc::{AllocError, Global};
 use std::test::*;
 
-/// Where the identifier of the first datagram's segment stands.
+/// Where the identifier of the first datagram's segment is.
 const SEGMENT_AT: usize = 42;
 
 #[test]

@@ -12,7 +12,7 @@ use std::alloc::{AllocError, Global};
 use std::sync::Arc;
 use std::test::*;
 
-// So many sources, of which link 1's gives so many datagrams.
+// A source for each link, of which link 1's gives a number of datagrams.
 fn paced(
     alloc: Global,
     words: &Arc<Words, Global>,

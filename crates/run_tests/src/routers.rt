@@ -11,7 +11,7 @@ fn with<R: AllocGlobal + Abort>(rt: &R, text: &str, from: &str, to: &str) -> Str
     text.replace(rt.alloc(), from, to).expect(rt, "memory")
 }
 
-/// The first datagram's router, of four links, with so many processors and pipes of this capacity.
+/// The first datagram's router, of four links, with this number of processors and pipes of this capacity.
 pub fn router<R: AllocGlobal + Abort>(rt: &R, processors: u8, capacity: u32) -> Config {
     let processors = format!(in rt.alloc(); "processors = {processors}").expect(rt, "memory");
     let capacity = format!(in rt.alloc(); "capacity = {capacity}").expect(rt, "memory");

@@ -15,7 +15,7 @@ use std::thread::Threads;
 use std::time::Clock;
 use worker_threads::{HOLD, Handle, Orders, Team, Work, join_all, start_both, start_four};
 
-// It counts so many as received, one in a turn, is quiet so often, and has ended.
+// It counts a number of datagrams as received, one in a turn, is quiet for a number of turns, and has ended.
 #[derive(Drop)]
 struct Countdown<L: Ledger, R> {
     rt: R,
@@ -67,7 +67,7 @@ impl<L: Ledger, R: Wait> Work<L> for Countdown<L, R> {
     ghost same_then = { λ x y z p q. tt };
 }
 
-// So many workers, with shares taken off a list.
+// A number of workers, with shares taken off a list.
 fn team<L: Ledger, R: Wait + Copy>(
     rt: R,
     alloc: Global,
@@ -188,7 +188,7 @@ fn a_refused_thread_ends_all(rt: HostRuntime) -> Result<(), Fail> {
     Ok(())
 }
 
-// It offers so many numbers, one in eight turns, and then its end mark.
+// It offers the numbers below a bound, one in eight turns, and then its end mark.
 #[derive(Drop)]
 struct Feeder<R> {
     rt: R,

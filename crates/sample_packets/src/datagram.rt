@@ -28,7 +28,7 @@ pub const ANSWER: [u8; 92] = *b"\x00\x00\x00\x01\xca\x15\x00\x64\x01\x00\x00\x00
 /// Where its path begins: the meta header, then one info field, then three hop fields.
 pub const PATH_AT: usize = 36;
 
-/// Where the MAC of its second hop field stands.
+/// Where the MAC of its second hop field is.
 pub const MAC_AT: usize = 66;
 
 /// Where its payload begins.

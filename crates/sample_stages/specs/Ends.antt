@@ -12,6 +12,6 @@ module _ {T : Type 0} where
   abbrev pub IsFresh : Offering T → Type 0
   IsFresh o = (o.ended ≡ false) × IsNew o.sender
 
-  -- nothing was taken of so many producers' pipe
+  -- nothing was taken from a pipe with this number of producers
   abbrev pub IsUntaken : ℕ → Taker T → Type 0
   IsUntaken producers t = (t.taken ≡ []) × (t.looks ≡ []) × (t.producers ≡ producers)

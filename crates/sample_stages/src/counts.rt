@@ -22,7 +22,7 @@ pub const SEND_FAILED: usize = 16;
 
 pub const NO_BUFFER: usize = 17;
 
-/// So many received, so many sent, and so many dropped for the cause at a place.
+/// Counts with these numbers received, sent, and dropped for the cause at a place.
 pub fn totals(received: u128, sent: u128, cause: usize, count: u128) -> Totals
     requires { cause < 18 }
     ensures received { result.received ≡ received }

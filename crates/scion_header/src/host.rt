@@ -47,7 +47,7 @@ impl Host {
     }
 }
 
-/// The host of this length code whose bytes stand from `at` on.
+/// The host of this length code whose bytes begin at `at`.
 pub(crate) fn host_at(bytes: &[u8], at: usize, code: u8) -> Host
     requires code { code < 4 }
     requires room { at + host_len code ≤ length bytes.now }

@@ -1,4 +1,4 @@
-//! What stands after the extension headers of a packet.
+//! What comes after the extension headers of a packet.
 
 /// What a router tells apart of the upper layer.
 #[derive(Clone, Copy, Debug, PartialEq, Eq)]
@@ -16,7 +16,7 @@ pub enum Upper {
 pub struct UpperPlace {
     /// The number of its protocol: 17 is UDP, 202 SCMP.
     pub protocol: u8,
-    /// Where its first byte stands, counted from the end of the header; where none is there, the end of
+    /// Where its first byte is, counted from the end of the header; where none is there, the end of
     /// the datagram.
     pub at: usize,
 }

@@ -21,7 +21,7 @@ pub fn packet_laws()
     ensures { PacketLaws }
 {}
 
-/// Each info field and each hop field of a path that passes its tests stands at one offset of its
+/// Each info field and each hop field of a path that passes its tests is at one offset of its
 /// bytes, the current ones at those that the cursor names.
 pub fn offset_laws()
     ensures { OffsetLaws }

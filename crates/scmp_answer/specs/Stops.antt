@@ -95,7 +95,7 @@ next_from net moment c (Some x) =
 unfoldable pub next_stop : Net → ℕ → Came → Option Came
 next_stop net moment c = next_from net moment c (router_at net c.router)
 
--- one stop after the other, at most so many
+-- one stop after the other, at most n
 abbrev pub stops_from : Net → ℕ → ℕ → Option Came → List Came
 stops_from net moment zero c = []
 stops_from net moment (suc n) None = []

@@ -74,7 +74,7 @@ fn write_answer(
 
 /// Answers a datagram without a fault that came by the link (0 is the internal network) from the
 /// underlay's source: tells its sender of a problem, or replies to its traceroute request. The answer
-/// stands at the front of the buffer, and what follows it there may have changed too. It takes no memory.
+/// is at the front of the buffer, and what follows it there may have changed too. It takes no memory.
 pub fn answer_into(
     config: &Config,
     link: u16,

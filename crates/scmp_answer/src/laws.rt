@@ -4,13 +4,13 @@ ghost use Rattle.scmp_answer.specs.Returns.{AnswersComeBack, AnswersStandToo, Ro
 ghost use Rattle.scmp_answer.specs.Unanswered.{ErrorsAreLeftUnanswered};
 ghost use Rattle.scmp_answer.specs.Walked.{LawfulStartsAreWalked, RequestsAreWalked};
 
-/// What takes the way back of a packet that stands on a route, and is for where the route begins,
-/// stands on the route travelled back.
+/// What takes the way back of a packet that is on a route, and is for where the route begins,
+/// is on the route travelled back.
 pub fn answers_stand_too()
     ensures { AnswersStandToo }
 {}
 
-/// Wherever a packet stands that set out at the route's first hop, an answer to it comes back to where
+/// Wherever a packet is that set out at the route's first hop, an answer to it comes back to where
 /// it came from, if it may be answered at all.
 pub fn answers_come_back()
     ensures { AnswersComeBack }

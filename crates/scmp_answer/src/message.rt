@@ -14,7 +14,7 @@ use process_packet::{
 };
 use scion_header::{Address, Header};
 
-/// How many bytes of a message stand before its quote.
+/// How many bytes of a message come before its quote.
 pub(crate) fn fixed_len(problem: &Problem) -> usize
     ensures { result ≡ fixed_len problem.now }
 {

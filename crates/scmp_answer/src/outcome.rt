@@ -2,7 +2,7 @@
 
 use process_packet::{Cause, Underlay};
 
-/// What becomes of a problem, where an answer's bytes stand in a buffer.
+/// What becomes of a problem, where an answer's bytes are in a buffer.
 #[derive(Clone, Copy, Debug, PartialEq, Eq)]
 pub enum AnswerLen {
     /// An answer of `len` bytes leaves by a link, where link 0 is the internal network; `to` is absent

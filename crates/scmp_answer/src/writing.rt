@@ -66,7 +66,7 @@ pub(crate) fn write_message(
     put(out, at + fixed_len(problem), quote);
 }
 
-/// Writes the checksum of the message of `len` bytes that stands at `at`, after a header whose
+/// Writes the checksum of the message of `len` bytes that is at `at`, after a header whose
 /// addresses end at `front`.
 pub(crate) fn seal(out: &mut [u8], front: usize, at: usize, len: usize)
     requires begin { 12 ≤ front }

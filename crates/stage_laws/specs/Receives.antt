@@ -37,7 +37,7 @@ pub record Passed {K : Kinds} (R : Rules K) (d : Deed K.RuleCause (Arrival K)) (
   pub ends : (i : ℕ) (t : Sender (Arrival K)) → slice_get new i ≡ Some t → (s : Sender (Arrival K)) × (slice_get old i ≡ Some s) × IsGrown (to_processor R i) d s t
   pub same : length new ≡ length old
 
--- the receiver of link a numbered so many
+-- what the receiver of link a keeps: its datagrams are numbered from 1 on
 pub record KeepsReceiver {K : Kinds} (R : Rules K) (a : ℕ) (log : List (Deed K.RuleCause (Arrival K))) (senders : List (Sender (Arrival K))) : Type 0 where
   pub numbered : AreNumbered a 1 (done_items log)
   pub just : Each (IsSeen R) log

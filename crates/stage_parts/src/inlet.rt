@@ -41,7 +41,7 @@ fn end_of<T>(load: &Load<T>) -> usize
 }
 
 impl<T: Drop> Inlet<T> {
-    /// The end of a consumer that took nothing yet, of a pipe of so many producers.
+    /// The inlet of a consumer that has taken nothing yet, whose pipe has this number of producers.
     pub fn of(consumer: Consumer<T>, producers: usize) -> Inlet<T>
         requires fresh { consumer.taken ≡ [] }
         requires producers { consumer.producers ≡ producers }
@@ -62,7 +62,7 @@ impl<T: Drop> Inlet<T> {
         self.ends == self.producers
     }
 
-    /// Takes what stands at the front. At `None` the pipe was empty at one moment of the call, and the
+    /// Takes what is at the front. At `None` the pipe was empty at one moment of the call, and the
     /// look is noted.
     pub fn take<R: Wait>(&mut self, rt: &R) -> Option<Load<T>>
         requires { ends_in self.old.taken < self.old.producers }

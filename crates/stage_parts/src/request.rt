@@ -84,8 +84,8 @@ impl<N: Router> SlowPathRequest<N> {
         packet.into_buffer()
     }
 
-    /// The answer, in the packet's buffer. At `Err` there is none: the cause is told, and the
-    /// buffer given back. It takes no memory.
+    /// The answer, in the packet's buffer. At `Err` there is none: the cause and the
+    /// buffer are given back. It takes no memory.
     pub fn answer(self, shared: &Shared) -> Result<EgressPacket<N>, Withheld>
         ensures replied { reply_of result ≡ replied shared.now.config self.arrival.datagram self.problem }
         ensures named { IfOk result (λ o. o ≡ answering self.arrival o.link o.parcel.to o.parcel.bytes) }

@@ -10,7 +10,7 @@ use process_packet::Underlay;
 /// What a source answers.
 #[derive(Clone, Copy, Debug, PartialEq, Eq)]
 pub enum NextLen {
-    /// A datagram of so many bytes, now at the front of the buffer, with the underlay's source and the
+    /// A datagram of `len` bytes, now at the front of the buffer, with the underlay's source and the
     /// time in seconds of Unix time. A longer one is cut to the buffer.
     Datagram {
         len: usize,

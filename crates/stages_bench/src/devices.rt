@@ -13,7 +13,7 @@ use stage_parts::{NextLen, Sink, SinkFault, Source};
 /// How many flows there are.
 const FLOWS: u8 = 64;
 
-/// Where the segment's identifier stands.
+/// Where the segment's identifier is.
 const SEGMENT_AT: usize = PATH_AT + 6;
 
 /// Gives the first datagram, of one flow after the other.

@@ -102,7 +102,7 @@ fn new_returns(alloc: Global, one: Producer<Buffer>) -> Result<Vec<Producer<Buff
     Ok(Vec::from_array(alloc, [a, one, b, c])?)
 }
 
-/// Puts so many buffers into the pipe of the free ones.
+/// Puts a number of buffers into the pipe of the free ones.
 fn fill<R: Wait>(
     rt: &R,
     alloc: Global,

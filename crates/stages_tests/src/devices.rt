@@ -17,7 +17,7 @@ const NEAR: Underlay = Underlay {
     port: 40000,
 };
 
-// Whether the source gives a datagram of so many bytes, with this first byte.
+// Whether the source gives a datagram of this length, with this first byte.
 fn gives(source: &mut ListSource, bytes: &mut Vec<u8>, want: usize, first: u8) -> bool {
     if bytes.len() != BUFFER_LEN || source.failures() > 5 {
         return false;

@@ -93,7 +93,7 @@ fn reads_the_second_version(rt: HostRuntime) {
     assert_eq!(&rt; config.links.as_slice(), links.as_slice());
 }
 
-/// A part of the text, what stands in its place, and the number of the first fault.
+/// A part of the text, what is in its place, and the number of the first fault.
 const FAULTS: [(&str, &str, u8); 46] = [
     ("version = 1", "version = ", 1),
     ("seed = 0", "seed = 9223372036854775808", 1),

@@ -1,4 +1,4 @@
-//! Tests of what reads texts: the configuration, addresses, the words of a command line. They stand apart
+//! Tests of what reads texts: the configuration, addresses, the words of a command line. They are kept apart
 //! from these crates, each of which would be proved a second time for its tests.
 #![tactic(auto)]
 

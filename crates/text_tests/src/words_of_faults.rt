@@ -3,7 +3,7 @@ use router_config::fault_words;
 use sample_packets::CONFIGURATION as TEXT;
 use std::test::Fail;
 
-/// In each row: what stands in the sound text, what is put in its place, and the words of the fault.
+/// In each row: what is in the sound text, what is put in its place, and the words of the fault.
 const ROWS: [(&str, &str, &str); 24] = [
     (
         "version = 1",

@@ -37,7 +37,7 @@ fn now_of<R: Clock>(clock: &R) -> Option<u64> {
     Some(since.as_secs())
 }
 
-/// The datagram of so many bytes, from there, that was read now.
+/// The datagram of this length that was read now, with its source.
 fn arrived<R: Clock>(clock: &R, len: usize, from: SocketAddr) -> NextLen
     requires { len < 9218 }
     ensures { fits result }
@@ -77,7 +77,7 @@ impl<R: Clock + Drop> UdpSource<R> {
         }
     }
 
-    /// The address at which the socket stands; none where the system doesn't tell.
+    /// The address at which the socket is; none where the system doesn't tell.
     pub fn address(&self) -> Option<Underlay> {
         match self.socket.local_addr() {
             Ok(address) => Some(underlay_of(address)),

@@ -22,7 +22,7 @@ use std::sync::Wait;
 use std::thread::Threads;
 use udp_devices::{BindFault, Devices, UdpSink, UdpSource, bind_links};
 
-/// What is told where no memory is left for the engine itself.
+/// The fault where no memory is left for the engine itself.
 const LACK: RunFault = RunFault::Lines(LinesFault::Memory);
 
 /// The interfaces of the links, ascending.

@@ -35,12 +35,12 @@ fn leaving(to: Option<Underlay>) -> Outgoing {
     }
 }
 
-/// Whether the sink takes so many bytes for an address.
+/// Whether the sink takes this number of bytes for an address.
 fn takes(sink: &mut UdpSink, to: Option<Underlay>, bytes: &[u8]) -> bool {
     sink.failures() < 5 && sink.send(&leaving(to), bytes).is_ok()
 }
 
-/// Whether the source gives so many bytes of 7 from there, now or after a wait; the buffer has room for one
+/// Whether the source gives this number of bytes of 7 from there, now or after a wait; the buffer has room for one
 /// byte more than the longest datagram.
 fn gives<R: Clock + Drop>(source: &mut UdpSource<R>, from: Underlay, len: usize) -> bool {
     let mut buffer = [0u8; BUFFER_LEN];
@@ -68,7 +68,7 @@ fn is_quiet<R: Clock + Drop>(source: &mut UdpSource<R>) -> bool {
     source.failures() < 5 && source.next_into(&mut buffer) == NextLen::Quiet
 }
 
-/// Whether datagrams of so many bytes cross from one socket to another of the same kind.
+/// Whether datagrams of this length cross from one socket to another of the same kind.
 fn crosses(rt: &HostRuntime, ends: Ends) -> Result<bool, Fail> {
     let (reader, mut sink) = open_link(rt, ends)?;
     let (mut source, _) = open_link(rt, ends)?;

@@ -57,7 +57,7 @@ fn fresh<R: Clock>(rt: &R) -> io::Result<[u8; 92]> {
 /// The most bytes that come back: those of an answer.
 const MOST: usize = 1232;
 
-/// The lines that the router is told: before the first is read, a datagram is sent from the neighbour of link 1
+/// The commands that the router reads: before the first is read, a datagram is sent from the neighbour of link 1
 /// to that link, and what leaves there or by link 2 is waited for.
 #[derive(Drop)]
 struct Lead {
@@ -156,7 +156,7 @@ fn left_well(came: &[u8], sent: &[u8; 92]) -> bool {
 const CROSSED: &[u8] =
     b"ready\nlink 0 sent 0\nlink 1 sent 0\nlink 2 sent 1\nreceived 1\nsent 1\nanswered 0\n";
 
-/// Where the SCMP message of an answer stands.
+/// Where the SCMP message of an answer is.
 const MESSAGE_AT: usize = 84;
 
 /// Whether it tells that the MAC of the hop field at byte 60 is wrong, and quotes the whole datagram.
@@ -184,7 +184,7 @@ fn udp_loopback(rt: HostRuntime) -> Result<(), Fail> {
     Ok(())
 }
 
-/// Where an address is taken, its link is told, and nothing is written.
+/// Where an address is taken, the fault names its link, and nothing is written.
 #[test]
 fn a_taken_address_is_told(rt: HostRuntime) -> Result<(), Fail> {
     let alloc = rt.alloc();

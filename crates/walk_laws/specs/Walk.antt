@@ -12,7 +12,7 @@ use Rattle.process_packet.specs.Shown.{turned}
 use Rattle.walk_laws.specs.Stands.{PacketAt, IsUnasked, Stands, place_of}
 use Rattle.walk_laws.specs.Stop.{IsAsked, IsCarried, packet_state, verdict_at}
 
--- from one stop to another one, over at most so many others
+-- from one stop to another one, over at most n others
 pub data Walks (net : Net) (moment : ℕ) : ℕ → PacketAt → PacketAt → Type 0 where
   is_there : {n : ℕ} {a : PacketAt} → Walks net moment n a a
   goes : {n : ℕ} {a b z : PacketAt} (x : Router) (out : ℕ) (to : Option Underlay) → router_at net a.router ≡ Some x → verdict_at x a moment ≡ Sent out to b.packet

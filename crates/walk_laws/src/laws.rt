@@ -9,13 +9,13 @@ ghost use Rattle.walk_laws.specs.Stop.{CarriedToOne, OneStop};
 ghost use Rattle.walk_laws.specs.Stretch.{BeaconedHopsHold, StretchesHold};
 ghost use Rattle.walk_laws.specs.Walk.{RoutesAreWalked};
 
-/// A packet that stands on a route is delivered at the route's last hop. At any other one it is sent
-/// on, and stands on the route where it comes to.
+/// A packet that is on a route is delivered at the route's last hop. At any other one it is sent
+/// on, and is on the route where it comes to.
 pub fn one_stop()
     ensures { OneStop }
 {}
 
-/// From wherever it stands on a route, a packet is delivered after at most 128 stops.
+/// From wherever it is on a route, a packet is delivered after at most 128 stops.
 pub fn routes_are_walked()
     ensures { RoutesAreWalked }
 {}

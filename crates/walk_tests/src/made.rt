@@ -20,7 +20,7 @@ const NOW: u64 = 1694499716;
 /// What is built for a seed.
 #[derive(Clone, Copy)]
 struct Plan {
-    /// How many ASes stand in the row, 2 to 5.
+    /// How many ASes are in the row, 2 to 5.
     ases: u8,
     /// The number of the last one; the first is number 0.
     last: u8,
@@ -45,7 +45,7 @@ fn plan_of(seed: u8) -> Plan {
     }
 }
 
-/// Whether an AS has two routers: it stands within the row, and its bit is set.
+/// Whether an AS has two routers: it is within the row, and its bit is set.
 fn is_split(plan: Plan, number: u8) -> bool {
     let bit = match number {
         1 => plan.split % 2,

@@ -183,7 +183,7 @@ const CASES: [(&str, [Change; 2]); 14] = [
     ),
 ];
 
-/// The line as it stands, or as one of the changes tells it.
+/// The line as it is, or as one of the changes tells it.
 fn line(router: usize, number: usize, told: &'static str, changes: [Change; 2]) -> &'static str {
     for (place, at, text) in changes {
         if place == router && at == number {

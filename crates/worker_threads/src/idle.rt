@@ -59,7 +59,7 @@ pub(crate) fn nap<R: Clock>(rt: &R) {
     thread::sleep(rt, Duration::from_micros(1));
 }
 
-// The length of the nap after so many, in microseconds.
+// The length of the nap after a number of naps, in microseconds.
 fn length_of(naps: u32) -> u64 {
     if naps < SHORT_NAPS {
         return 1;

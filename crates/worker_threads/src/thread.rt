@@ -15,10 +15,10 @@ use std::sync::atomic::{AtomicU64, Ordering};
 use std::thread::{Builder, Promise, PromisedHandle, Threads};
 use std::time::Clock;
 
-/// So many bytes has a thread's stack.
+/// The size of a thread's stack, in bytes.
 pub const STACK: usize = 512 * 1024;
 
-// So many turns that did something come between two that post.
+// How many turns that did something lie between two posts.
 const TURNS: u32 = 1023;
 
 /// That a worker comes back ended, the same but for what it did. Only one whose thread was told to give
@@ -41,7 +41,7 @@ struct Pace {
     items: u32,
 }
 
-// After so many turns that did something in a row a thread naps once before it sleeps.
+// After this many turns in a row that did something, a thread naps once before it sleeps.
 const SEVERAL: u32 = 2;
 
 impl Pace {
