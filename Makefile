@@ -7,8 +7,12 @@ PROGRAM = crates/router_program/out/router_program
 
 all: bin/router
 
-# Proves the program and all that it stands on, and builds it.
-bin/router: FORCE
+# What a proof reads.
+PROVED = crates.txt HANDLES $(shell find crates -name out -prune -o \( -name '*.rt' -o -name '*.antt' \) -print)
+
+# Proves the program and all that it stands on, and builds it. Where nothing changed it is taken as it is: the kit takes
+# minutes to find that out.
+bin/router: $(PROVED)
 	cd crates/router_program && $(RT) run -- --version
 	mkdir -p bin
 	cp $(PROGRAM) bin/router
@@ -25,7 +29,7 @@ try:
 demo: bin/router
 	bin/router $(ROUTE_FIRST) < examples/first-datagram.hex
 
-bin/path_probe: FORCE
+bin/path_probe: $(PROVED)
 	cd crates/path_probe && $(RT) run -- --help
 	mkdir -p bin
 	cp crates/path_probe/out/path_probe bin/path_probe
@@ -59,8 +63,6 @@ install: bin/router
 clean:
 	rm -rf bin crates/*/out
 
-FORCE:
-
 .PHONY: bench-pipe
 
 # Nanoseconds of an item through a pipe between threads, beside plain Rust; it needs rustc too.
@@ -91,7 +93,7 @@ faults: bin/router bin/walk_tests bin/stages_tests bin/run_tests
 	tests/faults/growths.sh
 
 # The compiled tests of a crate.
-bin/walk_tests bin/stages_tests bin/run_tests: bin/%: FORCE
+bin/walk_tests bin/stages_tests bin/run_tests: bin/%: $(PROVED)
 	cd crates/$* && $(RT) test
 	mkdir -p bin
 	cp crates/$*/out/$*_tests bin/$*
