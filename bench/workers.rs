@@ -79,7 +79,7 @@ pub struct Packet {
     bytes: Buffer,
 }
 
-pub struct Parcel {
+pub struct EgressPacket {
     arrived: usize,
     came_by: u16,
     number: u64,
@@ -316,7 +316,7 @@ pub struct Processor {
     /// The number among the producers.
     index: usize,
     /// Two of each link: that of its low band, and of its high one.
-    links: Vec<Arc<Pipe<Parcel>>>,
+    links: Vec<Arc<Pipe<EgressPacket>>>,
     slow: Arc<Pipe<Packet>>,
     free: Vec<Arc<Pipe<Buffer>>>,
     counts: Counts,
@@ -327,7 +327,7 @@ impl Processor {
         router: Arc<Router>,
         from: Arc<Pipe<Packet>>,
         index: usize,
-        links: Vec<Arc<Pipe<Parcel>>>,
+        links: Vec<Arc<Pipe<EgressPacket>>>,
         slow: Arc<Pipe<Packet>>,
         free: Vec<Arc<Pipe<Buffer>>>,
     ) -> Processor {
@@ -381,7 +381,7 @@ impl Processor {
         // a traffic class of expedited forwarding
         let urgent =
             self.router.bands[place] && (packet.bytes[0] << 4 | packet.bytes[1] >> 4) >> 2 == 46;
-        let parcel = Parcel {
+        let leaving = EgressPacket {
             arrived: packet.link,
             came_by: packet.interface,
             number: packet.number,
@@ -391,8 +391,8 @@ impl Processor {
             bytes: packet.bytes,
         };
         let pipe = &self.links[2 * place + usize::from(urgent)];
-        if let Err(parcel) = pipe.offer(self.index, parcel) {
-            self.drop_for(LINK_FULL, parcel.arrived, parcel.bytes);
+        if let Err(leaving) = pipe.offer(self.index, leaving) {
+            self.drop_for(LINK_FULL, leaving.arrived, leaving.bytes);
         }
     }
 }
@@ -418,8 +418,8 @@ impl Work for SlowPath {
 pub struct Forwarder<K> {
     router: Arc<Router>,
     link: usize,
-    low: Arc<Pipe<Parcel>>,
-    high: Arc<Pipe<Parcel>>,
+    low: Arc<Pipe<EgressPacket>>,
+    high: Arc<Pipe<EgressPacket>>,
     ends: u64,
     pub sink: K,
     /// The number among the producers of free buffers.
@@ -432,14 +432,14 @@ impl<K: Sink> Work for Forwarder<K> {
     #[inline(never)]
     fn turn(&mut self) -> bool {
         if self.router.bands[self.link] {
-            if let Some(parcel) = self.high.take(&mut self.ends) {
-                self.send(parcel);
+            if let Some(packet) = self.high.take(&mut self.ends) {
+                self.send(packet);
                 return true;
             }
         }
         match self.low.take(&mut self.ends) {
-            Some(parcel) => {
-                self.send(parcel);
+            Some(packet) => {
+                self.send(packet);
                 true
             }
             None => false,
@@ -451,8 +451,8 @@ impl<K: Sink> Forwarder<K> {
     pub fn new(
         router: Arc<Router>,
         link: usize,
-        low: Arc<Pipe<Parcel>>,
-        high: Arc<Pipe<Parcel>>,
+        low: Arc<Pipe<EgressPacket>>,
+        high: Arc<Pipe<EgressPacket>>,
         sink: K,
         number: usize,
         free: Vec<Arc<Pipe<Buffer>>>,
@@ -470,18 +470,18 @@ impl<K: Sink> Forwarder<K> {
         }
     }
 
-    fn send(&mut self, parcel: Parcel) {
+    fn send(&mut self, packet: EgressPacket) {
         let out = Outgoing {
-            arrived: parcel.came_by,
-            number: parcel.number,
-            answer: parcel.answer,
-            to: parcel.to,
+            arrived: packet.came_by,
+            number: packet.number,
+            answer: packet.answer,
+            to: packet.to,
         };
-        match self.sink.send(&out, &parcel.bytes[..parcel.len]) {
-            Ok(()) if parcel.answer => self.counts.answered += 1,
+        match self.sink.send(&out, &packet.bytes[..packet.len]) {
+            Ok(()) if packet.answer => self.counts.answered += 1,
             Ok(()) => self.counts.sent += 1,
             Err(()) => self.counts.drop_for(17),
         }
-        let _ = self.free[parcel.arrived].offer(self.number, parcel.bytes);
+        let _ = self.free[packet.arrived].offer(self.number, packet.bytes);
     }
 }

@@ -23,8 +23,8 @@ use std::sync::atomic::AtomicU64;
 use std::thread::{self, Builder};
 use std::time::{Duration, SystemTime, UNIX_EPOCH};
 use workers::{
-    Buffer, Event, Forwarder, Outgoing, Packet, Parcel, Pipe, Processor, ROOM, Receiver, Router,
-    Sink, SlowPath, Source, Work,
+    Buffer, EgressPacket, Event, Forwarder, Outgoing, Packet, Pipe, Processor, ROOM, Receiver,
+    Router, Sink, SlowPath, Source, Work,
 };
 
 const CAPACITY: usize = 1024;
@@ -171,7 +171,7 @@ fn main() {
     let stop = Arc::new(AtomicU64::new(0));
     let inner = pipes::<Packet>(processors);
     let (slow, slow_event) = pipes::<Packet>(1).remove(0);
-    let outer = pipes::<Parcel>(links);
+    let outer = pipes::<EgressPacket>(links);
     let both: Vec<_> = outer
         .iter()
         .flat_map(|(low, _)| [Arc::clone(low), Pipe::new(2, None)])
