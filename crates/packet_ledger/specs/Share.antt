@@ -35,6 +35,10 @@ with_fate cause t = record { received = t.received; sent = t.sent; answered = t.
 abbrev pub HasRoom : Totals → Type 0
 HasRoom t = (i : ℕ) → count_at i t < 2 ^ 100
 
+-- each count can be raised by one this often
+abbrev pub Leaves : ℕ → Totals → Type 0
+Leaves n t = (i : ℕ) → count_at i t + n ≤ 2 ^ 100
+
 -- so each call that raises a count by one may be made
 abbrev pub MayRaise : Totals → Type 0
 MayRaise t = (t.received + 1 ≤ 2 ^ 100) × (t.sent + 1 ≤ 2 ^ 100) × (t.answered + 1 ≤ 2 ^ 100) × ((cause : Cause) → dropped_for t cause + 1 ≤ 2 ^ 100)

@@ -1,6 +1,6 @@
 //! A worker's own counts.
 
-ghost use Rattle.std.specs.Prelude.{◌≡◌, ◌+◌, ◌^◌, ◌≤◌, true, MatchBool};
+ghost use Rattle.std.specs.Prelude.{◌≡◌, ◌+◌, ◌-◌, ◌^◌, ◌≤◌, true, MatchBool};
 ghost use Rattle.process_packet.specs.Totals.{dropped_for};
 ghost use Rattle.packet_ledger.specs.Amounts.{nothing};
 ghost use Rattle.packet_ledger.specs.Share.{HasRoom, MayRaise, counting, forwarded, with_answered, with_fate, with_received, with_sent};
@@ -13,11 +13,17 @@ use std::marker::{Model, PhantomData};
 /// Each count of a share stays at or below this between two posts.
 pub const ROOM: u128 = 1 << 100;
 
+/// How many more times each count is known to fit where nothing is counted.
+pub(crate) const ALL_LEFT: u64 = u64::MAX;
+
 /// One worker's counts, and the sums of all that it ever posted into the book `L`.
 #[derive(Drop)]
 pub struct Share<L: Ledger> {
     pub(crate) counts: Totals,
     pub(crate) posted: Totals,
+    // Each count can be raised by one at least this many times, so that most looks for room need not
+    // read each count.
+    pub(crate) left: u64,
     pub(crate) token: Token,
     pub(crate) of: PhantomData<L>,
 }
@@ -27,13 +33,24 @@ impl<L: Ledger> Model for Share<L> {
     ghost use Rattle.crossbeam_utils.specs.Seq.{cell_view};
     ghost use Rattle.packet_ledger.specs.Amounts.{AtMost};
     ghost use Rattle.packet_ledger.specs.Tokens.{holder};
-    ghost use Rattle.packet_ledger.specs.Share.{Held};
+    ghost use Rattle.packet_ledger.specs.Share.{Held, Leaves};
 
     ghost Value = { Held };
 
     ghost view = { λ s. record { counts = s.counts; posted = s.posted } };
 
-    ghost invariant = { λ s. (s.token.table_id ≡ L.table) × (s.token.me.1 ≡ []) × (cell_view s.token ≡ holder 1 s.posted) × AtMost (2 ^ 100) s.counts × AtMost (2 ^ 126) s.posted };
+    ghost invariant = { λ s. (s.token.table_id ≡ L.table) × (s.token.me.1 ≡ []) × (cell_view s.token ≡ holder 1 s.posted) × AtMost (2 ^ 100) s.counts × AtMost (2 ^ 126) s.posted × Leaves s.left s.counts };
+}
+
+// What is left after a count was raised by `n`.
+fn left_after(left: u64, n: u128) -> u64
+    ensures { result ≡ left - n }
+{
+    if n < u128::from(left) {
+        left - n as u64
+    } else {
+        0
+    }
 }
 
 impl<L: Ledger> Share<L> {
@@ -43,6 +60,7 @@ impl<L: Ledger> Share<L> {
         ensures { self.new ≡ counting self.old (with_received n self.old.counts) }
     {
         self.counts.received += n;
+        self.left = left_after(self.left, n);
     }
 
     /// Counts one more packet as sent.
@@ -51,6 +69,7 @@ impl<L: Ledger> Share<L> {
         ensures { self.new ≡ counting self.old (with_sent self.old.counts) }
     {
         self.counts.sent += 1;
+        self.left = left_after(self.left, 1);
     }
 
     /// Counts one more answer as sent.
@@ -59,6 +78,7 @@ impl<L: Ledger> Share<L> {
         ensures { self.new ≡ counting self.old (with_answered self.old.counts) }
     {
         self.counts.answered += 1;
+        self.left = left_after(self.left, 1);
     }
 
     /// Counts one more packet or answer as dropped for a cause.
@@ -67,6 +87,7 @@ impl<L: Ledger> Share<L> {
         ensures { self.new ≡ counting self.old (with_fate cause self.old.counts) }
     {
         self.counts.dropped[usize::from(cause.number()) - 1] += 1;
+        self.left = left_after(self.left, 1);
     }
 
     /// Whether each count can still be raised.
@@ -74,6 +95,9 @@ impl<L: Ledger> Share<L> {
         ensures room { MatchBool result (HasRoom self.now.counts) (HasRoom self.now.counts → ⊥) }
         ensures each { result ≡ true → MayRaise self.now.counts }
     {
+        if self.left > 0 {
+            return true;
+        }
         at_most(&self.counts, ROOM - 1)
     }
 

@@ -7,7 +7,7 @@ ghost use Rattle.packet_ledger.specs.Tokens.{gathered, keeper};
 ghost use Rattle.packet_ledger.specs.Share.{counts_of, emptied, new_share, posted_by};
 
 use crate::amounts::{MOST, added, at_most, none};
-use crate::share::Share;
+use crate::share::{ALL_LEFT, Share};
 use crate::tokens::{Cell, Ledger, Token, audit, give, take_in};
 use process_packet::Totals;
 use std::alloc::{AllocError, Global};
@@ -71,6 +71,7 @@ impl<L: Ledger> Sums<L> {
         share.token = give(cell, &mut self.token, 1, &share.counts);
         share.posted = added(&share.posted, &share.counts);
         share.counts = none();
+        share.left = ALL_LEFT;
         self.totals = sums;
         true
     }
@@ -129,6 +130,7 @@ fn split_share<L: Ledger>(cell: &Cell, token: &mut Token) -> Share<L>
         token: give(cell, token, 1, &counts),
         counts,
         posted: counts,
+        left: ALL_LEFT,
         of: PhantomData,
     }
 }
@@ -164,6 +166,7 @@ fn add_share<L: Ledger>(cell: &Cell, token: &mut Token, share: Share<L>, counts:
     let Share {
         counts: own,
         posted: _,
+        left: _,
         token: other,
         of: _,
     } = share;

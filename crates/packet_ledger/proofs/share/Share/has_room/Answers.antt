@@ -20,6 +20,10 @@ may_raise t most = (
   λ cause. let a = most (suc (suc (suc (number_of cause - 1)))) in omega arith,
 )
 
+pub returns-then-self-gt0-clause-each : goal.returns-then-self-gt0-clause-each
+returns-then-self-gt0-clause-each g c =
+    λ yes'. rw (← c.self.view_is) (may_raise c.self.inside.counts (λ i. let l = c.self.invariant.5 i in let some = c.if-self-gt0.true in omega arith))
+
 pub returns-clause-each : goal.returns-clause-each
 returns-clause-each g c =
     λ yes'.

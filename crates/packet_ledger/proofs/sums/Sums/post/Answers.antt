@@ -39,4 +39,5 @@ invariant_of-share g c =
       moved.2 ∙ ap (holder 1) (sym c.added-share-inside.ensures),
       (λ i. let z = nothing_at i in let e = ap (count_at i) c.none-share-inside.ensures in omega arith),
       posted_fits _ _ totals posted c.share.inside.counts c.added-sums.result _ _ moved.0 c.audit.ensures.known.1 c.added-sums.ensures c.if-not-at_most.ensures c.added-share-inside.ensures,
+      (λ i. let z = nothing_at i in let e = ap (count_at i) c.none-share-inside.ensures in omega arith),
     )
