@@ -61,8 +61,8 @@ impl<N: Router, R: Wait + Copy> Intake<N, R> {
         let Some(buffer) = self.pool.another() else {
             return self.share.fate(Cause::NoBuffer);
         };
-        let bytes = self.pool.exchange(buffer);
-        let packet = Packet::new(self.link, self.interface, number, from, now, len, bytes);
+        let read = self.pool.exchange(buffer);
+        let packet = Packet::new(self.link, self.interface, number, from, now, len, read);
         if let Err(packet) = offer_at(&self.rt, &mut self.processors, at, packet) {
             self.pool.keep(packet.into_buffer());
             self.share.fate(Cause::ProcessorFull);

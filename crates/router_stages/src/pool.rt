@@ -6,7 +6,7 @@ ghost use Rattle.stage_parts.specs.Heard.{failures_of, fits, heard};
 ghost use Rattle.router_stages.specs.Pool.{Another, Found, FoundNone, is_buffer, stock};
 
 use ruled_pipe::{Consumer, Entry, Load};
-use stage_parts::{Buffer, NextLen, Source};
+use stage_parts::{Buffer, NextLen, ReadBuffer, Source};
 use std::marker::Model;
 use std::mem;
 use std::sync::Wait;
@@ -15,20 +15,17 @@ use std::sync::Wait;
 #[derive(Drop)]
 pub struct Pool<R> {
     rt: R,
-    room: Vec<u8>,
+    room: ReadBuffer,
     spare: Option<Buffer>,
     free: Consumer<Buffer>,
 }
 
 impl<R> Model for Pool<R> {
-    ghost use Rattle.std.specs.Prelude.{◌≡◌, length};
     ghost use Rattle.router_stages.specs.Pool.{Pooled, stock};
 
     ghost Value = { Pooled };
 
-    ghost view = { λ p. record { room = p.room.items; stock = stock p.spare p.free } };
-
-    ghost invariant = { λ p. length p.room.items ≡ 9217 };
+    ghost view = { λ p. record { room = p.room; stock = stock p.spare p.free } };
 }
 
 // The buffer of an entry; none of a mark.
@@ -63,7 +60,7 @@ impl<R: Wait + Copy> Pool<R> {
     {
         Pool {
             rt,
-            room: first.into_bytes(),
+            room: ReadBuffer::of(first),
             spare: None,
             free,
         }
@@ -77,7 +74,7 @@ impl<R: Wait + Copy> Pool<R> {
         ensures failed { S.failed source.new ≡ S.failed source.old + failures_of result }
         ensures told { AddsTo (S.told source.old) (heard self.new.room result) (S.told source.new) }
     {
-        source.next_into(self.room.as_mut_slice())
+        self.room.read(source)
     }
 
     /// The first bytes of what was read.
@@ -85,7 +82,7 @@ impl<R: Wait + Copy> Pool<R> {
         requires { len ≤ 9217 }
         ensures { result.now ≡ take len self.now.room }
     {
-        &self.room[..len]
+        self.room.front(len)
     }
 
     /// Another buffer: the one in reserve, else one of the pipe.
@@ -100,12 +97,11 @@ impl<R: Wait + Copy> Pool<R> {
     }
 
     /// Puts another buffer in the place of the one that was read into, and gives that.
-    pub fn exchange(&mut self, buffer: Buffer) -> Vec<u8>
-        ensures bytes { result.items ≡ self.old.room }
-        ensures long { length result.items ≡ 9217 }
+    pub fn exchange(&mut self, buffer: Buffer) -> ReadBuffer
+        ensures bytes { result ≡ self.old.room }
         ensures stock { self.new.stock ≡ self.old.stock }
     {
-        mem::replace(&mut self.room, buffer.into_bytes())
+        mem::replace(&mut self.room, ReadBuffer::of(buffer))
     }
 
     /// Keeps a buffer in reserve.

@@ -2,3 +2,4 @@ pub mod Marks
 pub mod Telling
 pub mod Sending
 pub mod EndLemmas
+pub mod Deciding

@@ -1,7 +1,8 @@
-//! Room for one datagram.
+//! Memory for one datagram.
 
 ghost use Rattle.std.specs.Prelude.{◌≡◌, length};
 
+use process_packet::{Ip, Underlay};
 use std::alloc::{AllocError, Global};
 use std::marker::Model;
 
@@ -9,10 +10,28 @@ use std::marker::Model;
 /// longer one is seen to be too long.
 pub const BUFFER_LEN: usize = 9217;
 
-/// Room for one datagram. Contracts know of it only that it is one.
+/// The bytes of a buffer, and what is known of the datagram in them. It keeps its place in memory: what
+/// one worker hands to the next is its owner, a single pointer.
+#[derive(Drop)]
+pub(crate) struct Storage {
+    pub(crate) bytes: Vec<u8>,
+    pub(crate) len: usize,
+    // of the datagram's arrival: the link's number and interface, and its number among the link's
+    pub(crate) link: u16,
+    pub(crate) interface: u16,
+    pub(crate) number: u64,
+    pub(crate) source: Underlay,
+    pub(crate) moment: u64,
+    // of what leaves
+    pub(crate) answer: bool,
+    pub(crate) egress: u16,
+    pub(crate) to: Option<Underlay>,
+}
+
+/// Memory for one datagram. Contracts know of it only that it is there.
 #[derive(Drop)]
 pub struct Buffer {
-    bytes: Vec<u8>,
+    pub(crate) storage: Box<Storage>,
 }
 
 impl Model for Buffer {
@@ -22,28 +41,36 @@ impl Model for Buffer {
 
     ghost view = { λ b. tt };
 
-    ghost invariant = { λ b. length b.bytes.items ≡ 9217 };
+    ghost invariant = { λ b. length b.storage.value.bytes.items ≡ 9217 };
 }
 
 impl Buffer {
     /// A buffer in memory of its own. `Err` where no memory is left.
     pub fn new(alloc: Global) -> Result<Buffer, AllocError> {
         let bytes = vec![in alloc; 0; BUFFER_LEN]?;
-        Ok(Buffer { bytes })
+        let storage = Storage {
+            bytes,
+            len: 0,
+            link: 0,
+            interface: 0,
+            number: 0,
+            source: Underlay {
+                ip: Ip::V4([0; 4]),
+                port: 0,
+            },
+            moment: 0,
+            answer: false,
+            egress: 0,
+            to: None,
+        };
+        let storage = Box::new(alloc, storage)?;
+        Ok(Buffer { storage })
     }
 
-    /// The buffer of these bytes.
-    pub fn of(bytes: Vec<u8>) -> Buffer
-        requires { length bytes.items ≡ 9217 }
+    // The buffer of this storage.
+    pub(crate) fn of(storage: Box<Storage>) -> Buffer
+        requires { length storage.value.bytes.items ≡ 9217 }
     {
-        Buffer { bytes }
-    }
-
-    /// Its bytes, all 9,217, whatever was read into them.
-    pub fn into_bytes(self) -> Vec<u8>
-        ensures { length result.items ≡ 9217 }
-    {
-        let Buffer { bytes } = self;
-        bytes
+        Buffer { storage }
     }
 }

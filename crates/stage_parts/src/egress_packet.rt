@@ -5,23 +5,15 @@ ghost use Rattle.router_rules.specs.Rules.{is_urgent};
 ghost use Rattle.stage_parts.specs.Items.{StandsIn};
 ghost use Rattle.stage_parts.specs.Told.{named};
 
-use crate::buffer::Buffer;
+use crate::buffer::{Buffer, Storage};
 use crate::router::Router;
-use process_packet::Underlay;
 use router_rules::{Outgoing, is_urgent};
 use std::marker::{Model, PhantomData};
 
 /// A packet that leaves, or the answer to one, in the buffer of the packet that arrived.
 #[derive(Drop)]
 pub struct EgressPacket<N: Router> {
-    pub(crate) arrived: u16,
-    pub(crate) came_by: u16,
-    pub(crate) number: u64,
-    pub(crate) answer: bool,
-    pub(crate) link: u16,
-    pub(crate) to: Option<Underlay>,
-    pub(crate) len: usize,
-    pub(crate) bytes: Vec<u8>,
+    pub(crate) storage: Box<Storage>,
     pub(crate) of: PhantomData<N>,
 }
 
@@ -33,9 +25,9 @@ impl<N: Router> Model for EgressPacket<N> {
 
     ghost Value = { Outgoing kinds };
 
-    ghost view = { λ o. record { arrived = o.arrived; number = o.number; answer = o.answer; link = o.link; parcel = record { came_by = o.came_by; to = o.to; bytes = take o.len o.bytes.items } } };
+    ghost view = { λ o. record { arrived = o.storage.value.link; number = o.storage.value.number; answer = o.storage.value.answer; link = o.storage.value.egress; parcel = record { came_by = o.storage.value.interface; to = o.storage.value.to; bytes = take o.storage.value.len o.storage.value.bytes.items } } };
 
-    ghost invariant = { λ o. (length o.bytes.items ≡ 9217) × (o.len ≤ 9217) × StandsIn N.config o.arrived o.came_by };
+    ghost invariant = { λ o. (length o.storage.value.bytes.items ≡ 9217) × (o.storage.value.len ≤ 9217) × StandsIn N.config o.storage.value.link o.storage.value.interface };
 }
 
 impl<N: Router> EgressPacket<N> {
@@ -44,21 +36,21 @@ impl<N: Router> EgressPacket<N> {
         ensures arrived { result ≡ self.now.arrived }
         ensures stands { StandsIn N.config self.now.arrived self.now.parcel.came_by }
     {
-        self.arrived
+        self.storage.link
     }
 
     /// The number of the link by which it leaves.
     pub fn link(&self) -> u16
         ensures { result ≡ self.now.link }
     {
-        self.link
+        self.storage.egress
     }
 
     /// Whether it is the answer to a packet.
     pub fn is_answer(&self) -> bool
         ensures { result ≡ self.now.answer }
     {
-        self.answer
+        self.storage.answer
     }
 
     /// Whether it goes to the high band of a link that has two.
@@ -72,11 +64,12 @@ impl<N: Router> EgressPacket<N> {
     pub fn named(&self) -> Outgoing
         ensures { result ≡ named self.now }
     {
+        let storage = &*self.storage;
         Outgoing {
-            arrived: self.came_by,
-            number: self.number,
-            answer: self.answer,
-            to: self.to,
+            arrived: storage.interface,
+            number: storage.number,
+            answer: storage.answer,
+            to: storage.to,
         }
     }
 
@@ -84,12 +77,12 @@ impl<N: Router> EgressPacket<N> {
     pub fn bytes(&self) -> &[u8]
         ensures { result.now ≡ self.now.parcel.bytes }
     {
-        &self.bytes[..self.len]
+        &self.storage.bytes[..self.storage.len]
     }
 
     /// Its buffer, which is free again.
     pub fn into_buffer(self) -> Buffer {
-        let EgressPacket { bytes, .. } = self;
-        Buffer::of(bytes)
+        let EgressPacket { storage, of: _ } = self;
+        Buffer::of(storage)
     }
 }

@@ -9,8 +9,9 @@ ghost use Rattle.scion_packet.specs.Packet.{first_fault};
 ghost use Rattle.router_laws.specs.Heard.{arrival};
 ghost use Rattle.stage_parts.specs.Items.{StandsIn, asking, leaving, with_bytes};
 
-use crate::buffer::Buffer;
+use crate::buffer::{Buffer, Storage};
 use crate::egress_packet::EgressPacket;
+use crate::read_buffer::ReadBuffer;
 use crate::request::SlowPathRequest;
 use crate::router::Router;
 use process_packet::{Config, Decision, Problem, Underlay, answers_are_sound, route_in_place};
@@ -19,13 +20,7 @@ use std::marker::{Model, PhantomData};
 /// A datagram as it arrived, in the buffer into which it was read.
 #[derive(Drop)]
 pub struct Packet<N: Router> {
-    pub(crate) link: u16,
-    pub(crate) interface: u16,
-    pub(crate) number: u64,
-    pub(crate) source: Underlay,
-    pub(crate) moment: u64,
-    pub(crate) len: usize,
-    pub(crate) bytes: Vec<u8>,
+    pub(crate) storage: Box<Storage>,
     pub(crate) of: PhantomData<N>,
 }
 
@@ -38,9 +33,9 @@ impl<N: Router> Model for Packet<N> {
 
     ghost Value = { Arrival kinds };
 
-    ghost view = { λ p. arrival p.link p.interface p.number p.source p.moment (take p.len p.bytes.items) };
+    ghost view = { λ p. arrival p.storage.value.link p.storage.value.interface p.storage.value.number p.storage.value.source p.storage.value.moment (take p.storage.value.len p.storage.value.bytes.items) };
 
-    ghost invariant = { λ p. (length p.bytes.items ≡ 9217) × (p.len ≤ 9217) × StandsIn N.config p.link p.interface };
+    ghost invariant = { λ p. (length p.storage.value.bytes.items ≡ 9217) × (p.storage.value.len ≤ 9217) × StandsIn N.config p.storage.value.link p.storage.value.interface };
 }
 
 // Decides on the datagram at the front of a buffer, where it lies.
@@ -62,7 +57,7 @@ fn decide_at_front(
 }
 
 impl<N: Router> Packet<N> {
-    /// The datagram of the first `len` bytes of a buffer, which came by the link of this number and
+    /// The datagram of the first `len` bytes of what was read, which came by the link of this number and
     /// interface.
     pub fn new(
         link: u16,
@@ -71,21 +66,21 @@ impl<N: Router> Packet<N> {
         source: Underlay,
         moment: u64,
         len: usize,
-        bytes: Vec<u8>,
+        read: ReadBuffer,
     ) -> Packet<N>
-        requires room { length bytes.items ≡ 9217 }
         requires len { len ≤ 9217 }
         requires stands { StandsIn N.config link interface }
-        ensures { result ≡ arrival link interface number source moment (take len bytes.items) }
+        ensures { result ≡ arrival link interface number source moment (take len read) }
     {
+        let ReadBuffer { mut storage } = read;
+        storage.len = len;
+        storage.link = link;
+        storage.interface = interface;
+        storage.number = number;
+        storage.source = source;
+        storage.moment = moment;
         Packet {
-            link,
-            interface,
-            number,
-            source,
-            moment,
-            len,
-            bytes,
+            storage,
             of: PhantomData,
         }
     }
@@ -95,21 +90,21 @@ impl<N: Router> Packet<N> {
         ensures link { result ≡ self.now.link }
         ensures stands { StandsIn N.config self.now.link self.now.datagram.interface }
     {
-        self.link
+        self.storage.link
     }
 
     /// Its number among the datagrams of that link, from 1 on.
     pub fn number(&self) -> u64
         ensures { result ≡ self.now.number }
     {
-        self.number
+        self.storage.number
     }
 
     /// The interface of the link by which it came; 0 is the internal network.
     pub fn interface(&self) -> u16
         ensures { result ≡ self.now.datagram.interface }
     {
-        self.interface
+        self.storage.interface
     }
 
     /// Decides on it where it lies: where it leaves, its bytes are what leaves, and else as they came.
@@ -119,48 +114,27 @@ impl<N: Router> Packet<N> {
         ensures sound { (p : Told) → result ≡ Decision.Answer p → (first_fault self.new.datagram.bytes ≡ None) × (self.new.datagram.bytes ≡ self.old.datagram.bytes) }
     {
         answers_are_sound();
-        let len = self.len;
-        decide_at_front(
-            config,
-            self.interface,
-            self.source,
-            self.moment,
-            &mut self.bytes,
-            len,
-        )
+        let storage = &mut *self.storage;
+        let (interface, source, now) = (storage.interface, storage.source, storage.moment);
+        let len = storage.len;
+        decide_at_front(config, interface, source, now, &mut storage.bytes, len)
     }
 
     /// Its buffer, which is free again.
     pub fn into_buffer(self) -> Buffer {
-        let Packet { bytes, .. } = self;
-        Buffer::of(bytes)
+        let Packet { storage, of: _ } = self;
+        Buffer::of(storage)
     }
 
     /// The packet on its way out by the link of a number, with its bytes as they are.
     pub fn into_egress_packet(self, link: u16, to: Option<Underlay>) -> EgressPacket<N>
         ensures { result ≡ leaving self link to }
     {
-        let Packet {
-            link: arrived,
-            interface: came_by,
-            number,
-            source: _,
-            moment: _,
-            len,
-            bytes,
-            of,
-        } = self;
-        EgressPacket {
-            arrived,
-            came_by,
-            number,
-            answer: false,
-            link,
-            to,
-            len,
-            bytes,
-            of,
-        }
+        let Packet { mut storage, of } = self;
+        storage.answer = false;
+        storage.egress = link;
+        storage.to = to;
+        EgressPacket { storage, of }
     }
 
     /// The packet with what its sender is to be told.

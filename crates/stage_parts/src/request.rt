@@ -105,31 +105,26 @@ fn answer_packet<N: Router>(
     ensures replied { reply_of result ≡ replied shared.now.config packet.datagram problem.now }
     ensures named { IfOk result (λ o. o ≡ answering packet o.link o.parcel.to o.parcel.bytes) }
 {
-    let Packet {
-        link: arrived,
-        interface: came_by,
-        number,
+    let Packet { mut storage, of } = packet;
+    let (interface, source, len) = (storage.interface, storage.source, storage.len);
+    match answer_over(
+        &shared.config,
+        interface,
         source,
-        moment: _,
+        problem,
+        &mut storage.bytes,
         len,
-        mut bytes,
-        of,
-    } = packet;
-    match answer_over(&shared.config, came_by, source, problem, &mut bytes, len) {
-        AnswerLen::Send { link, to, len } => Ok(EgressPacket {
-            arrived,
-            came_by,
-            number,
-            answer: true,
-            link: shared.ports.number(link),
-            to,
-            len,
-            bytes,
-            of,
-        }),
+    ) {
+        AnswerLen::Send { link, to, len } => {
+            storage.answer = true;
+            storage.egress = shared.ports.number(link);
+            storage.to = to;
+            storage.len = len;
+            Ok(EgressPacket { storage, of })
+        }
         AnswerLen::Drop(cause) => Err(Withheld {
             cause,
-            buffer: Buffer::of(bytes),
+            buffer: Buffer::of(storage),
         }),
     }
 }

@@ -5,9 +5,7 @@ ghost use Rattle.std.specs.Prelude.{◌≡◌, []};
 use process_packet::{Ip, LONGEST_DATAGRAM, Underlay};
 use router_rules::Outgoing;
 use ruled_pipe::{Consumer, Load, Mark, Pipe, Producer};
-use stage_parts::{
-    BUFFER_LEN, Buffer, Inlet, ListSink, ListSource, Next, NextLen, Outlet, Sink, Source,
-};
+use stage_parts::{BUFFER_LEN, Inlet, ListSink, ListSource, Next, NextLen, Outlet, Sink, Source};
 use std::alloc::{AllocError, Global};
 use std::sync::Wait;
 use std::test::*;
@@ -62,7 +60,7 @@ fn five_answers(alloc: Global) -> Result<Vec<Next>, AllocError> {
 
 fn reads_all(alloc: Global) -> Result<bool, AllocError> {
     let mut source = ListSource::new(five_answers(alloc)?);
-    let mut bytes = Buffer::new(alloc)?.into_bytes();
+    let mut bytes = vec![in alloc; 0; BUFFER_LEN]?;
     let one = gives(&mut source, &mut bytes, LONGEST_DATAGRAM, 5);
     let two = answers(&mut source, &mut bytes, NextLen::Quiet);
     let three = answers(&mut source, &mut bytes, NextLen::Failed);
