@@ -78,6 +78,8 @@ fn keep_apart<T: Drop, R: Wait>(
     }
 }
 
+#[cold]
+#[inline(never)]
 fn note_look<T, K: Added<usize>, R: Wait>(rt: &R, looks: &mut Notes<usize>, seat: &Seat<T>)
     requires { K.added ≡ length (known_by seat.now).taken ∷ [] }
     ensures { looks.new ≡ looks.old ++ length (known_by seat.now).taken ∷ [] }

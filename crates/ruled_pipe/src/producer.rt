@@ -69,6 +69,7 @@ impl<T: Drop> Producer<T> {
     }
 
     // Pushes an entry, or notes that it was refused.
+    #[inline(always)]
     fn push<R: Wait>(&mut self, rt: &R, load: Load<T>) -> Result<(), Load<T>>
         ensures step { MatchResult result (λ _. self.new ≡ offered self.old (entry self.old.number load)) (λ back. (back ≡ load) × (self.new ≡ refused self.old (entry self.old.number load))) }
         ensures full { IfErr result (λ _. WasFull self.old.producers self.old.number self.old.capacity self.old.offers (refusal (entry self.old.number load) (length self.old.offers))) }
@@ -88,6 +89,8 @@ impl<T: Drop> Producer<T> {
     }
 }
 
+#[cold]
+#[inline(never)]
 fn note_refusal<T, K: Added<Refusal<T>>, R: Wait>(
     rt: &R,
     notes: &mut Notes<Refusal<T>>,
