@@ -83,15 +83,25 @@ fn router() -> Router {
 
 /// Gives the first datagram, of one flow after the other.
 struct Flows {
+    datagrams: [[u8; 92]; 64],
     flow: u8,
+}
+
+impl Flows {
+    fn new() -> Flows {
+        let mut datagrams = [FIRST; 64];
+        for (flow, datagram) in datagrams.iter_mut().enumerate() {
+            datagram[3] = flow as u8;
+        }
+        Flows { datagrams, flow: 0 }
+    }
 }
 
 impl Source for Flows {
     fn next_into(&mut self, buffer: &mut [u8]) -> Option<(usize, Underlay, u64)> {
-        let mut datagram = FIRST;
-        datagram[3] = self.flow;
-        self.flow = self.flow.wrapping_add(1) % 64;
-        buffer[..92].copy_from_slice(&datagram);
+        let datagram = &self.datagrams[usize::from(self.flow % 64)];
+        self.flow = self.flow.wrapping_add(1);
+        buffer[..92].copy_from_slice(datagram);
         Some((92, at(1, 2, 40000), IN_TIME))
     }
 }
@@ -140,7 +150,7 @@ impl Stages {
         let own = Arc::clone(&free[1]);
         let sums = Sums { sum: 0 };
         Stages {
-            receiver: Receiver::new(Arc::clone(&router), stop, 1, Flows { flow: 0 }, own, inner),
+            receiver: Receiver::new(Arc::clone(&router), stop, 1, Flows::new(), own, inner),
             processor: Processor::new(Arc::clone(&router), from, 0, links, slow, free.clone()),
             forwarder: Forwarder::new(router, 2, low, high, sums, 1, free),
         }

@@ -11,20 +11,26 @@ use sample_stages::give;
 use stage_parts::{NextLen, Sink, SinkFault, Source};
 
 /// How many flows there are.
-const FLOWS: u8 = 64;
+const FLOWS: usize = 64;
 
 /// Where the segment's identifier is.
 const SEGMENT_AT: usize = PATH_AT + 6;
 
-/// Gives the first datagram, of one flow after the other.
+/// Gives the first datagram, of one flow after the other. Each is copied whole, as the system copies one
+/// that it received: of a constant the compiler would write the parts.
 #[derive(Drop)]
 pub struct Flows {
-    flow: u8,
+    datagrams: [[u8; 92]; FLOWS],
+    flow: usize,
 }
 
 impl Flows {
     pub fn new() -> Flows {
-        Flows { flow: 0 }
+        let mut datagrams = [FIRST; FLOWS];
+        for flow in 0..FLOWS {
+            datagrams[flow][3] = flow as u8;
+        }
+        Flows { datagrams, flow: 0 }
     }
 }
 
@@ -34,10 +40,9 @@ impl Source for Flows {
     ghost failed = { λ s. 0 };
 
     fn next_into(&mut self, buffer: &mut [u8]) -> NextLen {
-        let mut datagram = FIRST;
-        datagram[3] = self.flow;
-        self.flow = self.flow.wrapping_add(1) % FLOWS;
-        give(&datagram, buffer)
+        let datagram = &self.datagrams[self.flow % FLOWS];
+        self.flow = self.flow.wrapping_add(1);
+        give(datagram, buffer)
     }
 
     fn failures(&self) -> u64 {
