@@ -47,7 +47,7 @@ fn words_at(alloc: Global, table: &Table, location: Location) -> Result<String, 
             format!(in alloc; "`{}` is {found}; wanted: {}", key.name(), key.wanted())
         }
         Location::Member(list, number) => {
-            format!(in alloc; "{} {number} is no table", list.name())
+            format!(in alloc; "{} {number} is not a table", list.name())
         }
         Location::MemberValue(list, number, key) => {
             let found = found_at(alloc, key, member_at(table, list, number))?;

@@ -76,7 +76,7 @@ const ROWS: [(&str, &str, &str); 24] = [
         "link = []\nlinks = [",
         "`link` is a list of 0; wanted: a list of 1 to 32 tables",
     ),
-    ("{id=1,", "7, {id=1,", "link 1 is no table"),
+    ("{id=1,", "7, {id=1,", "link 1 is not a table"),
     (
         "{id=2,",
         "{id=1,",
