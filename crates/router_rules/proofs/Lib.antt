@@ -4,6 +4,7 @@ pub mod FlowLemmas
 pub mod ReplyLemmas
 pub mod CauseLemmas
 pub mod DecisionLemmas
+pub mod AnsweredLemmas
 pub mod Lawful
 pub mod PortLemmas
 pub mod ProducerLemmas

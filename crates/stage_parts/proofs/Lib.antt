@@ -2,4 +2,3 @@ pub mod Marks
 pub mod Telling
 pub mod Sending
 pub mod EndLemmas
-pub mod Deciding

@@ -2,8 +2,8 @@ use Rattle.std.proofs.Common.{◌≡◌, take, ap, ◌∙◌}
 use Rattle.pipeline_laws.specs.Item.{Arrival}
 use Rattle.process_packet.specs.Network.{network}
 use Rattle.router_rules.specs.Rules.{kinds}
+use Rattle.router_rules.proofs.AnsweredLemmas.{answered_soundly}
 use Rattle.stage_parts.specs.declared.buffer.Storage.{Storage}
-use Rattle.stage_parts.proofs.Deciding.{answered_soundly}
 use Rattle.stage_parts.proofs.packet.Packet.decide.Goals as goal
 
 pub returns-clause-sound : goal.returns-clause-sound
