@@ -1,3 +1,4 @@
 pub mod Closing
 pub mod Counting
 pub mod Moves
+pub mod Posting

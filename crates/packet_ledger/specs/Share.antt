@@ -1,10 +1,10 @@
 -- What contracts see of a share.
-use Rattle.std.specs.Prelude.{ℕ, ◌+◌, ◌-◌, ◌^◌, ◌<◌, ◌≤◌, List, fold, slice_set}
+use Rattle.std.specs.Prelude.{◌≡◌, ◌⊎◌, ℕ, ◌+◌, ◌-◌, ◌^◌, ◌<◌, ◌≤◌, List, fold, slice_set}
 use Rattle.process_packet.specs.declared.cause.Cause.{Cause}
 use Rattle.process_packet.specs.declared.totals.Totals.{Totals}
 use Rattle.process_packet.specs.Cause.{number_of}
 use Rattle.process_packet.specs.Totals.{dropped_for}
-use Rattle.packet_ledger.specs.Amounts.{count_at, nothing, plus}
+use Rattle.packet_ledger.specs.Amounts.{AtMost, count_at, nothing, plus}
 
 -- what it counted since it was posted, and the sums of all that it ever posted
 pub record Held : Type 0 where
@@ -46,6 +46,18 @@ MayRaise t = (t.received + 1 ≤ 2 ^ 100) × (t.sent + 1 ≤ 2 ^ 100) × (t.answ
 -- a share after its counts moved into the book
 abbrev pub emptied : Held → Held
 emptied s = record { counts = nothing; posted = plus s.posted s.counts }
+
+-- counts that a book may have no room for: with some sums of its own, one would pass the most
+abbrev pub IsTooMuch : Totals → Type 0
+IsTooMuch counts = (sums : Totals) × AtMost (2 ^ 126) sums × (AtMost (2 ^ 126) (plus sums counts) → ⊥)
+
+-- a post moves all counts into the book, or it leaves the share as it was, since the book has no room for them
+abbrev pub IsPosted : Held → Held → Type 0
+IsPosted old new = (new ≡ emptied old) ⊎ ((new ≡ old) × IsTooMuch old.counts)
+
+-- so afterwards it holds nothing, or what the book has no room for
+abbrev pub IsDrained : Held → Type 0
+IsDrained s = (s.counts ≡ nothing) ⊎ IsTooMuch s.counts
 
 -- all that it ever counted as sent or answered
 abbrev pub forwarded : Held → ℕ

@@ -1,11 +1,10 @@
 //! The book.
 
-ghost use Rattle.std.specs.Prelude.{◌≡◌, ◌^◌, ◌≤◌, ◌⊎◌, All, IfOk, length};
+ghost use Rattle.std.specs.Prelude.{◌≡◌, ◌≤◌, All, IfOk, length};
 ghost use Rattle.crossbeam_utils.specs.Seq.{cell_view};
-ghost use Rattle.process_packet.specs.declared.totals.Totals.{Totals};
-ghost use Rattle.packet_ledger.specs.Amounts.{AtMost, nothing, plus};
+ghost use Rattle.packet_ledger.specs.Amounts.{nothing, plus};
 ghost use Rattle.packet_ledger.specs.Tokens.{keeper};
-ghost use Rattle.packet_ledger.specs.Share.{counts_of, emptied, new_share, posted_by};
+ghost use Rattle.packet_ledger.specs.Share.{IsPosted, counts_of, new_share, posted_by};
 
 use crate::share::Share;
 use crate::sums::{Sums, split_shares};
@@ -75,7 +74,7 @@ impl<L: Ledger> Book<L> {
     /// Moves the share's counts into the book, which leaves them 0. Where a sum of the book would
     /// pass 2^126 neither changes.
     pub fn post<R: Wait>(&self, rt: &R, share: &mut Share<L>)
-        ensures { (share.new ≡ emptied share.old) ⊎ ((share.new ≡ share.old) × (sums : Totals) × AtMost (2 ^ 126) sums × (AtMost (2 ^ 126) (plus sums share.old.counts) → ⊥)) }
+        ensures { IsPosted share.old share.new }
     {
         self.sums.lock(rt).post(rt, &self.cell, share);
     }

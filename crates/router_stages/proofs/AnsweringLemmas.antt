@@ -1,6 +1,6 @@
 -- One turn of the slow path keeps its law.
 use Rattle.std.proofs.Common.{◌≡◌, ◌⊎◌, inl, inr, ℕ, ◌+◌, ◌<◌, Bool, List, [], ◌∷◌, length, Option, Some, refl, sym, ap, subst, ◌∙◌, arith}
-use Rattle.packet_ledger.specs.Share.{Held, emptied, new_share}
+use Rattle.packet_ledger.specs.Share.{Held, IsPosted, new_share}
 use Rattle.pipeline_laws.specs.Item.{Outgoing}
 use Rattle.pipeline_laws.specs.Rules.{Rules, Reply, Replies, Withholds}
 use Rattle.pipeline_laws.specs.Deeds.{payload_of, Accepted, Refused, Counted}
@@ -122,8 +122,8 @@ module _ (named : Option Config) (taker : Taker (SlowPathRequest kinds)) (side :
   }
 
   -- a post
-  pub keeps_posted : (new : Leaving) → (new ≡ with_share (emptied side.share) side) ⊎ (new ≡ side) → KeepsAnswering named taker new
-  keeps_posted new (inl is) =
-      subst (λ (n : Leaving). KeepsAnswering named taker n) (sym is)
+  pub keeps_posted : (new : Leaving) → IsPosted side.share new.share → new ≡ with_share new.share side → KeepsAnswering named taker new
+  keeps_posted new (inl is) is_shared =
+      subst (λ (n : Leaving). KeepsAnswering named taker n) (sym (is_shared ∙ ap (λ (s : Held). with_share s side) is))
       (record { config = k.config; law = slow_posted side.config taker (senders side.links) (senders side.links) side.share k.law; unended = k.unended })
-  keeps_posted new (inr is) = subst (λ (n : Leaving). KeepsAnswering named taker n) (sym is) k
+  keeps_posted new (inr is) is_shared = subst (λ (n : Leaving). KeepsAnswering named taker n) (sym (is_shared ∙ ap (λ (s : Held). with_share s side) is.0)) k

@@ -1,6 +1,6 @@
 -- One turn of a forwarder keeps its law.
 use Rattle.std.proofs.Common.{◌≡◌, ◌⊎◌, inl, inr, ℕ, ◌+◌, ◌<◌, ◌≤◌, ◌||◌, min, Bool, true, false, cond, List, [], ◌∷◌, Option, Some, None, refl, sym, ap, subst, ◌∙◌, arith}
-use Rattle.packet_ledger.specs.Share.{Held, emptied, new_share}
+use Rattle.packet_ledger.specs.Share.{Held, IsPosted, new_share}
 use Rattle.pipeline_laws.specs.Item.{Outgoing}
 use Rattle.pipeline_laws.specs.Deeds as deeds
 use Rattle.pipeline_laws.specs.Deeds.{payload_of}
@@ -103,9 +103,9 @@ module _ {K : Type 0} (told : K → Option (List Told)) (failed : K → ℕ) (lo
   pub looked_then : (after : Band) → after ≡ after_look low → KeepsForwarding told failed after high began side
   looked_then after is = subst (λ (b : Band). KeepsForwarding told failed b high began side) (sym is) (looked_low told_of low.taker high.taker low.shut high.shut (told side.sink) began (failed side.sink) side.share k)
 
-  pub keeps_posted : (new : Delivery K) → (new ≡ with_share (emptied side.share) side) ⊎ (new ≡ side) → KeepsForwarding told failed low high began new
-  keeps_posted new (inl is) = subst (λ (n : Delivery K). KeepsForwarding told failed low high began n) (sym is) (forwards_posted told_of low.taker high.taker low.shut high.shut (told side.sink) began (failed side.sink) side.share k)
-  keeps_posted new (inr is) = subst (λ (n : Delivery K). KeepsForwarding told failed low high began n) (sym is) k
+  pub keeps_posted : (new : Delivery K) → IsPosted side.share new.share → new ≡ with_share new.share side → KeepsForwarding told failed low high began new
+  keeps_posted new (inl is) is_shared = subst (λ (n : Delivery K). KeepsForwarding told failed low high began n) (sym (is_shared ∙ ap (λ (s : Held). with_share s side) is)) (forwards_posted told_of low.taker high.taker low.shut high.shut (told side.sink) began (failed side.sink) side.share k)
+  keeps_posted new (inr is) is_shared = subst (λ (n : Delivery K). KeepsForwarding told failed low high began n) (sym (is_shared ∙ ap (λ (s : Held). with_share s side) is.0)) k
 
 -- nothing was taken yet
 pub keeps_first : {K : Type 0} (told : K → Option (List Told)) (failed : K → ℕ) (low high : Band) (began : ℕ) (side : Delivery K) → (low.taker.taken ≡ []) × (low.shut ≡ false) → (high.taker.taken ≡ []) × (high.shut ≡ false)

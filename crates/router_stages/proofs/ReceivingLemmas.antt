@@ -1,6 +1,6 @@
 -- One turn of a receiver keeps its law.
 use Rattle.std.proofs.Common.{◌≡◌, ◌⊎◌, inl, inr, ℕ, ◌+◌, ◌<◌, Bool, true, false, nat_eq, List, [], ◌∷◌, length, Option, Some, None, refl, sym, ap, subst, ◌∙◌, arith}
-use Rattle.packet_ledger.specs.Share.{Held, emptied, new_share}
+use Rattle.packet_ledger.specs.Share.{Held, IsPosted, new_share}
 use Rattle.pipeline_laws.specs.Item.{Arrival}
 use Rattle.pipeline_laws.specs.Rules.{Rules}
 use Rattle.pipeline_laws.specs.Deeds.{Ending, Accepted, Refused, Lacked, Counted}
@@ -93,11 +93,11 @@ keeps_ending told number ended all old new met tried same k =
     })
 
 -- a post
-pub keeps_posted : (told : Option (List Heard)) (number : ℕ) (ended : Bool) (old new : Intake) → (new ≡ with_share (emptied old.share) old) ⊎ (new ≡ old) → KeepsReceiving told number ended old → KeepsReceiving told number ended new
-keeps_posted told number ended old new (inl is) k =
-    subst (λ (i : Intake). KeepsReceiving told number ended i) (sym is)
+pub keeps_posted : (told : Option (List Heard)) (number : ℕ) (ended : Bool) (old new : Intake) → IsPosted old.share new.share → new ≡ with_share new.share old → KeepsReceiving told number ended old → KeepsReceiving told number ended new
+keeps_posted told number ended old new (inl is) is_shared k =
+    subst (λ (i : Intake). KeepsReceiving told number ended i) (sym (is_shared ∙ ap (λ (s : Held). with_share s old) is))
     (record { law = hears_posted old.config old.link old.interface number told told old.stock.free.looks (senders old.processors) (senders old.processors) old.share k.law; unended = k.unended; few = k.few; quiet = k.quiet })
-keeps_posted told number ended old new (inr is) k = subst (λ (i : Intake). KeepsReceiving told number ended i) (sym is) k
+keeps_posted told number ended old new (inr is) is_shared k = subst (λ (i : Intake). KeepsReceiving told number ended i) (sym (is_shared ∙ ap (λ (s : Held). with_share s old) is.0)) k
 
 -- nothing came yet
 pub keeps_first : (told : Option (List Heard)) (side : Intake) → side.stock.free.looks ≡ [] → side.share ≡ new_share → AreFresh side.processors → ToldNothing told → KeepsReceiving told 0 false side

@@ -1,6 +1,6 @@
 -- One turn of a processor keeps its law.
 use Rattle.std.proofs.Common.{◌≡◌, ◌⊎◌, inl, inr, ℕ, suc, ◌+◌, ◌*◌, ◌<◌, Bool, true, false, cond, ◌&&◌, List, [], ◌∷◌, length, Option, Some, None, is_some, refl, sym, ap, subst, ◌∙◌, arith}
-use Rattle.packet_ledger.specs.Share.{Held, emptied, new_share}
+use Rattle.packet_ledger.specs.Share.{Held, IsPosted, new_share}
 use Rattle.pipeline_laws.specs.Item.{Arrival, Outgoing, Out}
 use Rattle.pipeline_laws.specs.Rules.{Rules, Decision, Sends, Asks, Drops}
 use Rattle.pipeline_laws.specs.World.{home, slow_seat, Cause as Fate}
@@ -155,11 +155,11 @@ module _ (named : Option Config) (taker : Taker (Arrival kinds)) (hand : Option 
   }
 
   -- a post
-  pub keeps_posted : (new : Leaving) → (new ≡ with_share (emptied side.share) side) ⊎ (new ≡ side) → KeepsWorking named taker hand slow new
-  keeps_posted new (inl is) =
-      subst (λ (n : Leaving). KeepsWorking named taker hand slow n) (sym is)
+  pub keeps_posted : (new : Leaving) → IsPosted side.share new.share → new ≡ with_share new.share side → KeepsWorking named taker hand slow new
+  keeps_posted new (inl is) is_shared =
+      subst (λ (n : Leaving). KeepsWorking named taker hand slow n) (sym (is_shared ∙ ap (λ (s : Held). with_share s side) is))
       (record { config = k.config; law = works_posted side.config taker (senders side.links) (senders side.links) slow.sender slow.sender side.share hand k.law; unended = k.unended; busy = k.busy })
-  keeps_posted new (inr is) = subst (λ (n : Leaving). KeepsWorking named taker hand slow n) (sym is) k
+  keeps_posted new (inr is) is_shared = subst (λ (n : Leaving). KeepsWorking named taker hand slow n) (sym (is_shared ∙ ap (λ (s : Held). with_share s side) is.0)) k
 
 pub nobody : {X : Type 0} (hand : Option X) → is_some hand ≡ false → hand ≡ None
 nobody None e = refl

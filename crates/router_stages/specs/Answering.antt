@@ -1,6 +1,6 @@
 -- What contracts see of the slow path, and what a turn does.
 use Rattle.std.specs.Prelude.{◌≡◌, ◌⊎◌, ◌<◌, ℕ, Bool, Option, Some}
-use Rattle.packet_ledger.specs.Share.{emptied}
+use Rattle.packet_ledger.specs.Share.{Held}
 use Rattle.pipeline_laws.specs.Rules.{Reply, Replies, Withholds}
 use Rattle.pipeline_laws.specs.Settled.{SlowPathRequest}
 use Rattle.process_packet.specs.declared.config.Config.{Config}
@@ -33,9 +33,9 @@ with_side side a = record { taker = a.taker; side = side }
 abbrev pub first_answering : Taker (SlowPathRequest kinds) → Leaving → Answering
 first_answering taker side = record { taker = taker; side = side }
 
--- its counts are posted
-abbrev pub posted : Answering → Answering
-posted a = with_side (with_share (emptied a.side.share) a.side) a
+-- its counts are posted, which leaves this share
+abbrev pub posted : Held → Answering → Answering
+posted share a = with_side (with_share share a.side) a
 
 -- each producer's end mark was taken
 abbrev pub IsDone : Answering → Type 0

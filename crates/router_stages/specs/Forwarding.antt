@@ -1,6 +1,6 @@
 -- What contracts see of a forwarder, and what a turn does.
 use Rattle.std.specs.Prelude.{◌≡◌, ◌⊎◌, ◌+◌, ◌-◌, ◌^◌, ◌<◌, ◌≤◌, ◌||◌, ℕ, Bool, true, false, List, Option, Some, None, if◌then◌else◌}
-use Rattle.packet_ledger.specs.Share.{Held, emptied, new_share}
+use Rattle.packet_ledger.specs.Share.{Held, new_share}
 use Rattle.pipeline_laws.specs.Item.{Outgoing}
 use Rattle.pipeline_laws.specs.World.{Cause as Fate}
 use Rattle.process_packet.specs.declared.config.Config.{Config}
@@ -140,9 +140,9 @@ module _ {K : Type 0} where
   abbrev pub first_forwarding : ℕ → Band → Band → ℕ → Delivery K → Forwarding K
   first_forwarding link low high began side = record { link = link; low = low; high = high; began = began; side = side }
 
-  -- its counts are posted
-  abbrev pub posted : Forwarding K → Forwarding K
-  posted f = with_bands f.low f.high (with_share (emptied f.side.share) f.side) f
+  -- its counts are posted, which leaves this share
+  abbrev pub posted : Held → Forwarding K → Forwarding K
+  posted share f = with_bands f.low f.high (with_share share f.side) f
 
   module _ (told : K → Option (List Told)) (failed : K → ℕ) where
     -- one entry is taken of the high band, or, where that was seen empty, of the low one

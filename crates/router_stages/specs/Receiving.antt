@@ -1,6 +1,6 @@
 -- What contracts see of a receiver, and what a turn does.
 use Rattle.std.specs.Prelude.{◌≡◌, ◌⊎◌, ◌+◌, ◌-◌, ◌^◌, ◌<◌, ◌==◌, ℕ, Bool, true, false, List, [], ◌∷◌, ◌++◌, Option, Some, None, if◌then◌else◌}
-use Rattle.packet_ledger.specs.Share.{Held, emptied, new_share}
+use Rattle.packet_ledger.specs.Share.{Held, new_share}
 use Rattle.pipeline_laws.specs.Item.{Arrival}
 use Rattle.process_packet.specs.declared.config.Config.{Config}
 use Rattle.ruled_pipe.specs.Consumer.{Taker}
@@ -103,9 +103,9 @@ module _ {S : Type 0} where
     abbrev pub Waited : Receiving S → Receiving S → Type 0
     Waited old new = (told new.source ≡ told old.source) × (failed new.source ≡ failed old.source) × (new ≡ record { number = old.number; source = new.source; ended = old.ended; side = old.side })
 
-  -- its counts are posted
-  abbrev pub posted : Receiving S → Receiving S
-  posted r = with_side (with_share (emptied r.side.share) r.side) r
+  -- its counts are posted, which leaves this share
+  abbrev pub posted : Held → Receiving S → Receiving S
+  posted share r = with_side (with_share share r.side) r
 
 -- the law of a receiver, which goes on until its end
 pub record KeepsReceiving (told : Option (List Heard)) (number : ℕ) (ended : Bool) (side : Intake) : Type 0 where

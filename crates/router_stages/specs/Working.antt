@@ -1,6 +1,6 @@
 -- What contracts see of a processor, and what a turn does.
 use Rattle.std.specs.Prelude.{◌≡◌, ◌⊎◌, ◌<◌, ◌&&◌, ℕ, Bool, true, false, List, Option, Some, None}
-use Rattle.packet_ledger.specs.Share.{emptied, new_share}
+use Rattle.packet_ledger.specs.Share.{Held, new_share}
 use Rattle.pipeline_laws.specs.Item.{Arrival, Outgoing}
 use Rattle.pipeline_laws.specs.Rules.{Decision, Sends, Asks, Drops}
 use Rattle.pipeline_laws.specs.Settled.{SlowPathRequest}
@@ -63,9 +63,9 @@ module _ {G : Type 0} where
   abbrev pub first_working : G → ℕ → Taker (Arrival kinds) → Offering (SlowPathRequest kinds) → Leaving → Working G
   first_working gate index taker slow side = record { gate = gate; index = index; taker = taker; hand = None; slow = slow; side = side }
 
-  -- its counts are posted
-  abbrev pub posted : Working G → Working G
-  posted w = with_ends w.slow (with_share (emptied w.side.share) w.side) w
+  -- its counts are posted, which leaves this share
+  abbrev pub posted : Held → Working G → Working G
+  posted share w = with_ends w.slow (with_share share w.side) w
 
   -- each producer's end mark was taken
   abbrev pub IsDone : Working G → Type 0

@@ -1,7 +1,7 @@
 //! What a forwarder does with what it took.
 
-ghost use Rattle.std.specs.Prelude.{◌≡◌, ◌-◌, ◌^◌, ◌<◌, ◌⊎◌, MatchBool, is_ok};
-ghost use Rattle.packet_ledger.specs.Share.{HasRoom, MayRaise, emptied};
+ghost use Rattle.std.specs.Prelude.{◌≡◌, ◌-◌, ◌^◌, ◌<◌, MatchBool, is_ok};
+ghost use Rattle.packet_ledger.specs.Share.{HasRoom, IsPosted, MayRaise};
 ghost use Rattle.router_laws.specs.Shares.{raise};
 ghost use Rattle.router_rules.specs.Links.{has_two_bands};
 ghost use Rattle.router_stages.specs.Forwarding.{Delivered, HandedOn, PassedMet, Swept, count_of, with_share};
@@ -124,7 +124,8 @@ impl<N: Router, R: Wait + Copy, K: Sink> Delivery<N, R, K> {
 
     /// Posts the counts.
     pub fn post(&mut self, book: &Book<N>)
-        ensures { (self.new ≡ with_share (emptied self.old.share) self.old) ⊎ (self.new ≡ self.old) }
+        ensures share { IsPosted self.old.share self.new.share }
+        ensures same { self.new ≡ with_share self.new.share self.old }
     {
         book.post(&self.rt, &mut self.share);
     }

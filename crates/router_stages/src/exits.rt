@@ -1,7 +1,7 @@
 //! What a processor and the slow path do with what they made of a packet.
 
-ghost use Rattle.std.specs.Prelude.{◌≡◌, false, ◌+◌, ◌*◌, ◌<◌, ◌⊎◌, MatchBool, length, ◌&&◌};
-ghost use Rattle.packet_ledger.specs.Share.{HasRoom, MayRaise, emptied};
+ghost use Rattle.std.specs.Prelude.{◌≡◌, false, ◌+◌, ◌*◌, ◌<◌, MatchBool, length, ◌&&◌};
+ghost use Rattle.packet_ledger.specs.Share.{HasRoom, IsPosted, MayRaise};
 ghost use Rattle.router_rules.specs.Links.{has_two_bands, link_count};
 ghost use Rattle.router_stages.specs.Exits.{DroppedAs, GaveBack, SentAs, TriedLink, is_used, pipe_for, with_links, with_share};
 ghost use Rattle.router_stages.specs.Working.{AskedAs, PassedOn};
@@ -132,7 +132,8 @@ impl<N: Router, R: Wait + Copy> Exits<N, R> {
 
     /// Posts the counts.
     pub fn post(&mut self, book: &Book<N>)
-        ensures { (self.new ≡ with_share (emptied self.old.share) self.old) ⊎ (self.new ≡ self.old) }
+        ensures share { IsPosted self.old.share self.new.share }
+        ensures same { self.new ≡ with_share self.new.share self.old }
     {
         book.post(&self.rt, &mut self.share);
     }

@@ -1,8 +1,8 @@
 //! A forwarder.
 
-ghost use Rattle.std.specs.Prelude.{◌≡◌, ◌⊎◌, ◌+◌, [], false, MatchBool, Some, length};
+ghost use Rattle.std.specs.Prelude.{◌≡◌, ◌+◌, [], false, MatchBool, Some, length};
 ghost use Rattle.std.specs.Arc.{arc_value};
-ghost use Rattle.packet_ledger.specs.Share.{HasRoom, new_share};
+ghost use Rattle.packet_ledger.specs.Share.{HasRoom, IsPosted, new_share};
 ghost use Rattle.router_laws.specs.Heard.{ToldNothing};
 ghost use Rattle.router_laws.specs.Keeping.{IsForwarding};
 ghost use Rattle.router_rules.specs.Links.{link_count};
@@ -141,7 +141,8 @@ impl<N: Router, R: Wait + Copy, K: Sink> Forwarder<N, R, K> {
 
     /// Posts its counts into the book, where there is room.
     pub fn post(&mut self, book: &Book<N>)
-        ensures { (self.new ≡ posted self.old) ⊎ (self.new ≡ self.old) }
+        ensures share { IsPosted self.old.side.share self.new.side.share }
+        ensures same { self.new ≡ posted self.new.side.share self.old }
     {
         self.delivery.post(book);
     }

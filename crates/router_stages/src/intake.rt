@@ -1,7 +1,7 @@
 //! What a receiver does with a datagram.
 
-ghost use Rattle.std.specs.Prelude.{◌≡◌, ◌⊎◌, ◌+◌, ◌-◌, ◌^◌, ◌<◌, ◌≤◌, length, take, true, MatchBool};
-ghost use Rattle.packet_ledger.specs.Share.{HasRoom, MayRaise, emptied};
+ghost use Rattle.std.specs.Prelude.{◌≡◌, ◌+◌, ◌-◌, ◌^◌, ◌<◌, ◌≤◌, length, take, true, MatchBool};
+ghost use Rattle.packet_ledger.specs.Share.{HasRoom, IsPosted, MayRaise};
 ghost use Rattle.router_laws.specs.Heard.{arrival};
 ghost use Rattle.router_stages.specs.Intake.{PassedIn};
 ghost use Rattle.router_stages.specs.Receiving.{with_processors, with_share};
@@ -97,7 +97,8 @@ impl<N: Router, R: Wait + Copy> Intake<N, R> {
 
     /// Posts its counts.
     pub fn post(&mut self, book: &Book<N>)
-        ensures { (self.new.side ≡ with_share (emptied self.old.side.share) self.old.side) ⊎ (self.new.side ≡ self.old.side) }
+        ensures share { IsPosted self.old.side.share self.new.side.share }
+        ensures same { self.new.side ≡ with_share self.new.side.share self.old.side }
     {
         book.post(&self.rt, &mut self.share);
     }

@@ -1,8 +1,8 @@
 //! A processor.
 
-ghost use Rattle.std.specs.Prelude.{◌≡◌, ◌⊎◌, ◌&&◌, ◌*◌, ◌∷◌, true, false, None, Some, [], MatchBool, is_some, length};
+ghost use Rattle.std.specs.Prelude.{◌≡◌, ◌&&◌, ◌*◌, ◌∷◌, true, false, None, Some, [], MatchBool, is_some, length};
 ghost use Rattle.std.specs.Arc.{arc_value};
-ghost use Rattle.packet_ledger.specs.Share.{HasRoom, new_share};
+ghost use Rattle.packet_ledger.specs.Share.{HasRoom, IsPosted, new_share};
 ghost use Rattle.router_laws.specs.Keeping.{IsWorking};
 ghost use Rattle.router_stages.specs.Receiving.{ending};
 ghost use Rattle.router_stages.specs.Working.{AwaitsPush, EndsWorking, IsDone, Worked, WorksFor, first_leaving, first_working, posted};
@@ -155,7 +155,8 @@ impl<N: Router, R: Wait + Copy, G: Gate + Drop> Processor<N, R, G> {
 
     /// Posts its counts into the book, where there is room.
     pub fn post(&mut self, book: &Book<N>)
-        ensures { (self.new ≡ posted self.old) ⊎ (self.new ≡ self.old) }
+        ensures share { IsPosted self.old.side.share self.new.side.share }
+        ensures same { self.new ≡ posted self.new.side.share self.old }
     {
         self.exits.post(book);
     }

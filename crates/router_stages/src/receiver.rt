@@ -1,8 +1,8 @@
 //! A receiver.
 
-ghost use Rattle.std.specs.Prelude.{◌≡◌, ◌⊎◌, ◌<◌, true, MatchBool, Some, [], length};
+ghost use Rattle.std.specs.Prelude.{◌≡◌, ◌<◌, true, MatchBool, Some, [], length};
 ghost use Rattle.std.specs.Arc.{arc_value};
-ghost use Rattle.packet_ledger.specs.Share.{HasRoom, emptied, new_share};
+ghost use Rattle.packet_ledger.specs.Share.{HasRoom, IsPosted, new_share};
 ghost use Rattle.router_laws.specs.Heard.{ToldNothing};
 ghost use Rattle.router_laws.specs.Keeping.{IsReceiving};
 ghost use Rattle.router_rules.specs.Links.{link_count};
@@ -150,7 +150,8 @@ impl<N: Router, R: Wait + Copy, S: Source> Receiver<N, R, S> {
 
     /// Posts its counts into the book, where there is room.
     pub fn post(&mut self, book: &Book<N>)
-        ensures { (self.new ≡ posted self.old) ⊎ (self.new ≡ self.old) }
+        ensures share { IsPosted self.old.side.share self.new.side.share }
+        ensures same { self.new ≡ posted self.new.side.share self.old }
     {
         self.intake.post(book);
     }

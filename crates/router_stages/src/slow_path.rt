@@ -1,8 +1,8 @@
 //! The slow path.
 
-ghost use Rattle.std.specs.Prelude.{◌≡◌, ◌⊎◌, ◌*◌, ◌<◌, MatchBool, Some, [], length};
+ghost use Rattle.std.specs.Prelude.{◌≡◌, ◌*◌, ◌<◌, MatchBool, Some, [], length};
 ghost use Rattle.std.specs.Arc.{arc_value};
-ghost use Rattle.packet_ledger.specs.Share.{HasRoom, MayRaise, new_share};
+ghost use Rattle.packet_ledger.specs.Share.{HasRoom, IsPosted, MayRaise, new_share};
 ghost use Rattle.router_laws.specs.Keeping.{IsAnswering};
 ghost use Rattle.router_rules.specs.Links.{link_count};
 ghost use Rattle.ruled_pipe.specs.Gathered.{ends_in};
@@ -131,7 +131,8 @@ impl<N: Router, R: Wait + Copy> SlowPath<N, R> {
 
     /// Posts its counts into the book, where there is room.
     pub fn post(&mut self, book: &Book<N>)
-        ensures { (self.new ≡ posted self.old) ⊎ (self.new ≡ self.old) }
+        ensures share { IsPosted self.old.side.share self.new.side.share }
+        ensures same { self.new ≡ posted self.new.side.share self.old }
     {
         self.exits.post(book);
     }

@@ -33,6 +33,8 @@ impl<L: Ledger, R: Wait> Work<L> for Countdown<L, R> {
 
     ghost has_ended = { λ a. a.left ≡ 0 };
 
+    ghost is_posted = { λ a. Unit {0} };
+
     fn has_room(&self) -> bool {
         self.share.has_room()
     }
@@ -225,6 +227,8 @@ impl<L: Ledger, R: Wait> Work<L> for Feeder<R> {
 
     ghost has_ended = { λ a. Unit {0} };
 
+    ghost is_posted = { λ a. Unit {0} };
+
     fn has_room(&self) -> bool {
         true
     }
@@ -268,6 +272,8 @@ impl<L: Ledger, R: Wait> Work<L> for Drain<R> {
     ghost may_turn = { λ a. Unit {0} };
 
     ghost has_ended = { λ a. Unit {0} };
+
+    ghost is_posted = { λ a. Unit {0} };
 
     fn has_room(&self) -> bool {
         true

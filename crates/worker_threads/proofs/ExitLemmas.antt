@@ -146,15 +146,13 @@ module _ {G : Type 0} where
           }
       worked_ended (inr (inr is)) = absurd (took_on old new is.2)
 
-  pub processor_posted : (old new : Working G) → (new ≡ working.posted old) ⊎ (new ≡ old) → IsSameProcessor old new
-  processor_posted old new (inl e) =
+  pub processor_posted : (old new : Working G) → new ≡ working.posted new.side.share old → IsSameProcessor old new
+  processor_posted old new e =
       subst (λ (w : Working G). IsSameProcessor old w) (sym e)
       (record { config = refl; index = refl; taker = taker_self old.taker; slow = end_self old.slow.sender; links = ends_self (used old.side.config) old.side.links })
-  processor_posted old new (inr e) = processor_as old new e
 
-  pub processor_still : (old new : Working G) → (new ≡ working.posted old) ⊎ (new ≡ old) → ProcessorEnded old → ProcessorEnded new
-  processor_still old new (inl e) is = subst (λ (w : Working G). ProcessorEnded w) (sym e) (record { done = is.done; hand = is.hand; slow = is.slow; links = is.links })
-  processor_still old new (inr e) is = subst (λ (w : Working G). ProcessorEnded w) (sym e) is
+  pub processor_still : (old new : Working G) → new ≡ working.posted new.side.share old → ProcessorEnded old → ProcessorEnded new
+  processor_still old new e is = subst (λ (w : Working G). ProcessorEnded w) (sym e) (record { done = is.done; hand = is.hand; slow = is.slow; links = is.links })
 
 -- ---- the slow path
 
@@ -190,10 +188,8 @@ answered_ended old new (inl is) =
     }
 answered_ended old new (inr is) = absurd (request_on old new is.1)
 
-pub slow_posted : (old new : Answering) → (new ≡ answering.posted old) ⊎ (new ≡ old) → IsSameSlowPath old new
-slow_posted old new (inl e) = subst (λ (a : Answering). IsSameSlowPath old a) (sym e) (record { config = refl; taker = taker_self old.taker; links = ends_self (used old.side.config) old.side.links })
-slow_posted old new (inr e) = subst (λ (a : Answering). IsSameSlowPath old a) (sym e) (slow_self old)
+pub slow_posted : (old new : Answering) → new ≡ answering.posted new.side.share old → IsSameSlowPath old new
+slow_posted old new e = subst (λ (a : Answering). IsSameSlowPath old a) (sym e) (record { config = refl; taker = taker_self old.taker; links = ends_self (used old.side.config) old.side.links })
 
-pub slow_still : (old new : Answering) → (new ≡ answering.posted old) ⊎ (new ≡ old) → SlowPathEnded old → SlowPathEnded new
-slow_still old new (inl e) is = subst (λ (a : Answering). SlowPathEnded a) (sym e) (record { done = is.done; links = is.links })
-slow_still old new (inr e) is = subst (λ (a : Answering). SlowPathEnded a) (sym e) is
+pub slow_still : (old new : Answering) → new ≡ answering.posted new.side.share old → SlowPathEnded old → SlowPathEnded new
+slow_still old new e is = subst (λ (a : Answering). SlowPathEnded a) (sym e) (record { done = is.done; links = is.links })

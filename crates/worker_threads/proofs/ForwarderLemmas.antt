@@ -77,12 +77,10 @@ module _ {K : Type 0} where
       forwarded_ended (inr (inl is)) = absurd (let z : Ended ≡ Quiet = is.2 in cc)
       forwarded_ended (inr (inr is)) = absurd (forwards_on is.2)
 
-  pub forwarder_posted : (old new : Forwarding K) → (new ≡ posted old) ⊎ (new ≡ old) → IsSameForwarder old new
-  forwarder_posted old new (inl e) =
+  pub forwarder_posted : (old new : Forwarding K) → new ≡ posted new.side.share old → IsSameForwarder old new
+  forwarder_posted old new e =
       subst (λ (f : Forwarding K). IsSameForwarder old f) (sym e)
       (record { config = refl; link = refl; began = refl; low = taker_self old.low.taker; high = taker_self old.high.taker; unused = λ one. refl })
-  forwarder_posted old new (inr e) = forwarder_as old new e
 
-  pub forwarder_still : (old new : Forwarding K) → (new ≡ posted old) ⊎ (new ≡ old) → HasEnded old → HasEnded new
-  forwarder_still old new (inl e) is = subst (λ (f : Forwarding K). HasEnded f) (sym e) is
-  forwarder_still old new (inr e) is = subst (λ (f : Forwarding K). HasEnded f) (sym e) is
+  pub forwarder_still : (old new : Forwarding K) → new ≡ posted new.side.share old → HasEnded old → HasEnded new
+  forwarder_still old new e is = subst (λ (f : Forwarding K). HasEnded f) (sym e) is

@@ -79,10 +79,8 @@ module _ {S : Type 0} where
     pub waited_same : Waited told failed old new → IsSameReceiver old new
     waited_same is = as_side old new (ap (λ (r : Receiving S). r.side) is.2)
 
-  pub receiver_posted : (old new : Receiving S) → (new ≡ posted old) ⊎ (new ≡ old) → IsSameReceiver old new
-  receiver_posted old new (inl e) = subst (λ (r : Receiving S). IsSameReceiver old r) (sym e) (record { config = refl; link = refl; interface = refl; processors = ends_self every old.side.processors })
-  receiver_posted old new (inr e) = subst (λ (r : Receiving S). IsSameReceiver old r) (sym e) (receiver_self old)
+  pub receiver_posted : (old new : Receiving S) → new ≡ posted new.side.share old → IsSameReceiver old new
+  receiver_posted old new e = subst (λ (r : Receiving S). IsSameReceiver old r) (sym e) (record { config = refl; link = refl; interface = refl; processors = ends_self every old.side.processors })
 
-  pub receiver_still : (old new : Receiving S) → (new ≡ posted old) ⊎ (new ≡ old) → ReceiverEnded old → ReceiverEnded new
-  receiver_still old new (inl e) is = subst (λ (r : Receiving S). ReceiverEnded r) (sym e) (record { ended = is.ended; processors = is.processors })
-  receiver_still old new (inr e) is = subst (λ (r : Receiving S). ReceiverEnded r) (sym e) is
+  pub receiver_still : (old new : Receiving S) → new ≡ posted new.side.share old → ReceiverEnded old → ReceiverEnded new
+  receiver_still old new e is = subst (λ (r : Receiving S). ReceiverEnded r) (sym e) (record { ended = is.ended; processors = is.processors })

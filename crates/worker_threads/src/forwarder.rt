@@ -7,7 +7,7 @@ use stage_parts::{Router, Sink};
 use std::sync::Wait;
 
 impl<N: Router, R: Wait + Copy, K: Sink> Work<N> for Forwarder<N, R, K> {
-    ghost use Rattle.packet_ledger.specs.Share.{HasRoom};
+    ghost use Rattle.packet_ledger.specs.Share.{HasRoom, IsDrained};
     ghost use Rattle.worker_threads.specs.Workers.{IsSameForwarder, ForwarderEnded, forwarder_self, forwarder_then};
 
     ghost same = { λ a b. IsSameForwarder a b };
@@ -15,6 +15,8 @@ impl<N: Router, R: Wait + Copy, K: Sink> Work<N> for Forwarder<N, R, K> {
     ghost may_turn = { λ f. HasRoom f.side.share.counts };
 
     ghost has_ended = { λ f. ForwarderEnded f };
+
+    ghost is_posted = { λ f. IsDrained f.side.share };
 
     fn has_room(&self) -> bool {
         self.has_room()

@@ -7,7 +7,7 @@ use stage_parts::{Gate, Router};
 use std::sync::Wait;
 
 impl<N: Router, R: Wait + Copy, G: Gate + Drop> Work<N> for Processor<N, R, G> {
-    ghost use Rattle.packet_ledger.specs.Share.{HasRoom};
+    ghost use Rattle.packet_ledger.specs.Share.{HasRoom, IsDrained};
     ghost use Rattle.worker_threads.specs.Workers.{IsSameProcessor, ProcessorEnded, processor_self, processor_then};
 
     ghost same = { λ a b. IsSameProcessor a b };
@@ -15,6 +15,8 @@ impl<N: Router, R: Wait + Copy, G: Gate + Drop> Work<N> for Processor<N, R, G> {
     ghost may_turn = { λ w. HasRoom w.side.share.counts };
 
     ghost has_ended = { λ w. ProcessorEnded w };
+
+    ghost is_posted = { λ w. IsDrained w.side.share };
 
     fn has_room(&self) -> bool {
         self.has_room()

@@ -7,7 +7,7 @@ use stage_parts::{Router, Source};
 use std::sync::Wait;
 
 impl<N: Router, R: Wait + Copy, S: Source> Work<N> for Receiver<N, R, S> {
-    ghost use Rattle.packet_ledger.specs.Share.{HasRoom};
+    ghost use Rattle.packet_ledger.specs.Share.{HasRoom, IsDrained};
     ghost use Rattle.worker_threads.specs.Workers.{IsSameReceiver, ReceiverEnded, receiver_self, receiver_then};
 
     ghost same = { λ a b. IsSameReceiver a b };
@@ -15,6 +15,8 @@ impl<N: Router, R: Wait + Copy, S: Source> Work<N> for Receiver<N, R, S> {
     ghost may_turn = { λ r. HasRoom r.side.share.counts };
 
     ghost has_ended = { λ r. ReceiverEnded r };
+
+    ghost is_posted = { λ r. IsDrained r.side.share };
 
     fn has_room(&self) -> bool {
         self.has_room()

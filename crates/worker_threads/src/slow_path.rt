@@ -7,7 +7,7 @@ use stage_parts::Router;
 use std::sync::Wait;
 
 impl<N: Router, R: Wait + Copy> Work<N> for SlowPath<N, R> {
-    ghost use Rattle.packet_ledger.specs.Share.{HasRoom};
+    ghost use Rattle.packet_ledger.specs.Share.{HasRoom, IsDrained};
     ghost use Rattle.worker_threads.specs.Workers.{IsSameSlowPath, SlowPathEnded, slow_self, slow_then};
 
     ghost same = { λ a b. IsSameSlowPath a b };
@@ -15,6 +15,8 @@ impl<N: Router, R: Wait + Copy> Work<N> for SlowPath<N, R> {
     ghost may_turn = { λ a. HasRoom a.side.share.counts };
 
     ghost has_ended = { λ a. SlowPathEnded a };
+
+    ghost is_posted = { λ a. IsDrained a.side.share };
 
     fn has_room(&self) -> bool {
         self.has_room()

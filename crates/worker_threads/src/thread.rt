@@ -89,7 +89,7 @@ fn post_if<N: Ledger, W: Work<N>>(worker: &mut W, book: &Book<N>, due: bool)
 // One turn, where each count can still be raised, and what is posted for it.
 fn attempt<N: Ledger, W: Work<N>>(worker: &mut W, book: &Book<N>, pace: &mut Pace) -> Turn
     ensures same { W.same worker.old worker.new }
-    ensures ended { result ≡ Turn.Ended → W.has_ended worker.new }
+    ensures ended { result ≡ Turn.Ended → W.has_ended worker.new × W.is_posted worker.new }
 {
     if !worker.has_room() {
         worker.post(book);
@@ -119,7 +119,7 @@ fn sleep_on<N: Ledger, W: Work<N>, R: Wait>(
     event: &Event,
 ) -> bool
     ensures same { W.same worker.old worker.new }
-    ensures ended { result ≡ true → W.has_ended worker.new }
+    ensures ended { result ≡ true → W.has_ended worker.new × W.is_posted worker.new }
 {
     let key = event.prepare_wait();
     match attempt(worker, book, pace) {
@@ -142,7 +142,7 @@ fn pause<N: Ledger, W: Work<N>, R: Wait + Clock>(
     pace: &mut Pace,
 ) -> bool
     ensures same { W.same worker.old worker.new }
-    ensures ended { result ≡ true → W.has_ended worker.new }
+    ensures ended { result ≡ true → W.has_ended worker.new × W.is_posted worker.new }
 {
     if pace.gathers() {
         nap(rt);
@@ -167,7 +167,7 @@ fn advance<N: Ledger, W: Work<N>, R: Wait + Clock>(
     pace: &mut Pace,
 ) -> bool
     ensures same { W.same worker.old worker.new }
-    ensures ended { result ≡ true → W.has_ended worker.new }
+    ensures ended { result ≡ true → W.has_ended worker.new × W.is_posted worker.new }
 {
     match attempt(worker, &orders.book, pace) {
         Turn::Did => false,
@@ -176,10 +176,11 @@ fn advance<N: Ledger, W: Work<N>, R: Wait + Clock>(
     }
 }
 
-/// Makes turns to the worker's end.
+/// Makes turns to the worker's end, and posts what it counted.
 pub fn work_on<N: Ledger, W: Work<N>, R: Wait + Clock>(rt: &R, orders: &Orders<N>, worker: W) -> W
     ensures same { W.same worker result }
     ensures ended { W.has_ended result }
+    ensures posted { W.is_posted result }
 {
     let mut worker = worker;
     let mut pace = Pace::new();

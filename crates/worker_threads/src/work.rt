@@ -16,6 +16,9 @@ pub trait Work<N: Ledger> {
     /// It took all end marks, and all its own are there.
     ghost has_ended: { Self → Type 0 };
 
+    /// It holds no counts, or more than the book has room for.
+    ghost is_posted: { Self → Type 0 };
+
     /// Whether each of its counts can still be raised.
     fn has_room(&self) -> bool
         ensures { result ≡ true → may_turn self.now };
@@ -36,7 +39,8 @@ pub trait Work<N: Ledger> {
     /// Posts its counts, where the book has room.
     fn post(&mut self, book: &Book<N>)
         ensures same { same self.old self.new }
-        ensures ended { has_ended self.old → has_ended self.new };
+        ensures ended { has_ended self.old → has_ended self.new }
+        ensures posted { is_posted self.new };
 
     ghost same_self: { (x : Self) → same x x };
 
