@@ -9,7 +9,6 @@ mod middle;
 mod pipes;
 mod preparing;
 mod reserve;
-mod results;
 mod waking;
 mod worker_parts;
 

@@ -6,11 +6,10 @@ ghost use Rattle.run_laws.specs.Crew.{IsTakerOf};
 ghost use Rattle.run_parts.specs.Dealing.{AreFree, IsDealing, IsNewEnd};
 ghost use Rattle.run_parts.specs.Rest.{IsRest};
 
-use crate::results::both;
 use router_ends::{Dealt, Ends, Opened, deal, open_pipes, take_last};
 use router_rules::{Shared, link_count};
 use ruled_pipe::{Consumer, Pipe, Producer};
-use stage_parts::{Buffer, EgressPacket, Packet, Router, SlowPathRequest};
+use stage_parts::{Buffer, EgressPacket, Packet, Router, SlowPathRequest, both};
 use std::alloc::{AllocError, Global};
 use std::sync::Wait;
 

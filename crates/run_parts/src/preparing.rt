@@ -9,14 +9,13 @@ ghost use Rattle.run_parts.specs.Room.{HaveWorkerSlots, HaveSpace};
 ghost use Rattle.run_parts.specs.WorkerParts.{AreWorkerParts};
 
 use crate::reserve::{Space, WorkerSlots, space_for, worker_slots_for};
-use crate::results::both;
 use crate::waking::{Events, events_for};
 use crate::worker_parts::{WorkerParts, make_all};
 use packet_ledger::{Blank, Book, Share};
 use process_packet::Config;
 use router_rules::{Shared, link_count};
 use router_stages::{Forwarder, Processor, Receiver, SlowPath};
-use stage_parts::{Event, Gate, Router, Sink, Source};
+use stage_parts::{Event, Gate, Router, Sink, Source, both};
 use std::alloc::{AllocError, Global};
 use std::sync::atomic::AtomicU64;
 use std::sync::{Arc, Wait};

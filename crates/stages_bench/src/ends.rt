@@ -4,10 +4,9 @@ ghost use Rattle.std.specs.Prelude.{◌≡◌, [], IfOk, length};
 ghost use Rattle.stage_parts.specs.Outlets.{AreFresh};
 ghost use Rattle.sample_stages.specs.Ends.{IsFresh, IsUntaken};
 
-use crate::results::both;
 use ruled_pipe::{Consumer, Producer};
 use sample_stages::{ends_of, next_outlet, next_producer};
-use stage_parts::{Buffer, EgressPacket, Outlet, Packet, Router, SlowPathRequest};
+use stage_parts::{Buffer, EgressPacket, Outlet, Packet, Router, SlowPathRequest, both};
 use std::alloc::{AllocError, Global};
 use std::sync::Wait;
 

@@ -5,7 +5,6 @@
 
 mod devices;
 mod ends;
-mod results;
 mod stages;
 
 ghost use Rattle.std.specs.Prelude.{◌≡◌, Some, true};

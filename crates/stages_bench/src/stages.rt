@@ -9,12 +9,11 @@ ghost use Rattle.sample_stages.specs.Ends.{IsFresh, IsUntaken};
 
 use crate::devices::{Flows, Sums};
 use crate::ends::{ForwarderEnds, ProcessorEnds, ReceiverEnds, new_ends};
-use crate::results::both;
 use packet_ledger::{Blank, Book, Share};
 use router_rules::Shared;
 use router_stages::{Band, Forwarder, Processor, Receiver};
 use sample_stages::{Open, next_share};
-use stage_parts::{Inlet, Router};
+use stage_parts::{Inlet, Router, both};
 use std::alloc::{AllocError, Global};
 use std::sync::atomic::AtomicU64;
 use std::sync::{Arc, Wait};
