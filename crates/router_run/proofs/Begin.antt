@@ -13,7 +13,7 @@ use Rattle.router_stages.specs.Working.{Working}
 use Rattle.router_ends.specs.Rows.{Row}
 use Rattle.router_ends.specs.Shutting.{Shutting}
 use Rattle.run_laws.specs.Crew.{AreForwarding, AreWorking, Crew, IsCrew, IsForwardingAt, IsReceivingAt, IsTakerOf, IsWorkingAt, Piping}
-use Rattle.run_parts.specs.Kits.{Entry, Exit, IsEnteringAt, IsLeavingAt, IsWorkingThere, forwardings, receivings}
+use Rattle.wired_workers.specs.Kits.{Entry, Exit, IsEnteringAt, IsLeavingAt, IsWorkingThere, forwardings, receivings}
 use Rattle.run_parts.specs.WorkerParts.{AreWorkerParts}
 use Rattle.router_run.specs.Run.{Run, crew_of}
 use Rattle.router_run.specs.Starting.{Begins}

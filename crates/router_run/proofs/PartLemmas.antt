@@ -2,7 +2,7 @@
 use Rattle.std.proofs.Common.{◌≡◌, ℕ, ◌+◌, ◌≤◌, List, [], ◌∷◌, ◌++◌, map, length, sym, ◌∙◌, ap, subst, arith, length-append}
 use Rattle.std.proofs.lemmas.List.{map-append}
 use Rattle.pipeline_laws.specs.Deeds.{Each}
-use Rattle.run_parts.proofs.RestLemmas.{moved}
+use Rattle.wired_workers.proofs.RestLemmas.{moved}
 
 module _ {X : Type 0} where
   pub each_same : (P : X → Type 0) (xs ys : List X) → xs ≡ ys → Each P ys → Each P xs

@@ -26,7 +26,7 @@ use Rattle.run_laws.specs.Ended.{HasMarked, outer_rows, takers_of}
 use Rattle.run_parts.specs.Room.{HaveSpace, IsRoomy, Space}
 use Rattle.router_run.specs.Run.{IsParted, IsSized, shares_in}
 use Rattle.router_run.proofs.PartLemmas.{one_after}
-use Rattle.run_parts.proofs.RestLemmas.{each_first}
+use Rattle.wired_workers.proofs.RestLemmas.{each_first}
 
 -- ---- numbers
 

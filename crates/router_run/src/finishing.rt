@@ -9,7 +9,7 @@ ghost use Rattle.router_rules.specs.Links.{link_count};
 ghost use Rattle.run_laws.specs.Crew.{IsCrew};
 ghost use Rattle.run_laws.specs.Came.{HasKept, HasSettled};
 ghost use Rattle.run_laws.specs.Ended.{HasMarked, IsBack, PipesEnd};
-ghost use Rattle.run_parts.specs.Dealing.{piping};
+ghost use Rattle.wired_workers.specs.Dealing.{piping};
 ghost use Rattle.run_parts.specs.Room.{HaveWorkerSlots, HaveSpace};
 ghost use Rattle.router_run.specs.Run.{HasRun, IsParted, IsSized, crew_of, shares_in};
 
@@ -21,12 +21,13 @@ use router_rules::{Shared, causes_are_apart, link_count, links_stand_in_order, r
 use router_stages::{Forwarder, Processor, Receiver, SlowPath};
 use ruled_pipe::Consumer;
 use run_laws::{crews_end, crews_return};
-use run_parts::{Line, Pipes, Space, WorkerSlots, notify_all};
+use run_parts::{Space, WorkerSlots};
 use stage_parts::{EgressPacket, Event, Gate, Packet, Router, Sink, SlowPathRequest, Source};
 use std::marker::Model;
 use std::rt::Clock;
 use std::sync::Wait;
 use std::thread::Threads;
+use wired_workers::{Line, Pipes, notify_all};
 use worker_threads::{Handle, Orders, join_all};
 
 /// What a run came to.

@@ -16,9 +16,9 @@ use packet_ledger::Share;
 use router_ends::{Ends, bare};
 use router_stages::{Forwarder, Processor, Receiver, SlowPath};
 use ruled_pipe::Consumer;
-use run_parts::Line;
 use stage_parts::{EgressPacket, Gate, Packet, Router, Sink, SlowPathRequest, Source};
 use std::sync::Wait;
+use wired_workers::Line;
 
 /// The receivers' ends, sources and shares.
 pub fn part_receivers<N: Router, S: Source + Drop, R: Wait + Copy>(

@@ -6,7 +6,7 @@ ghost use Rattle.pipeline_laws.specs.Deeds.{Each};
 ghost use Rattle.router_laws.specs.Heard.{ToldNothing};
 ghost use Rattle.router_rules.specs.Links.{link_count};
 ghost use Rattle.router_run.specs.Closing.{Closing, IsSameRun};
-ghost use Rattle.run_parts.specs.Dealing.{piping};
+ghost use Rattle.wired_workers.specs.Dealing.{piping};
 ghost use Rattle.run_parts.specs.WorkerParts.{AreWorkerParts};
 ghost use Rattle.run_parts.specs.Room.{HaveWorkerSlots, HaveSpace};
 ghost use Rattle.router_run.specs.Run.{HasRun};
@@ -19,16 +19,14 @@ use packet_ledger::Blank;
 use process_packet::Config;
 use router_ends::Shutter;
 use router_rules::{Shared, link_count};
-use run_parts::{
-    Pipes, Prepared, Space, WorkerParts, WorkerSlots, forwarders_of, notify_one, prepare,
-    receivers_of,
-};
+use run_parts::{Prepared, Space, WorkerParts, WorkerSlots, prepare};
 use stage_parts::{EgressPacket, Event, Gate, Router, Sink, Source};
 use std::alloc::Global;
 use std::marker::Model;
 use std::rt::Clock;
 use std::sync::{Arc, Wait};
 use std::thread::Threads;
+use wired_workers::{Pipes, forwarders_of, notify_one, receivers_of};
 use worker_threads::{Orders, Team, start_four};
 
 /// A running router. It has no `Drop`: it can only be finished. Contracts see its configuration, its pipes,
@@ -65,7 +63,7 @@ where
     ghost use Rattle.router_ends.specs.Rows.{HaveLeft};
     ghost use Rattle.router_rules.specs.Links.{link_count};
     ghost use Rattle.run_laws.specs.Crew.{IsCrew};
-    ghost use Rattle.run_parts.specs.Dealing.{piping};
+    ghost use Rattle.wired_workers.specs.Dealing.{piping};
     ghost use Rattle.run_parts.specs.Room.{HaveWorkerSlots, HaveSpace};
     ghost use Rattle.router_run.specs.Run.{Run, crew_of};
 

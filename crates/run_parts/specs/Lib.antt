@@ -1,5 +1,2 @@
-pub mod Rest
-pub mod Dealing
-pub mod Kits
 pub mod Room
 pub mod WorkerParts

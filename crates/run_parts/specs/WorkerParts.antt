@@ -9,8 +9,8 @@ use Rattle.router_ends.specs.Rows.{HaveLeft, Row}
 use Rattle.router_ends.specs.Shutting.{AreOpen, AreShutters, Shutting}
 use Rattle.router_rules.specs.Links.{link_count}
 use Rattle.run_laws.specs.Crew.{IsAnsweringAt, IsPiping, Piping, are_used}
-use Rattle.run_parts.specs.Kits.{Entry, Exit, IsEnteringAt, IsLeavingAt, IsWorkingThere}
-use Rattle.run_parts.specs.Rest.{IsRest}
+use Rattle.wired_workers.specs.Kits.{Entry, Exit, IsEnteringAt, IsLeavingAt, IsWorkingThere}
+use Rattle.wired_workers.specs.Rest.{IsRest}
 
 pub record AreWorkerParts {G : Type 0} (c : Config) (p : Piping) (inner_rooms : List (Row (Arrival kinds))) (outer_rooms : List (Row (Outgoing kinds))) (receivers : List Entry) (processors : List (Working G)) (slow : Answering) (forwarders : List Exit) (shutters : List (Shutting (Outgoing kinds))) : Type 0 where
   pub pipes_are : IsPiping c p

@@ -3,13 +3,12 @@
 ghost use Rattle.std.specs.Prelude.{◌≡◌, ◌+◌, ◌*◌, ◌≤◌, IfOk, Some, [], vec_capacity};
 ghost use Rattle.std.specs.Arc.{arc_value};
 ghost use Rattle.router_rules.specs.Links.{link_count};
-ghost use Rattle.run_parts.specs.Dealing.{piping};
-ghost use Rattle.run_parts.specs.Rest.{AreNewShares};
+ghost use Rattle.wired_workers.specs.Dealing.{piping};
+ghost use Rattle.wired_workers.specs.Rest.{AreNewShares};
 ghost use Rattle.run_parts.specs.Room.{HaveWorkerSlots, HaveSpace};
 ghost use Rattle.run_parts.specs.WorkerParts.{AreWorkerParts};
 
 use crate::reserve::{Space, WorkerSlots, space_for, worker_slots_for};
-use crate::waking::{Events, events_for};
 use crate::worker_parts::{WorkerParts, make_all};
 use packet_ledger::{Blank, Book, Share};
 use process_packet::Config;
@@ -19,6 +18,7 @@ use stage_parts::{Event, Gate, Router, Sink, Source, both};
 use std::alloc::{AllocError, Global};
 use std::sync::atomic::AtomicU64;
 use std::sync::{Arc, Wait};
+use wired_workers::{Events, events_for};
 use worker_threads::{HOLD, Handle, Orders, Work};
 
 /// Orders for the threads of workers of one kind, each with its worker's event if it has one, room for the workers and for the threads' handles.

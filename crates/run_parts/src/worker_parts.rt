@@ -6,17 +6,11 @@ ghost use Rattle.router_ends.specs.Rows.{AreFor, new_takers};
 ghost use Rattle.router_ends.specs.Shutting.{AreOpen, AreShutters};
 ghost use Rattle.router_rules.specs.Links.{link_count};
 ghost use Rattle.run_laws.specs.Crew.{IsAnsweringAt, IsTakerOf, are_used};
-ghost use Rattle.run_parts.specs.Dealing.{IsBundleOf, IsLong, IsNewEnd, piping};
-ghost use Rattle.run_parts.specs.Kits.{IsLeavingAt, IsWorkingThere};
+ghost use Rattle.wired_workers.specs.Dealing.{IsBundleOf, IsLong, IsNewEnd, piping};
+ghost use Rattle.wired_workers.specs.Kits.{IsLeavingAt, IsWorkingThere};
 ghost use Rattle.run_parts.specs.WorkerParts.{AreWorkerParts};
-ghost use Rattle.run_parts.specs.Rest.{AreNewShares, IsRest};
+ghost use Rattle.wired_workers.specs.Rest.{AreNewShares, IsRest};
 
-use crate::entering::{Entering, all_entering};
-use crate::leaving::{Leaving, all_leaving};
-use crate::line::Line;
-use crate::middle::{Deciding, deciding_of};
-use crate::pipes::{AllPipes, Pipes, all_pipes};
-use crate::waking::Events;
 use packet_ledger::Share;
 use router_ends::{Ends, Shutter, shutters};
 use router_rules::{Shared, link_count};
@@ -26,6 +20,10 @@ use stage_parts::{Buffer, EgressPacket, Gate, Packet, Router, SlowPathRequest, b
 use std::alloc::{AllocError, Global};
 use std::sync::atomic::AtomicU64;
 use std::sync::{Arc, Wait};
+use wired_workers::{
+    AllPipes, Deciding, Entering, Events, Leaving, Line, Pipes, all_entering, all_leaving,
+    all_pipes, deciding_of,
+};
 
 /// The pipes, and what the workers are made of, before any device is taken.
 #[derive(Drop)]

@@ -2,7 +2,7 @@ use Rattle.std.proofs.Common.{length, map, ◌∙◌, ap, arith}
 use Rattle.packet_ledger.specs.Share.{forwarded}
 use Rattle.router_run.proofs.PartLemmas.{each_same}
 use Rattle.router_run.proofs.Parted.{grew, has_kept, has_marked, is_parted, le_as, next_room, none_long, one_more, only_one, rows_made, rows_more, shares_parted, sized_as, slow_long, space_as}
-use Rattle.run_parts.proofs.RestLemmas.{each_first}
+use Rattle.wired_workers.proofs.RestLemmas.{each_first}
 use Rattle.router_run.proofs.finishing.part_all.Goals as goal
 
 pub overflow_mul-links : goal.overflow_mul-links

@@ -6,7 +6,7 @@ use Rattle.router_stages.specs.Forwarding.{Forwarding}
 use Rattle.ruled_pipe.specs.Consumer.{Taker}
 use Rattle.run_laws.specs.Ended.{takers_of}
 use Rattle.router_run.proofs.PartLemmas.{longer, grown, room_kept, fits_still}
-use Rattle.run_parts.proofs.RestLemmas.{all_done, each_back, shorter}
+use Rattle.wired_workers.proofs.RestLemmas.{all_done, each_back, shorter}
 use Rattle.router_run.proofs.parting.part_forwarders.Goals as goal
 
 module _ {K : Type 0} where

@@ -3,7 +3,7 @@ use Rattle.stage_parts.specs.Outlets.{senders}
 use Rattle.router_ends.specs.Handing.{AreMarked, NeverClosed}
 use Rattle.router_ends.specs.Rows.{rows_of}
 use Rattle.router_run.proofs.PartLemmas.{each_same, each_none, longer, started, same_after, grown, one_after, room_kept, fits_still}
-use Rattle.run_parts.proofs.RestLemmas.{all_done, each_back, each_first, shorter}
+use Rattle.wired_workers.proofs.RestLemmas.{all_done, each_back, each_first, shorter}
 use Rattle.router_run.proofs.parting.part_receivers.Goals as goal
 
 pub loop-k-init : goal.loop-k-init

@@ -1,7 +1,7 @@
 use Rattle.std.proofs.Common.{◌≡◌, ◌+◌, ℕ, List, [], ◌∷◌, ◌++◌, length, refl, ◌∙◌, ap, arith}
 use Rattle.std.specs.Arc.{arc_value}
 use Rattle.router_stages.specs.Answering.{Answering}
-use Rattle.run_parts.specs.Dealing.{piping}
+use Rattle.wired_workers.specs.Dealing.{piping}
 use Rattle.router_run.proofs.Begin.{begins, crew_by, forwardings_long, is_crew, receivings_long}
 use Rattle.router_run.proofs.running.run.Goals as goal
 

@@ -1,4 +1,4 @@
-use Rattle.run_parts.proofs.Fresh.{new_shares}
+use Rattle.wired_workers.proofs.Fresh.{new_shares}
 use Rattle.run_parts.proofs.preparing.book_for.Goals as goal
 
 pub returns : goal.returns

@@ -1,6 +1,6 @@
 use Rattle.std.proofs.Common.{ℕ, ◌∙◌, subst}
 use Rattle.run_parts.specs.Room.{HaveWorkerSlots, HaveSpace}
-use Rattle.run_parts.proofs.OkLemmas.{of_ok}
+use Rattle.wired_workers.proofs.OkLemmas.{of_ok}
 use Rattle.run_parts.proofs.preparing.prepare.Goals as goal
 
 pub returns-clause-shared : goal.returns-clause-shared

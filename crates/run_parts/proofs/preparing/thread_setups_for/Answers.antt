@@ -1,4 +1,4 @@
-use Rattle.run_parts.proofs.OkLemmas.{of_ok}
+use Rattle.wired_workers.proofs.OkLemmas.{of_ok}
 use Rattle.run_parts.proofs.preparing.thread_setups_for.Goals as goal
 
 pub returns-clause-receivers : goal.returns-clause-receivers

@@ -4,9 +4,9 @@ use Rattle.router_ends.specs.Shutting.{AreShutters}
 use Rattle.router_rules.specs.Links.{link_count}
 use Rattle.router_rules.specs.declared.shared.Shared.{Shared}
 use Rattle.run_laws.specs.Crew.{are_used}
-use Rattle.run_parts.proofs.Making.{bundle_long, ends_of}
-use Rattle.run_parts.proofs.OkLemmas.{of_ok}
-use Rattle.run_parts.proofs.RestLemmas.{rest_first}
+use Rattle.wired_workers.proofs.Making.{bundle_long, ends_of}
+use Rattle.wired_workers.proofs.OkLemmas.{of_ok}
+use Rattle.wired_workers.proofs.RestLemmas.{rest_first}
 use Rattle.run_parts.proofs.worker_parts.after_receivers.Goals as goal
 
 pub deciding_of-requires-clause-shares : goal.deciding_of-requires-clause-shares

@@ -2,8 +2,8 @@ use Rattle.std.proofs.Common.{◌+◌, ◌*◌, sym, ◌∙◌, ap, subst}
 use Rattle.router_rules.specs.Links.{link_count}
 use Rattle.router_rules.specs.declared.shared.Shared.{Shared}
 use Rattle.router_ends.specs.Rows.{AreFor, HaveLeft}
-use Rattle.run_parts.proofs.Fresh.{bundles_are}
-use Rattle.run_parts.proofs.Making.{rest_as}
+use Rattle.wired_workers.proofs.Fresh.{bundles_are}
+use Rattle.wired_workers.proofs.Making.{rest_as}
 use Rattle.run_parts.proofs.worker_parts.make_all.Goals as goal
 
 pub after_receivers-requires-clause-links : goal.after_receivers-requires-clause-links

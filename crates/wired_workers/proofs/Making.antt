@@ -1,0 +1,84 @@
+-- A worker made of what is next of each list.
+use Rattle.std.proofs.Common.{◌≡◌, ℕ, zero, suc, ◌+◌, List, [], ◌∷◌, ◌++◌, length, Some, slice_get, sym, ◌∙◌, ap, subst, arith, length-append}
+use Rattle.packet_ledger.specs.Share.{Held, new_share}
+use Rattle.pipeline_laws.specs.Deeds.{Each}
+use Rattle.pipeline_laws.specs.Item.{Arrival, Outgoing}
+use Rattle.pipeline_laws.specs.Settled.{SlowPathRequest}
+use Rattle.process_packet.specs.declared.config.Config.{Config}
+use Rattle.ruled_pipe.specs.Producer.{Sender}
+use Rattle.ruled_pipe.specs.Consumer.{Taker}
+use Rattle.ruled_pipe.specs.Pipe.{Shape, IsEndOf}
+use Rattle.router_laws.specs.Returned.{AllAt}
+use Rattle.router_rules.specs.Rules.{kinds}
+use Rattle.router_stages.specs.Working.{Working}
+use Rattle.stage_parts.specs.Outlet.{Offering}
+use Rattle.stage_parts.specs.Outlets.{AreFresh, senders}
+use Rattle.router_ends.specs.Rows.{AreEndsOf, AreFor, Row, fresh_ends}
+use Rattle.wired_workers.specs.Dealing.{IsLong, IsNewEnd, IsTakerThere, piping}
+use Rattle.wired_workers.specs.Kits.{IsWorkingThere}
+use Rattle.wired_workers.specs.Rest.{AreNewShares, HaveGone, IsRest}
+use Rattle.wired_workers.proofs.Fresh.{fresh_are, fresh_long}
+use Rattle.wired_workers.proofs.RestLemmas.{all_more}
+
+-- the shares, before the first is taken, and after the next
+pub none_gone : (n : ℕ) (xs : List Held) → AreNewShares n xs → HaveGone 0 xs xs
+none_gone n xs new = record { each = new.each; count = omega arith }
+
+pub one_gone : (n : ℕ) (all old new : List Held) (x : Held) → old ≡ x ∷ new → HaveGone n all old → HaveGone (n + 1) all new
+one_gone n all old new x is gone =
+    let e = subst (λ (xs : List Held). Each (λ (s : Held). s ≡ new_share) xs) is gone.each in
+    record { each = e.1; count = let c = gone.count in let l = ap length is in omega arith }
+
+producers_at : (n : ℕ) (ss : List Shape) (i : ℕ) (s : Shape) → AreFor n ss → slice_get ss i ≡ Some s → s.producers ≡ n
+producers_at n [] i s all at = cc
+producers_at n (x ∷ ss) zero s all at = let e : x ≡ s = cc in ap (λ (y : Shape). y.producers) (sym e) ∙ all.0
+producers_at n (x ∷ ss) (suc i) s all at = producers_at n ss i s all.1 at
+
+module _ {T : Type 0} where
+  pub taker_new : (n : ℕ) (pipes : List Shape) (i : ℕ) (t : Taker T) → AreFor n pipes → IsTakerThere pipes i t → (t.taken ≡ []) × (t.producers ≡ n)
+  taker_new n pipes i t all is = (ap (λ (x : Taker T). x.taken) is.fresh, ap (λ (x : Taker T). x.producers) is.fresh ∙ producers_at n pipes i is.own all is.there)
+
+  pub bundle_long : (n p k : ℕ) (pipes : List Shape) (ends : List (Sender T)) → k ≡ length ends → ends ≡ fresh_ends p pipes → length pipes ≡ n → k ≡ n
+  bundle_long n p k pipes ends same is long = same ∙ (ap length is ∙ (fresh_long T p pipes ∙ long))
+
+module _ {G : Type 0} where
+  pub working_there : (c : Config) (inner outer : List Shape) (middle : Shape) (i : ℕ) (t : Taker (Arrival kinds)) (s : Sender (SlowPathRequest kinds)) (links : List (Offering (Outgoing kinds))) (w : Working G)
+      → IsTakerThere inner i t → IsNewEnd middle i s → AreEndsOf i outer (senders links)
+      → w.side.config ≡ c → (w.taker ≡ t) × (w.slow.sender ≡ s) × (w.side.links ≡ links) → AreFresh w.side.links → IsWorkingThere c (piping inner middle outer) i w
+  working_there c inner outer middle i t s links w there end are config same fresh =
+      let is = same.0 ∙ there.fresh in
+      record {
+        own = there.own;
+        there = there.there;
+        works = record {
+          config = config;
+          taker = (ap (λ (x : Taker (Arrival kinds)). x.pipe) is, ap (λ (x : Taker (Arrival kinds)). x.producers) is, ap (λ (x : Taker (Arrival kinds)). x.capacity) is);
+          slow = subst (λ (x : Sender (SlowPathRequest kinds)). IsEndOf middle i x) (sym same.1) end.0;
+          links = subst (λ (xs : List (Offering (Outgoing kinds))). AreEndsOf i outer (senders xs)) (sym same.2) are;
+          fresh = fresh;
+        };
+      }
+
+module _ {X : Type 0} where
+  pub all_none : (P : ℕ → X → Type 0) (n : ℕ) (xs : List X) → xs ≡ [] → AllAt P n xs
+  all_none P n xs none = subst (λ (ys : List X). AllAt P n ys) (sym none) tt
+
+  -- one more after them
+  pub all_pushed : (P : ℕ → X → Type 0) (i : ℕ) (xs ys : List X) (x : X) → ys ≡ xs ++ x ∷ [] → AllAt P 0 xs → length xs ≡ i → P i x → AllAt P 0 ys
+  all_pushed P i xs ys x is all long p =
+      let e : i ≡ 0 + length xs = omega arith in
+      subst (λ (zs : List X). AllAt P 0 zs) (sym is) (all_more P 0 xs x all (subst (λ (k : ℕ). P k x) e p))
+
+  pub pushed_long : (i : ℕ) (xs ys : List X) (x : X) → ys ≡ xs ++ x ∷ [] → length xs ≡ i → length ys ≡ i + 1
+  pushed_long i xs ys x is long = let l = ap length is in let a = length-append xs (x ∷ []) in omega arith
+
+  -- the same rest, by other names
+  pub rest_as : (P : ℕ → X → Type 0) (n a b : ℕ) (xs ys : List X) → xs ≡ ys → a ≡ b → IsRest P n b ys → IsRest P n a xs
+  rest_as P n a b xs ys same total r = record { each = subst (λ (zs : List X). AllAt P n zs) (sym same) r.each; count = let l = ap length same in let c = r.count in omega arith }
+
+pub long_as : (k l n a b : ℕ) (xs : List (Row (Unit {0}))) → k ≡ l → a ≡ b → IsRest (IsLong l) n (b + l) xs → IsRest (IsLong k) n (a + k) xs
+long_as k l n a b xs same total r = record { each = subst (λ (j : ℕ). AllAt (IsLong j) n xs) (sym same) r.each; count = let c = r.count in omega arith }
+
+-- new ends of these pipes, by another name
+pub ends_of : {T : Type 0} (p : ℕ) (pipes : List Shape) (ends : List (Sender T)) → ends ≡ fresh_ends p pipes → AreEndsOf p pipes ends
+ends_of {T = T} p pipes ends is = subst (λ (xs : List (Sender T)). AreEndsOf p pipes xs) (sym is) (fresh_are T p pipes)

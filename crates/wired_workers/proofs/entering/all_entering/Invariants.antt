@@ -1,0 +1,16 @@
+use Rattle.std.proofs.Common.{◌≡◌, ◌≤◌, length, vec_capacity}
+use Rattle.std.specs.Arc.{arc_value}
+use Rattle.router_laws.specs.Returned.{AllAt}
+use Rattle.wired_workers.specs.Dealing.{IsBundleOf, IsUnlooked}
+use Rattle.wired_workers.specs.Kits.{IsEnteringAt}
+use Rattle.wired_workers.specs.Rest.{HaveGone, IsRest}
+use Rattle.wired_workers.proofs.entering.all_entering.Given as goal
+
+abbrev pub invariant-loop-link : goal.invariant-loop-link
+invariant-loop-link g l = record {
+  made : AllAt (IsEnteringAt (arc_value l.shared).config l.fn.pipes.items) 0 l.made.items;
+  count : (length l.made.items ≡ l.link) × (l.links ≤ vec_capacity l.made);
+  bundles : IsRest (IsBundleOf l.fn.pipes.items) l.link l.links l.bundles;
+  free : IsRest IsUnlooked l.link l.links l.free;
+  shares : HaveGone l.link l.initial.shares l.shares;
+}

@@ -1,0 +1,104 @@
+use Rattle.std.proofs.Common.{rules, ◌≡◌, ℕ, ◌+◌, ◌*◌, List, ◌∷◌, length, sym, ◌∙◌, ap, subst, arith}
+use Rattle.std.specs.Arc.{arc_value}
+use Rattle.process_packet.specs.declared.config.Config.{Config}
+use Rattle.ruled_pipe.specs.Pipe.{Shape}
+use Rattle.ruled_pipe.specs.Consumer.{Taker, new_taker}
+use Rattle.router_rules.specs.Links.{link_count}
+use Rattle.router_ends.specs.Rows.{Row, new_takers}
+use Rattle.pipeline_laws.specs.Item.{Outgoing}
+use Rattle.router_rules.specs.Rules.{kinds}
+use Rattle.router_stages.specs.Forwarding.{Band}
+use Rattle.run_laws.specs.Crew.{IsTakerOf}
+use Rattle.wired_workers.specs.Dealing.{IsLong, IsTakerThere}
+use Rattle.wired_workers.specs.Kits.{Exit, IsLeavingAt}
+use Rattle.wired_workers.specs.Rest.{IsRest}
+use Rattle.wired_workers.proofs.Fresh.{takers_are}
+use Rattle.wired_workers.proofs.Making.{all_none, all_pushed, none_gone, one_gone, pushed_long, rest_as, taker_new}
+use Rattle.wired_workers.proofs.RestLemmas.{rest_first, rest_next}
+use Rattle.wired_workers.proofs.leaving.all_leaving.Goals as goal
+
+module _ {T : Type 0} where
+  takers_rest : (ss : List Shape) (n m : ℕ) (ts us : List (Taker T)) → n ≡ m → us ≡ ts → ts ≡ new_takers ss → length ss ≡ 2 * m → IsRest (IsTakerThere ss) (2 * 0) (2 * n) us
+  takers_rest ss n m ts us same is are long = rest_as (IsTakerThere ss) 0 (2 * n) (2 * m) us ts is (ap (λ (k : ℕ). 2 * k) same) (takers_are ss (2 * m) ts are long)
+
+  -- the two consumers of a link, and what is left
+  first_two : (ss : List Shape) (l n : ℕ) (old mid new : List (Taker T)) (a b : Taker T) → old ≡ a ∷ mid → mid ≡ b ∷ new → IsRest (IsTakerThere ss) (2 * l) (2 * n) old
+      → IsTakerThere ss (2 * l) a × (IsTakerThere ss (2 * l + 1) b × IsRest (IsTakerThere ss) (2 * (l + 1)) (2 * n) new)
+  first_two ss l n old mid new a b one two r =
+      let next = rest_next (IsTakerThere ss) (2 * l) (2 * n) old mid a one r in
+      let last = rest_next (IsTakerThere ss) (2 * l + 1) (2 * n) mid new b two next in
+      let e : 2 * l + 1 + 1 ≡ 2 * (l + 1) = omega arith in
+      (rest_first (IsTakerThere ss) (2 * l) (2 * n) old mid a one r, (rest_first (IsTakerThere ss) (2 * l + 1) (2 * n) mid new b two next, subst (λ (k : ℕ). IsRest (IsTakerThere ss) k (2 * n) new) e last))
+
+  -- what is made of a consumer
+  taker_of : (s : Shape) (t u : Taker T) → u ≡ t → t ≡ new_taker s.pipe s.producers s.capacity → IsTakerOf s u
+  taker_of s t u same fresh = let e = same ∙ fresh in (ap (λ (x : Taker T). x.pipe) e, ap (λ (x : Taker T). x.producers) e, ap (λ (x : Taker T). x.capacity) e)
+
+long_rest : (n m p : ℕ) (xs : List (Row (Unit {0}))) → n ≡ m → IsRest (IsLong m) (p + 1) (p + 1 + m) xs → IsRest (IsLong n) (p + 1 + 0) (p + 1 + n) xs
+long_rest n m p xs same r =
+    let e : p + 1 ≡ p + 1 + 0 = omega arith in
+    let all = subst (λ (k : ℕ). IsRest (IsLong k) (p + 1) (p + 1 + k) xs) (sym same) r in
+    subst (λ (k : ℕ). IsRest (IsLong n) k (p + 1 + n) xs) e all
+
+long_next : (n p l : ℕ) (old new : List (Row (Unit {0}))) (b : Row (Unit {0})) → old ≡ b ∷ new → IsRest (IsLong n) (p + 1 + l) (p + 1 + n) old → IsRest (IsLong n) (p + 1 + (l + 1)) (p + 1 + n) new
+long_next n p l old new b is r =
+    let e : p + 1 + l + 1 ≡ p + 1 + (l + 1) = omega arith in
+    subst (λ (k : ℕ). IsRest (IsLong n) k (p + 1 + n) new) e (rest_next (IsLong n) (p + 1 + l) (p + 1 + n) old new b is r)
+
+left_at : (c : Config) (ss : List Shape) (l : ℕ) (e : Exit) (a b : Taker (Outgoing kinds)) → e.config ≡ c → e.link ≡ l → e.low.taker ≡ a → e.high.taker ≡ b → IsTakerThere ss (2 * l) a → IsTakerThere ss (2 * l + 1) b → IsLeavingAt c ss l e
+left_at c ss l e a b config link low high first second = record {
+  config = config;
+  link = link;
+  first = first.own;
+  second = second.own;
+  first_there = first.there;
+  second_there = second.there;
+  low = taker_of first.own a e.low.taker low first.fresh;
+  high = taker_of second.own b e.high.taker high second.fresh;
+}
+
+pub loop-link-init : goal.loop-link-init
+loop-link-init g c =
+    let config = (arc_value c.args.shared.now).config in
+    let links : c.link_count-links.result ≡ link_count config = (let a = c.link_count-links.ensures.count in let d = c.deref.ensures in cc) in
+    record {
+      made = all_none (IsLeavingAt config c.args.pipes.now.items) 0 c.in_ok-made.made.items c.in_ok-made.ensures.items;
+      count = (ap length c.in_ok-made.ensures.items, c.in_ok-made.ensures.capacity);
+      takers = takers_rest c.args.pipes.now.items c.link_count-links.result (link_count config) c.args.takers.items c.of-takers.result links c.of-takers.ensures c.requires.takers c.requires.pipes.0;
+      free = long_rest c.link_count-links.result (link_count config) config.processors c.args.free.now links c.requires.free;
+      shares = none_gone (link_count config) c.args.shares.now c.requires.shares;
+    }
+
+pub leaving_at-requires-clause-low : goal.leaving_at-requires-clause-low
+leaving_at-requires-clause-low g c =
+    let at = c.loop-link in
+    let two = first_two c.args.pipes.now.items at.link c.link_count-links.result at.takers c.next-low.new.self c.next-high.new.self c.next-low.result c.next-high.result c.next-low.ensures c.next-high.ensures at.invariant.takers in
+    let is = taker_new ((arc_value c.args.shared.now).config.processors + 2) c.args.pipes.now.items (2 * at.link) c.next-low.result c.requires.pipes.1 two.0 in
+    search (rules, is)
+
+pub leaving_at-requires-clause-high : goal.leaving_at-requires-clause-high
+leaving_at-requires-clause-high g c =
+    let at = c.loop-link in
+    let two = first_two c.args.pipes.now.items at.link c.link_count-links.result at.takers c.next-low.new.self c.next-high.new.self c.next-low.result c.next-high.result c.next-low.ensures c.next-high.ensures at.invariant.takers in
+    let is = taker_new ((arc_value c.args.shared.now).config.processors + 2) c.args.pipes.now.items (2 * at.link + 1) c.next-high.result c.requires.pipes.1 two.1.0 in
+    search (rules, is)
+
+pub loop-link-preserved : goal.loop-link-preserved
+loop-link-preserved g c =
+    let at = c.loop-link in
+    let config = (arc_value c.args.shared.now).config in
+    let shapes = c.args.pipes.now.items in
+    let links = c.link_count-links.result in
+    let e = c.in_ok-leaving_at.field-0 in
+    let two = first_two shapes at.link links at.takers c.next-low.new.self c.next-high.new.self c.next-low.result c.next-high.result c.next-low.ensures c.next-high.ensures at.invariant.takers in
+    let linked : e.link ≡ at.link = (let l = c.in_ok-leaving_at.ensures.config.1 in let few = c.link_count-links.ensures.few in let t = c.loop-link-test.true in omega arith) in
+    let low : e.low.taker ≡ c.next-low.result = ap (λ (b : Band). b.taker) c.in_ok-leaving_at.ensures.bands.0 in
+    let high : e.high.taker ≡ c.next-high.result = ap (λ (b : Band). b.taker) c.in_ok-leaving_at.ensures.bands.1 in
+    let is : IsLeavingAt config shapes at.link e = left_at config shapes at.link e c.next-low.result c.next-high.result c.in_ok-leaving_at.ensures.config.0 linked low high two.0 two.1.0 in
+    record {
+      made = all_pushed (IsLeavingAt config shapes) at.link at.made.items c.push_reserved.new.self.items e c.push_reserved.ensures.items at.invariant.made at.invariant.count.0 is;
+      count = (pushed_long at.link at.made.items c.push_reserved.new.self.items e c.push_reserved.ensures.items at.invariant.count.0, rw c.push_reserved.ensures.capacity at.invariant.count.1);
+      takers = two.1.1;
+      free = long_next links config.processors at.link at.free c.next-back.new.self c.next-back.result c.next-back.ensures at.invariant.free;
+      shares = one_gone at.link c.args.shares.now at.shares c.next-share.new.self c.next-share.result c.next-share.ensures at.invariant.shares;
+    }

@@ -1,0 +1,16 @@
+use Rattle.std.proofs.Common.{◌≡◌, ◌+◌, ◌*◌, ◌≤◌, length, vec_capacity}
+use Rattle.std.specs.Arc.{arc_value}
+use Rattle.router_laws.specs.Returned.{AllAt}
+use Rattle.wired_workers.specs.Dealing.{IsLong, IsTakerThere}
+use Rattle.wired_workers.specs.Kits.{IsLeavingAt}
+use Rattle.wired_workers.specs.Rest.{HaveGone, IsRest}
+use Rattle.wired_workers.proofs.leaving.all_leaving.Given as goal
+
+abbrev pub invariant-loop-link : goal.invariant-loop-link
+invariant-loop-link g l = record {
+  made : AllAt (IsLeavingAt (arc_value l.shared).config l.fn.pipes.items) 0 l.made.items;
+  count : (length l.made.items ≡ l.link) × (l.links ≤ vec_capacity l.made);
+  takers : IsRest (IsTakerThere l.fn.pipes.items) (2 * l.link) (2 * l.links) l.takers;
+  free : IsRest (IsLong l.links) ((arc_value l.shared).config.processors + 1 + l.link) ((arc_value l.shared).config.processors + 1 + l.links) l.free;
+  shares : HaveGone l.link l.initial.shares l.shares;
+}

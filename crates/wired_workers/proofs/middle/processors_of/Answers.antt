@@ -1,0 +1,53 @@
+use Rattle.std.proofs.Common.{ℕ, ◌+◌, length, refl, sym, ◌∙◌, ap}
+use Rattle.std.specs.Arc.{arc_value}
+use Rattle.router_rules.specs.Links.{link_count}
+use Rattle.router_rules.specs.declared.shared.Shared.{Shared}
+use Rattle.wired_workers.proofs.Fresh.{takers_are}
+use Rattle.wired_workers.proofs.Making.{all_none, all_pushed, bundle_long, long_as, none_gone, one_gone, pushed_long, rest_as, taker_new, working_there}
+use Rattle.wired_workers.proofs.RestLemmas.{rest_first, rest_next}
+use Rattle.wired_workers.proofs.middle.processors_of.Goals as goal
+
+pub loop-index-init : goal.loop-index-init
+loop-index-init g c =
+    let e = c.from-count.ensures ∙ ap (λ (s : Shared). s.config.processors) c.deref-2.ensures in
+    let l = c.link_count-producers.ensures.count ∙ ap (λ (s : Shared). link_count s.config) c.deref.ensures in
+    record {
+      made = all_none _ 0 _ c.in_ok-made.ensures.items;
+      count = (ap length c.in_ok-made.ensures.items, c.in_ok-made.ensures.capacity);
+      takers = takers_are _ _ _ (c.of-takers.ensures ∙ c.requires.takers) (c.requires.pipes.0 ∙ sym e);
+      asking = rest_as _ 0 _ _ _ _ c.of-asking.ensures e c.requires.asking;
+      links = rest_as _ 0 _ _ _ _ refl (ap (λ (n : ℕ). n + 2) e) c.requires.links;
+      free = long_as _ _ 0 _ _ _ l (ap (λ (n : ℕ). n + 1) e) c.requires.free;
+      shares = none_gone _ _ c.requires.shares;
+    }
+
+pub processor_at-requires-clause-taker : goal.processor_at-requires-clause-taker
+processor_at-requires-clause-taker g c =
+    let new = taker_new _ _ _ _ c.requires.pipes.1 (rest_first _ _ _ _ _ _ c.next-taker.ensures c.loop-index.invariant.takers) in
+    (new.0, new.1 ∙ sym (c.link_count-producers.ensures.count ∙ ap (λ (s : Shared). link_count s.config) c.deref.ensures))
+
+pub processor_at-requires-clause-ways : goal.processor_at-requires-clause-ways
+processor_at-requires-clause-ways g c =
+    let is = rest_first _ _ _ _ _ _ c.next-bundle.ensures c.loop-index.invariant.links in
+    let long = rest_first _ _ _ _ _ _ c.next-back.ensures c.loop-index.invariant.free in (
+      bundle_long _ _ _ _ _ c.in_ok-ways.ensures.count is c.requires.pipes.2,
+      ap length c.in_ok-ways.ensures.free ∙ (long ∙ (c.link_count-producers.ensures.count ∙ ap (λ (s : Shared). link_count s.config) c.deref.ensures)),
+    )
+
+pub loop-index-preserved : goal.loop-index-preserved
+loop-index-preserved g c =
+    let at = c.loop-index.invariant in
+    let taker = rest_first _ _ _ _ _ _ c.next-taker.ensures at.takers in
+    let end = rest_first _ _ _ _ _ _ c.next-slow.ensures at.asking in
+    let is = rest_first _ _ _ _ _ _ c.next-bundle.ensures at.links in
+    let links = c.in_ok-ways.ensures.links c.loop-index.index _ is in
+    let made = c.in_ok-processor_at.ensures in
+    record {
+      made = all_pushed _ _ _ _ _ c.push_reserved.ensures.items at.made at.count.0 (working_there (arc_value c.args.shared.now).config c.args.inner.now.items c.args.outer.now.items c.args.middle.now c.loop-index.index c.next-taker.result c.next-slow.result c.in_ok-ways.ways.links _ taker end links made.config made.ends made.fresh);
+      count = (pushed_long _ _ _ _ c.push_reserved.ensures.items at.count.0, rw c.push_reserved.ensures.capacity at.count.1);
+      takers = rest_next _ _ _ _ _ _ c.next-taker.ensures at.takers;
+      asking = rest_next _ _ _ _ _ _ c.next-slow.ensures at.asking;
+      links = rest_next _ _ _ _ _ _ c.next-bundle.ensures at.links;
+      free = rest_next _ _ _ _ _ _ c.next-back.ensures at.free;
+      shares = one_gone _ _ _ _ _ c.next-share.ensures at.shares;
+    }

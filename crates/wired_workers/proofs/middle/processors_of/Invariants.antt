@@ -1,0 +1,18 @@
+use Rattle.std.proofs.Common.{◌≡◌, ◌+◌, ◌≤◌, length, vec_capacity}
+use Rattle.std.specs.Arc.{arc_value}
+use Rattle.router_laws.specs.Returned.{AllAt}
+use Rattle.wired_workers.specs.Dealing.{IsBundleOf, IsLong, IsNewEnd, IsTakerThere, piping}
+use Rattle.wired_workers.specs.Kits.{IsWorkingThere}
+use Rattle.wired_workers.specs.Rest.{HaveGone, IsRest}
+use Rattle.wired_workers.proofs.middle.processors_of.Given as goal
+
+abbrev pub invariant-loop-index : goal.invariant-loop-index
+invariant-loop-index g l = record {
+  made : AllAt (IsWorkingThere (arc_value l.shared).config (piping l.fn.inner.items l.fn.middle l.fn.outer.items)) 0 l.made.items;
+  count : (length l.made.items ≡ l.index) × (l.count ≤ vec_capacity l.made);
+  takers : IsRest (IsTakerThere l.fn.inner.items) l.index l.count l.takers;
+  asking : IsRest (IsNewEnd l.fn.middle) l.index l.count l.asking;
+  links : IsRest (IsBundleOf l.fn.outer.items) l.index (l.count + 2) l.links;
+  free : IsRest (IsLong l.producers) l.index (l.count + 1 + l.producers) l.free;
+  shares : HaveGone l.index l.initial.shares l.shares;
+}

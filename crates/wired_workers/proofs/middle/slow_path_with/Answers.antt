@@ -1,0 +1,7 @@
+use Rattle.std.proofs.Common.{sym, subst}
+use Rattle.router_ends.specs.Rows.{AreEndsOf}
+use Rattle.stage_parts.specs.Outlets.{senders}
+use Rattle.wired_workers.proofs.middle.slow_path_with.Goals as goal
+
+pub returns-clause-links : goal.returns-clause-links
+returns-clause-links g c = λ p shapes is. subst (λ xs. AreEndsOf p shapes (senders xs)) (sym c.in_ok-slow.ensures.ends.1) (c.in_ok-ways.ensures.links p shapes is)

@@ -1,0 +1,3 @@
+pub mod Rest
+pub mod Dealing
+pub mod Kits

@@ -1,0 +1,186 @@
+//! What receivers are made of.
+
+ghost use Rattle.std.specs.Prelude.{◌≡◌, ◌≤◌, ◌<◌, ℕ, List, IfOk, [], Some, length, vec_capacity};
+ghost use Rattle.std.specs.Arc.{arc_value};
+ghost use Rattle.packet_ledger.specs.Share.{new_share};
+ghost use Rattle.pipeline_laws.specs.Deeds.{Each};
+ghost use Rattle.router_laws.specs.Heard.{ToldNothing};
+ghost use Rattle.router_rules.specs.Links.{link_count};
+ghost use Rattle.router_stages.specs.Receiving.{first_receiving};
+ghost use Rattle.ruled_pipe.specs.Pipe.{Shape};
+ghost use Rattle.stage_parts.specs.Outlets.{senders};
+ghost use Rattle.router_ends.specs.Rows.{AreDealt, AreEndsOf, IsBundle, fresh_ends};
+ghost use Rattle.wired_workers.specs.Dealing.{IsUnlooked};
+ghost use Rattle.wired_workers.specs.Kits.{IsEnteringAt, receivings};
+ghost use Rattle.wired_workers.specs.Rest.{AreNewShares, HaveGone, IsRest};
+
+use crate::line::Line;
+use crate::waking::{Events, wake};
+use packet_ledger::Share;
+use router_ends::{Ends, outlets};
+use router_rules::{Shared, link_count};
+use router_stages::Receiver;
+use ruled_pipe::{Consumer, Pipe};
+use stage_parts::{Buffer, Outlet, Packet, Router, Source};
+use std::alloc::{AllocError, Global};
+use std::marker::Model;
+use std::sync::atomic::AtomicU64;
+use std::sync::{Arc, Wait};
+
+/// All that a receiver is made of but its source.
+#[derive(Drop)]
+pub struct Entering<N: Router> {
+    shared: Arc<Shared, Global>,
+    stop: Arc<AtomicU64, Global>,
+    link: u16,
+    first: Buffer,
+    free: Consumer<Buffer>,
+    processors: Vec<Outlet<Packet<N>>>,
+    share: Share<N>,
+}
+
+impl<N: Router> Model for Entering<N> {
+    ghost use Rattle.std.specs.Prelude.{◌≡◌, ◌<◌, [], Some, length};
+    ghost use Rattle.std.specs.Arc.{arc_value};
+    ghost use Rattle.packet_ledger.specs.Share.{new_share};
+    ghost use Rattle.router_rules.specs.Links.{link_count};
+    ghost use Rattle.stage_parts.specs.Outlets.{AreFresh};
+    ghost use Rattle.wired_workers.specs.Kits.{Entry};
+
+    ghost Value = { Entry };
+
+    ghost view = { λ e. record { config = (arc_value e.shared).config; link = e.link; free = e.free; processors = e.processors.items } };
+
+    ghost invariant = { λ e. (N.config ≡ Some (arc_value e.shared).config) × (e.link < link_count (arc_value e.shared).config) × (length e.processors.items ≡ (arc_value e.shared).config.processors) × AreFresh e.processors.items × (e.free.looks ≡ []) × (e.share ≡ new_share) };
+}
+
+impl<N: Router> Entering<N> {
+    // The receiver over a source.
+    fn over<S: Source, R: Wait + Copy>(self, rt: R, source: S) -> Receiver<N, R, S>
+        requires { ToldNothing (S.told source) }
+        ensures { result ≡ first_receiving self.config self.link source self.free self.processors }
+    {
+        let Entering {
+            shared,
+            stop,
+            link,
+            first,
+            free,
+            processors,
+            share,
+        } = self;
+        Receiver::new(
+            rt, shared, stop, link, source, first, free, processors, share,
+        )
+    }
+}
+
+// What the next receiver shares with others, and its first buffer.
+fn begun(
+    alloc: Global,
+    shared: &Arc<Shared, Global>,
+    stop: &Arc<AtomicU64, Global>,
+) -> Result<(Arc<Shared, Global>, Arc<AtomicU64, Global>, Buffer), AllocError>
+    ensures { IfOk result (λ r. arc_value r.0 ≡ arc_value shared.now) }
+{
+    let shared = Arc::try_clone(shared)?;
+    let stop = Arc::try_clone(stop)?;
+    let first = Buffer::new(alloc)?;
+    Ok((shared, stop, first))
+}
+
+fn entering_at<N: Router>(
+    alloc: Global,
+    shared: &Arc<Shared, Global>,
+    stop: &Arc<AtomicU64, Global>,
+    link: u16,
+    bundle: Ends<Packet<N>>,
+    free: Consumer<Buffer>,
+    share: Share<N>,
+    events: &Events,
+) -> Result<Entering<N>, AllocError>
+    requires config { N.config ≡ Some (arc_value shared.now).config }
+    requires link { link < link_count (arc_value shared.now).config }
+    requires bundle { IsBundle bundle.ends × (length bundle.ends ≡ (arc_value shared.now).config.processors) }
+    requires free { free.looks ≡ [] }
+    requires share { share ≡ new_share }
+    ensures config { IfOk result (λ e. (e.config ≡ (arc_value shared.now).config) × (e.link ≡ link)) }
+    ensures processors { IfOk result (λ e. (p : ℕ) (shapes : List Shape) → bundle.ends ≡ fresh_ends p shapes → AreEndsOf p shapes (senders e.processors)) }
+{
+    let processors = wake(outlets(alloc, bundle)?, events.processors.as_slice(), 1)?;
+    let (shared, stop, first) = begun(alloc, shared, stop)?;
+    Ok(Entering {
+        shared,
+        stop,
+        link,
+        first,
+        free,
+        processors,
+        share,
+    })
+}
+
+/// All that the receivers are made of but their sources.
+pub fn all_entering<N: Router>(
+    alloc: Global,
+    shared: &Arc<Shared, Global>,
+    stop: &Arc<AtomicU64, Global>,
+    pipes: &Vec<Pipe<Packet<N>>>,
+    bundles: Vec<Ends<Packet<N>>>,
+    free: Vec<Consumer<Buffer>>,
+    shares: &mut Line<Share<N>>,
+    events: &Events,
+) -> Result<Vec<Entering<N>>, AllocError>
+    requires config { N.config ≡ Some (arc_value shared.now).config }
+    requires pipes { length pipes.now.items ≡ (arc_value shared.now).config.processors }
+    requires bundles { (length bundles.items ≡ link_count (arc_value shared.now).config) × AreDealt pipes.now.items 0 bundles.items }
+    requires free { IsRest IsUnlooked 0 (link_count (arc_value shared.now).config) free.items }
+    requires shares { AreNewShares (link_count (arc_value shared.now).config) shares.old }
+    ensures shares { IfOk result (λ _. HaveGone (link_count (arc_value shared.now).config) shares.old shares.new) }
+    ensures made { IfOk result (λ v. IsRest (IsEnteringAt (arc_value shared.now).config pipes.now.items) 0 (link_count (arc_value shared.now).config) v.items) }
+{
+    let links = link_count(&shared.config);
+    let mut made = Vec::with_capacity(alloc, links)?;
+    let mut bundles = Line::of(bundles);
+    let mut free = Line::of(free);
+    for link in 0..links {
+        let bundle = bundles.next();
+        let taker = free.next();
+        let share = shares.next();
+        made.push_reserved(entering_at(
+            alloc,
+            shared,
+            stop,
+            link as u16,
+            bundle,
+            taker,
+            share,
+            events,
+        )?);
+    }
+    let _ = pipes;
+    Ok(made)
+}
+
+/// The receivers over their sources. It takes no memory.
+pub fn receivers_of<N: Router, S: Source + Drop, R: Wait + Copy>(
+    rt: R,
+    entering: Vec<Entering<N>>,
+    sources: Vec<S>,
+    room: Vec<Receiver<N, R, S>>,
+) -> Vec<Receiver<N, R, S>>
+    requires count { length sources.items ≡ length entering.items }
+    requires untold { Each (λ s. ToldNothing (S.told s)) sources.items }
+    requires room { (room.items ≡ []) × (length entering.items ≤ vec_capacity room) }
+    ensures { result.items ≡ receivings entering.items sources.items }
+{
+    let count = entering.len();
+    let mut entering = Line::of(entering);
+    let mut sources = Line::of(sources);
+    let mut receivers = room;
+    for k in 0..count {
+        let source = sources.next();
+        receivers.push_reserved(entering.next().over(rt, source));
+    }
+    receivers
+}

@@ -1,0 +1,149 @@
+//! What forwarders are made of.
+
+ghost use Rattle.std.specs.Prelude.{◌≡◌, ◌+◌, ◌*◌, ◌≤◌, ◌<◌, IfOk, [], Some, length, false, vec_capacity};
+ghost use Rattle.std.specs.Arc.{arc_value};
+ghost use Rattle.packet_ledger.specs.Share.{new_share};
+ghost use Rattle.pipeline_laws.specs.Deeds.{Each};
+ghost use Rattle.router_laws.specs.Heard.{ToldNothing};
+ghost use Rattle.router_rules.specs.Links.{link_count};
+ghost use Rattle.router_stages.specs.Forwarding.{band, first_delivery, first_forwarding};
+ghost use Rattle.router_ends.specs.Rows.{AreFor, new_takers};
+ghost use Rattle.wired_workers.specs.Dealing.{IsLong};
+ghost use Rattle.wired_workers.specs.Kits.{IsLeavingAt, forwardings};
+ghost use Rattle.wired_workers.specs.Rest.{AreNewShares, IsRest};
+
+use crate::line::Line;
+use packet_ledger::Share;
+use router_ends::Ends;
+use router_rules::{Shared, link_count};
+use router_stages::{Band, Forwarder};
+use ruled_pipe::{Consumer, Pipe, Producer};
+use stage_parts::{Buffer, EgressPacket, Router, Sink};
+use std::alloc::{AllocError, Global};
+use std::marker::Model;
+use std::sync::{Arc, Wait};
+
+/// All that a forwarder is made of but its sink.
+#[derive(Drop)]
+pub struct Leaving<N: Router> {
+    shared: Arc<Shared, Global>,
+    link: u16,
+    low: Band<N>,
+    high: Band<N>,
+    free: Vec<Producer<Buffer>>,
+    share: Share<N>,
+}
+
+impl<N: Router> Model for Leaving<N> {
+    ghost use Rattle.std.specs.Prelude.{◌≡◌, [], Some, false, length};
+    ghost use Rattle.std.specs.Arc.{arc_value};
+    ghost use Rattle.packet_ledger.specs.Share.{new_share};
+    ghost use Rattle.router_rules.specs.Links.{link_count};
+    ghost use Rattle.wired_workers.specs.Kits.{Exit};
+
+    ghost Value = { Exit };
+
+    ghost view = { λ e. record { config = (arc_value e.shared).config; link = e.link; low = e.low; high = e.high; free = e.free.items } };
+
+    ghost invariant = { λ e. (N.config ≡ Some (arc_value e.shared).config) × (e.low.taker.taken ≡ []) × (e.low.shut ≡ false) × (e.high.taker.taken ≡ []) × (e.high.shut ≡ false) × (length e.free.items ≡ link_count (arc_value e.shared).config) × (e.share ≡ new_share) };
+}
+
+impl<N: Router> Leaving<N> {
+    // The forwarder over a sink.
+    fn over<K: Sink, R: Wait + Copy>(self, rt: R, sink: K) -> Forwarder<N, R, K>
+        requires { ToldNothing (K.told sink) }
+        ensures { result ≡ first_forwarding self.link self.low self.high (K.failed sink) (first_delivery self.config sink self.free) }
+    {
+        let Leaving {
+            shared,
+            link,
+            low,
+            high,
+            free,
+            share,
+        } = self;
+        Forwarder::new(rt, shared, link, low, high, sink, free, share)
+    }
+}
+
+fn leaving_at<N: Router>(
+    shared: &Arc<Shared, Global>,
+    link: u16,
+    producers: usize,
+    low: Consumer<EgressPacket<N>>,
+    high: Consumer<EgressPacket<N>>,
+    free: Ends<Buffer>,
+    share: Share<N>,
+) -> Result<Leaving<N>, AllocError>
+    requires config { N.config ≡ Some (arc_value shared.now).config }
+    requires low { (low.taken ≡ []) × (low.producers ≡ producers) }
+    requires high { (high.taken ≡ []) × (high.producers ≡ producers) }
+    requires free { length free.ends ≡ link_count (arc_value shared.now).config }
+    requires share { share ≡ new_share }
+    ensures config { IfOk result (λ e. (e.config ≡ (arc_value shared.now).config) × (e.link ≡ link)) }
+    ensures bands { IfOk result (λ e. (e.low ≡ band low false) × (e.high ≡ band high false)) }
+{
+    let shared = Arc::try_clone(shared)?;
+    Ok(Leaving {
+        shared,
+        link,
+        low: Band::of(low, producers),
+        high: Band::of(high, producers),
+        free: free.into_items(),
+        share,
+    })
+}
+
+/// All that the forwarders are made of but their sinks.
+pub fn all_leaving<N: Router>(
+    alloc: Global,
+    shared: &Arc<Shared, Global>,
+    pipes: &Vec<Pipe<EgressPacket<N>>>,
+    takers: Vec<Consumer<EgressPacket<N>>>,
+    free: &mut Line<Ends<Buffer>>,
+    shares: &mut Line<Share<N>>,
+) -> Result<Vec<Leaving<N>>, AllocError>
+    requires config { N.config ≡ Some (arc_value shared.now).config }
+    requires pipes { (length pipes.now.items ≡ 2 * link_count (arc_value shared.now).config) × AreFor ((arc_value shared.now).config.processors + 2) pipes.now.items }
+    requires takers { takers.items ≡ new_takers pipes.now.items }
+    requires free { IsRest (IsLong (link_count (arc_value shared.now).config)) ((arc_value shared.now).config.processors + 1) ((arc_value shared.now).config.processors + 1 + link_count (arc_value shared.now).config) free.old }
+    requires shares { AreNewShares (link_count (arc_value shared.now).config) shares.old }
+    ensures made { IfOk result (λ v. IsRest (IsLeavingAt (arc_value shared.now).config pipes.now.items) 0 (link_count (arc_value shared.now).config) v.items) }
+{
+    let links = link_count(&shared.config);
+    let producers = usize::from(shared.config.processors) + 2;
+    let mut made = Vec::with_capacity(alloc, links)?;
+    let mut takers = Line::of(takers);
+    for link in 0..links {
+        let low = takers.next();
+        let high = takers.next();
+        let back = free.next();
+        let share = shares.next();
+        made.push_reserved(leaving_at(shared, link as u16, producers, low, high, back, share)?);
+    }
+    let _ = pipes;
+    Ok(made)
+}
+
+/// The forwarders over their sinks. It takes no memory.
+pub fn forwarders_of<N: Router, K: Sink + Drop, R: Wait + Copy>(
+    rt: R,
+    leaving: Vec<Leaving<N>>,
+    sinks: Vec<K>,
+    room: Vec<Forwarder<N, R, K>>,
+) -> Vec<Forwarder<N, R, K>>
+    requires count { length sinks.items ≡ length leaving.items }
+    requires untold { Each (λ k. ToldNothing (K.told k)) sinks.items }
+    requires room { (room.items ≡ []) × (length leaving.items ≤ vec_capacity room) }
+    ensures { result.items ≡ forwardings K.failed leaving.items sinks.items }
+{
+    let count = leaving.len();
+    let mut leaving = Line::of(leaving);
+    let mut sinks = Line::of(sinks);
+    let mut forwarders = room;
+    for k in 0..count {
+        let sink = sinks.next();
+        forwarders.push_reserved(leaving.next().over(rt, sink));
+    }
+    forwarders
+}
