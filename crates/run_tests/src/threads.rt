@@ -31,6 +31,8 @@ impl<L: Ledger, R: Wait> Work<L> for Countdown<L, R> {
 
     ghost may_turn = { λ a. a.share.counts.received + 1 ≤ 2 ^ 100 };
 
+    ghost turned = { λ turn a b. Unit {0} };
+
     ghost has_ended = { λ a. a.left ≡ 0 };
 
     ghost is_posted = { λ a. Unit {0} };
@@ -225,6 +227,8 @@ impl<L: Ledger, R: Wait> Work<L> for Feeder<R> {
 
     ghost may_turn = { λ a. Unit {0} };
 
+    ghost turned = { λ turn a b. Unit {0} };
+
     ghost has_ended = { λ a. Unit {0} };
 
     ghost is_posted = { λ a. Unit {0} };
@@ -270,6 +274,8 @@ impl<L: Ledger, R: Wait> Work<L> for Drain<R> {
     ghost same = { λ a b. Unit {0} };
 
     ghost may_turn = { λ a. Unit {0} };
+
+    ghost turned = { λ turn a b. Unit {0} };
 
     ghost has_ended = { λ a. Unit {0} };
 

@@ -8,11 +8,14 @@ use std::sync::Wait;
 
 impl<N: Router, R: Wait + Copy, K: Sink> Work<N> for Forwarder<N, R, K> {
     ghost use Rattle.packet_ledger.specs.Share.{HasRoom, IsDrained};
+    ghost use Rattle.router_stages.specs.Forwarding.{Forwarded};
     ghost use Rattle.worker_threads.specs.Workers.{IsSameForwarder, ForwarderEnded, forwarder_self, forwarder_then};
 
     ghost same = { λ a b. IsSameForwarder a b };
 
     ghost may_turn = { λ f. HasRoom f.side.share.counts };
+
+    ghost turned = { λ turn a b. Forwarded K.told K.failed turn a b };
 
     ghost has_ended = { λ f. ForwarderEnded f };
 

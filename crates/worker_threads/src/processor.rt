@@ -8,11 +8,14 @@ use std::sync::Wait;
 
 impl<N: Router, R: Wait + Copy, G: Gate + Drop> Work<N> for Processor<N, R, G> {
     ghost use Rattle.packet_ledger.specs.Share.{HasRoom, IsDrained};
+    ghost use Rattle.router_stages.specs.Working.{Worked};
     ghost use Rattle.worker_threads.specs.Workers.{IsSameProcessor, ProcessorEnded, processor_self, processor_then};
 
     ghost same = { λ a b. IsSameProcessor a b };
 
     ghost may_turn = { λ w. HasRoom w.side.share.counts };
+
+    ghost turned = { λ turn a b. Worked G.answers turn a b };
 
     ghost has_ended = { λ w. ProcessorEnded w };
 

@@ -8,11 +8,14 @@ use std::sync::Wait;
 
 impl<N: Router, R: Wait + Copy, S: Source> Work<N> for Receiver<N, R, S> {
     ghost use Rattle.packet_ledger.specs.Share.{HasRoom, IsDrained};
+    ghost use Rattle.router_stages.specs.Receiving.{Received};
     ghost use Rattle.worker_threads.specs.Workers.{IsSameReceiver, ReceiverEnded, receiver_self, receiver_then};
 
     ghost same = { λ a b. IsSameReceiver a b };
 
     ghost may_turn = { λ r. HasRoom r.side.share.counts };
+
+    ghost turned = { λ turn a b. Received S.told S.failed turn a b };
 
     ghost has_ended = { λ r. ReceiverEnded r };
 

@@ -8,11 +8,14 @@ use std::sync::Wait;
 
 impl<N: Router, R: Wait + Copy> Work<N> for SlowPath<N, R> {
     ghost use Rattle.packet_ledger.specs.Share.{HasRoom, IsDrained};
+    ghost use Rattle.router_stages.specs.Answering.{Answered};
     ghost use Rattle.worker_threads.specs.Workers.{IsSameSlowPath, SlowPathEnded, slow_self, slow_then};
 
     ghost same = { λ a b. IsSameSlowPath a b };
 
     ghost may_turn = { λ a. HasRoom a.side.share.counts };
+
+    ghost turned = { λ turn a b. Answered turn a b };
 
     ghost has_ended = { λ a. SlowPathEnded a };
 

@@ -1,6 +1,7 @@
 //! What the loop of a thread asks of a worker, whichever it is.
 
 ghost use Rattle.std.specs.Prelude.{◌≡◌, true};
+ghost use Rattle.router_stages.specs.declared.turn.Turn.{Turn};
 
 use packet_ledger::{Book, Ledger};
 use router_stages::Turn;
@@ -12,6 +13,9 @@ pub trait Work<N: Ledger> {
 
     /// Each of its counts can still be raised.
     ghost may_turn: { Self → Type 0 };
+
+    /// What one turn changes, and what the turn answers.
+    ghost turned: { Turn → Self → Self → Type 0 };
 
     /// It took all end marks, and all its own are there.
     ghost has_ended: { Self → Type 0 };
@@ -25,6 +29,7 @@ pub trait Work<N: Ledger> {
 
     fn make_turn(&mut self) -> Turn
         requires { may_turn self.old }
+        ensures turned { turned result self.old self.new }
         ensures same { same self.old self.new }
         ensures ended { result ≡ Turn.Ended → has_ended self.new };
 
