@@ -1,8 +1,6 @@
 //! The pipeline as a machine: every step is one act of one worker, and any list of steps may be made.
 #![tactic(auto)]
 
-#[cfg(test)]
-mod act_tests;
 mod counting;
 mod deciding;
 mod laws;
@@ -10,13 +8,9 @@ mod marking;
 mod passing;
 mod place;
 mod receiving;
-#[cfg(test)]
-mod samples;
 mod sending;
 mod state;
 mod step;
-#[cfg(test)]
-mod tests;
 mod world;
 
 pub use laws::arrivals_stay;

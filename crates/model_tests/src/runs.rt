@@ -1,10 +1,6 @@
-use crate::place::Place;
-use crate::samples::{EXPIRED, arrival, config, is_what_leaves};
-use crate::step::{Step, StepFault};
-use crate::world::{NoMemoryAt, World};
+use crate::samples::{Coming, EXPIRED, LEAVES, is_what_leaves, pipeline};
+use pipe_model::{NoMemoryAt, Outgoing, Place, Queue, Step, StepFault, Worker, World};
 use process_packet::{Bands, Cause, NoMemory, Totals};
-use router_rules::{Outgoing, Queue, Worker, link_count, link_index};
-use sample_packets::{FIRST, IN_TIME};
 use std::alloc::Global;
 use std::test::*;
 
@@ -26,28 +22,9 @@ const WAY: [Step; 14] = [
     Step::Send(2, false),
 ];
 
-/// The pipeline before two packets of one flow that come by link 1, the second at this moment.
-fn pipeline(alloc: Global, second: u64) -> Result<World, NoMemory> {
-    let Ok(config) = config(alloc, Bands::One) else {
-        return Err(NoMemory);
-    };
-    let (Ok(one), Ok(two)) = (
-        arrival(alloc, 1, IN_TIME, &FIRST),
-        arrival(alloc, 2, second, &FIRST),
-    ) else {
-        return Err(NoMemory);
-    };
-    let Ok(of_link) = Vec::from_array(alloc, [one, two]) else {
-        return Err(NoMemory);
-    };
-    let lists = [Vec::new(alloc), of_link, Vec::new(alloc)];
-    let Ok(arrivals) = Vec::from_array(alloc, lists) else {
-        return Err(NoMemory);
-    };
-    if link_count(&config) != 3 || link_index(&config, 1) != 1 {
-        return Err(NoMemory);
-    }
-    World::new(alloc, config, arrivals)
+/// The pipeline before two packets of one flow that come by link 1.
+fn before(alloc: Global, second: Coming) -> Result<World, NoMemory> {
+    pipeline(alloc, Bands::One, LEAVES, second)
 }
 
 fn leaves(number: u64) -> Outgoing {
@@ -70,8 +47,8 @@ fn totals(received: u128, sent: u128) -> Totals {
 
 #[test]
 fn two_packets_at_each_moment(rt: HostRuntime) {
-    crate::arrivals_stay();
-    let Ok(mut world) = pipeline(rt.alloc(), IN_TIME) else {
+    pipe_model::arrivals_stay();
+    let Ok(mut world) = before(rt.alloc(), LEAVES) else {
         return assert!(rt; false, "there is memory");
     };
     assert!(rt; world.place(1, 1) == None);
@@ -110,7 +87,7 @@ fn two_packets_at_each_moment(rt: HostRuntime) {
 
 #[test]
 fn a_list_of_steps(rt: HostRuntime) {
-    let Ok(mut world) = pipeline(rt.alloc(), IN_TIME) else {
+    let Ok(mut world) = before(rt.alloc(), LEAVES) else {
         return assert!(rt; false, "there is memory");
     };
     let Ok(skipped) = world.run(rt.alloc(), &WAY) else {
@@ -131,7 +108,7 @@ fn a_list_of_steps(rt: HostRuntime) {
 
 #[test]
 fn steps_that_are_not_possible(rt: HostRuntime) {
-    let Ok(mut world) = pipeline(rt.alloc(), IN_TIME) else {
+    let Ok(mut world) = before(rt.alloc(), LEAVES) else {
         return assert!(rt; false, "there is memory");
     };
     let steps = [
@@ -214,8 +191,8 @@ fn tell_the_same(one: &World, other: &World) -> bool {
 #[test]
 fn goes_on_without_memory(rt: HostRuntime) {
     let alloc = rt.alloc();
-    let first = match pipeline(alloc, EXPIRED) {
-        Err(NoMemory) => pipeline(alloc, EXPIRED),
+    let first = match before(alloc, EXPIRED) {
+        Err(NoMemory) => before(alloc, EXPIRED),
         built => built,
     };
     let Ok(mut world) = first else {
@@ -223,7 +200,7 @@ fn goes_on_without_memory(rt: HostRuntime) {
     };
     let run = world.run(alloc, &TO_THE_END);
     if let Err(NoMemoryAt(at)) = run {
-        let Ok(mut stepped) = pipeline(alloc, EXPIRED) else {
+        let Ok(mut stepped) = before(alloc, EXPIRED) else {
             return assert!(rt; false, "one allocation was refused");
         };
         let (before, after) = TO_THE_END.split_at(at);

@@ -3,17 +3,25 @@
 ghost use Rattle.std.specs.Prelude.{◌≡◌, IfOk};
 
 use cmac_core::Cmac;
-use process_packet::{Arrival, Bands, Config, Ip, Link, Underlay};
-use sample_packets::{FIRST, KEY, PATH_AT, with_bytes};
+use pipe_model::World;
+use process_packet::{Arrival, Bands, Config, Ip, Link, NoMemory, Underlay};
+use router_rules::{link_count, link_index};
+use sample_packets::{FIRST, IN_TIME, KEY, PATH_AT, with_bytes};
 use segment_switch::LinkKind;
 use std::alloc::{AllocError, Global};
 
-/// A second at which the first datagram's hop field has expired.
-pub const EXPIRED: u64 = 1694999999;
+/// A datagram that comes by link 1, and the second at which it does.
+pub type Coming<'a> = (u64, &'a [u8]);
+
+/// The first datagram, which leaves by link 2.
+pub const LEAVES: Coming<'static> = (IN_TIME, &FIRST);
+
+/// The same, once its hop field has expired: it is answered.
+pub const EXPIRED: Coming<'static> = (1694999999, &FIRST);
 
 /// The router of 1-ff00:0:110 with a parent link, a child link of these bands, and pipes that hold one
 /// packet.
-pub fn config(alloc: Global, bands: Bands) -> Result<Config, AllocError> {
+fn config(alloc: Global, bands: Bands) -> Result<Config, AllocError> {
     let links = [
         Link {
             id: 1,
@@ -63,7 +71,7 @@ pub fn config(alloc: Global, bands: Bands) -> Result<Config, AllocError> {
 }
 
 /// What comes by link 1 with this number.
-pub fn arrival(alloc: Global, number: u64, now: u64, bytes: &[u8]) -> Result<Arrival, AllocError>
+fn arrival(alloc: Global, number: u64, now: u64, bytes: &[u8]) -> Result<Arrival, AllocError>
     ensures { IfOk result (λ x. (x.link ≡ 1) × (x.number ≡ number)) }
 {
     Ok(Arrival {
@@ -76,6 +84,35 @@ pub fn arrival(alloc: Global, number: u64, now: u64, bytes: &[u8]) -> Result<Arr
         now,
         bytes: Vec::from_slice(alloc, bytes)?,
     })
+}
+
+/// The pipeline of this router before two datagrams that come by link 1.
+pub fn pipeline(
+    alloc: Global,
+    bands: Bands,
+    first: Coming,
+    second: Coming,
+) -> Result<World, NoMemory> {
+    let Ok(config) = config(alloc, bands) else {
+        return Err(NoMemory);
+    };
+    let (Ok(one), Ok(two)) = (
+        arrival(alloc, 1, first.0, first.1),
+        arrival(alloc, 2, second.0, second.1),
+    ) else {
+        return Err(NoMemory);
+    };
+    let Ok(of_link) = Vec::from_array(alloc, [one, two]) else {
+        return Err(NoMemory);
+    };
+    let lists = [Vec::new(alloc), of_link, Vec::new(alloc)];
+    let Ok(arrivals) = Vec::from_array(alloc, lists) else {
+        return Err(NoMemory);
+    };
+    if link_count(&config) != 3 || link_index(&config, 1) != 1 {
+        return Err(NoMemory);
+    }
+    World::new(alloc, config, arrivals)
 }
 
 /// Whether these are the bytes with which the first datagram leaves by link 2, as a model over OpenSSL has

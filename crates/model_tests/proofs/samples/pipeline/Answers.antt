@@ -5,7 +5,7 @@ use Rattle.process_packet.specs.declared.arrival.Arrival.{Arrival}
 use Rattle.process_packet.specs.declared.config.Config.{Config}
 use Rattle.router_rules.specs.Links.{link_count, link_index}
 use Rattle.pipe_model.specs.Begun.{AreArrivals, AreNumbered}
-use Rattle.pipe_model.proofs.tests.pipeline.Goals as goal
+use Rattle.model_tests.proofs.samples.pipeline.Goals as goal
 
 -- two that came by the link of interface 1, the second of three
 two_arrive : (c : Config) (before there after : Vec Arrival Global) (x y : Arrival) → link_count c ≡ 3 → link_index c 1 ≡ 1 → before.items ≡ [] → there.items ≡ x ∷ y ∷ [] → after.items ≡ [] → (x.link ≡ 1) × (x.number ≡ 1) → (y.link ≡ 1) × (y.number ≡ 2) → AreArrivals c (before ∷ there ∷ after ∷ [])
