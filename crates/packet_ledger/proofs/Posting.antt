@@ -1,6 +1,5 @@
 -- After a post a share holds nothing, or what the book has no room for.
-use Rattle.std.proofs.Common.{◌⊎◌, inl, inr, sym, ap, subst}
-use Rattle.process_packet.specs.declared.totals.Totals.{Totals}
+use Rattle.std.proofs.Common.{inl, inr, sym, ap, subst}
 use Rattle.packet_ledger.specs.Share.{Held, IsDrained, IsPosted, IsTooMuch}
 
 pub posted_drains : (old new : Held) → IsPosted old new → IsDrained new

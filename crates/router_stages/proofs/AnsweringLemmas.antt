@@ -1,5 +1,5 @@
 -- One turn of the slow path keeps its law.
-use Rattle.std.proofs.Common.{◌≡◌, ◌⊎◌, inl, inr, ℕ, ◌+◌, ◌<◌, Bool, List, [], ◌∷◌, length, Option, Some, refl, sym, ap, subst, ◌∙◌, arith}
+use Rattle.std.proofs.Common.{◌≡◌, inl, inr, ℕ, ◌<◌, Bool, List, [], length, Option, Some, refl, sym, ap, subst, ◌∙◌, arith}
 use Rattle.packet_ledger.specs.Share.{Held, IsPosted, new_share}
 use Rattle.pipeline_laws.specs.Item.{Outgoing}
 use Rattle.pipeline_laws.specs.Rules.{Rules, Reply, Replies, Withholds}
@@ -15,7 +15,7 @@ use Rattle.ruled_pipe.specs.declared.entry.Mark.{Mark}
 use Rattle.ruled_pipe.specs.declared.entry.Mark.TheVariants as mark
 use Rattle.ruled_pipe.specs.Consumer.{Taker, looked, took}
 use Rattle.ruled_pipe.specs.Gathered.{ends_in}
-use Rattle.ruled_pipe.specs.Producer.{Sender, entry}
+use Rattle.ruled_pipe.specs.Producer.{entry}
 use Rattle.stage_laws.specs.Answers.{answer_to}
 use Rattle.stage_laws.specs.Ends.{load_in}
 use Rattle.stage_laws.specs.Works.{deed}

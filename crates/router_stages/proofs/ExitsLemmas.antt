@@ -1,5 +1,5 @@
 -- Offers and buffers that go back.
-use Rattle.std.proofs.Common.{◌≡◌, ◌⊎◌, inl, inr, ℕ, zero, suc, ◌+◌, ◌*◌, ◌<◌, Bool, true, false, cond, ◌&&◌, List, [], ◌∷◌, length, slice_index_or, slice_set, refl, sym, ap, subst, ◌∙◌, arith}
+use Rattle.std.proofs.Common.{◌≡◌, inl, inr, ℕ, ◌+◌, ◌*◌, ◌<◌, Bool, true, false, cond, ◌&&◌, List, [], ◌∷◌, length, slice_index_or, ap, subst, ◌∙◌, arith}
 use Rattle.packet_ledger.specs.Share.{Held, counting, with_fate}
 use Rattle.pipeline_laws.specs.Item.{Outgoing}
 use Rattle.process_packet.specs.declared.cause.Cause.TheVariants as cause
@@ -8,11 +8,10 @@ use Rattle.router_rules.specs.Links.{has_two_bands, link_count}
 use Rattle.router_rules.specs.Rules.{is_urgent, kinds}
 use Rattle.ruled_pipe.specs.declared.entry.Load.TheVariants.{Payload}
 use Rattle.ruled_pipe.specs.Producer.{Sender, entry, offered, refused}
-use Rattle.stage_laws.specs.Works.{SentOn, TurnedAway}
 use Rattle.stage_laws.proofs.Works.{set_length}
 use Rattle.stage_parts.specs.Outlet.{Offering}
-use Rattle.stage_parts.specs.Outlets.{GaveAt, KeptAt}
-use Rattle.router_stages.specs.Exits.{Leaving, GaveBack, SentAs, pipe_for}
+use Rattle.stage_parts.specs.Outlets.{KeptAt}
+use Rattle.router_stages.specs.Exits.{GaveBack, SentAs, pipe_for}
 
 pub back_long : (k : ℕ) (old new : List (Sender (Unit {0}))) → k < length old → GaveBack k old new → length new ≡ length old
 back_long k [] new lt g = absurd (omega arith)

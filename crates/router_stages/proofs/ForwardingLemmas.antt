@@ -1,11 +1,10 @@
 -- One turn of a forwarder keeps its law.
-use Rattle.std.proofs.Common.{◌≡◌, ◌⊎◌, inl, inr, ℕ, ◌+◌, ◌<◌, ◌≤◌, ◌||◌, min, Bool, true, false, cond, List, [], ◌∷◌, Option, Some, None, refl, sym, ap, subst, ◌∙◌, arith}
+use Rattle.std.proofs.Common.{◌≡◌, inl, inr, ℕ, ◌+◌, ◌||◌, min, Bool, true, false, List, [], Option, Some, None, refl, sym, ap, subst, ◌∙◌, arith}
 use Rattle.packet_ledger.specs.Share.{Held, IsPosted, new_share}
 use Rattle.pipeline_laws.specs.Item.{Outgoing}
 use Rattle.pipeline_laws.specs.Deeds as deeds
 use Rattle.pipeline_laws.specs.Deeds.{payload_of}
 use Rattle.pipeline_laws.specs.World.{Cause as Fate}
-use Rattle.process_packet.specs.declared.config.Config.{Config}
 use Rattle.router_laws.specs.Heard.{ToldNothing}
 use Rattle.router_laws.specs.Keeping.{IsForwarding}
 use Rattle.router_laws.specs.Shares.{raise}
@@ -15,15 +14,14 @@ use Rattle.ruled_pipe.specs.declared.entry.Entry.{Entry}
 use Rattle.ruled_pipe.specs.declared.entry.Load.TheVariants.{Payload, Marked}
 use Rattle.ruled_pipe.specs.declared.entry.Mark.{Mark}
 use Rattle.ruled_pipe.specs.declared.entry.Mark.TheVariants as mark
-use Rattle.ruled_pipe.specs.Consumer.{Taker, looked, took}
+use Rattle.ruled_pipe.specs.Consumer.{Taker, took}
 use Rattle.ruled_pipe.specs.Gathered.{end_of, ends_in}
 use Rattle.ruled_pipe.specs.Producer.{entry}
 use Rattle.stage_laws.specs.Counting.{Dropped, handed_count}
 use Rattle.stage_laws.specs.Ends.{load_in}
-use Rattle.stage_laws.specs.Forwards.{Handed}
 use Rattle.stage_parts.specs.Told.{Told, told_of}
 use Rattle.stage_parts.proofs.Marks.{ends_more}
-use Rattle.router_stages.specs.Forwarding.{Band, Delivery, Delivered, HandedOn, KeepsForwarding, Met, PassedMet, Swept, after_look, after_mark, after_egress_packet, closes, end_mark, handed, looks_first, with_share}
+use Rattle.router_stages.specs.Forwarding.{Band, Delivery, Delivered, KeepsForwarding, Met, PassedMet, after_look, after_egress_packet, closes, end_mark, handed, looks_first, with_share}
 
 -- the end marks that were taken, up to the most
 pub band_more : (t t' : Taker (Outgoing kinds)) (e : Entry (Outgoing kinds)) (producers ends after n : ℕ) → t' ≡ took t e → n ≡ end_of e.load → after ≡ min (ends + n) producers → (producers ≡ t.producers) × (ends ≡ min (ends_in t.taken) producers)

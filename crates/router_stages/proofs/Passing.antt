@@ -1,23 +1,18 @@
 -- What a receiver does with a datagram, by what becomes of it.
-use Rattle.std.proofs.Common.{◌≡◌, ℕ, ◌+◌, ◌≤◌, ◌^◌, ◌<◌, true, false, List, length, take, Option, Some, None, refl, sym, ap, subst, ◌∙◌, arith}
+use Rattle.std.proofs.Common.{◌≡◌, ℕ, ◌+◌, ◌≤◌, ◌^◌, true, false, List, take, Some, None, refl, sym, ap, subst, ◌∙◌}
 use Rattle.packet_ledger.specs.Share.{Held, MayRaise, counting, with_fate, with_received}
 use Rattle.pipeline_laws.specs.Item.{Arrival}
-use Rattle.pipeline_laws.specs.Deeds.{Ending, Accepted, Refused, Lacked, Counted}
+use Rattle.pipeline_laws.specs.Deeds.{Accepted, Refused, Lacked, Counted}
 use Rattle.process_packet.specs.Totals.{dropped_for}
 use Rattle.process_packet.specs.declared.cause.Cause.{Cause}
 use Rattle.process_packet.specs.declared.cause.Cause.TheVariants as cause
 use Rattle.process_packet.specs.declared.underlay.Underlay.{Underlay}
 use Rattle.router_laws.specs.Heard.{arrival}
-use Rattle.router_rules.specs.Rules.{inspected, kinds, rules}
-use Rattle.stage_laws.specs.Receives.{Passed, was_lacked}
-use Rattle.stage_laws.specs.Works.{deed}
-use Rattle.stage_laws.proofs.Receives.{passed_on, passed_full, passed_none, passed_fault}
+use Rattle.router_rules.specs.Rules.{inspected, kinds}
 use Rattle.stage_parts.specs.Outlet.{Offering}
-use Rattle.stage_parts.specs.Outlets.{AreOpen, GaveAt, KeptAt, senders}
-use Rattle.stage_parts.proofs.EndLemmas.{gave_sent, kept_away, gave_open, kept_open, gave_long, kept_long, senders_long}
+use Rattle.stage_parts.specs.Outlets.{GaveAt, KeptAt}
 use Rattle.router_stages.specs.Pool.{Stock, Another, stock}
-use Rattle.router_stages.specs.Intake.{Intake, Taking, EndedAs, PassedIn, place}
-use Rattle.router_stages.proofs.PoolLemmas.{another_looks, none_looks}
+use Rattle.router_stages.specs.Intake.{Intake, Taking, PassedIn, place}
 
 -- a count that may be raised may be so after another kind was
 pub may_fate : (s t : Held) (why : Cause) → MayRaise s.counts → t ≡ counting s (with_received 1 s.counts) → dropped_for t.counts why + 1 ≤ 2 ^ 100

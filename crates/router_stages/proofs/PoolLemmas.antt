@@ -1,7 +1,7 @@
 -- A mark more that is passed over.
-use Rattle.std.proofs.Common.{◌≡◌, ◌⊎◌, inl, inr, ℕ, suc, ◌+◌, Bool, true, false, List, [], ◌∷◌, ◌++◌, length, Option, Some, None, append_assoc, length-append, refl, sym, ap, subst, ◌∙◌, arith}
+use Rattle.std.proofs.Common.{◌≡◌, inl, inr, ◌+◌, true, false, List, [], ◌∷◌, ◌++◌, length, append_assoc, length-append, ap, ◌∙◌}
 use Rattle.ruled_pipe.specs.declared.entry.Entry.{Entry}
-use Rattle.ruled_pipe.specs.Consumer.{Taker, looked, took}
+use Rattle.ruled_pipe.specs.Consumer.{Taker, took}
 use Rattle.router_stages.specs.Pool.{Stock, AreMarks, Another, Found, FoundNone, is_buffer, passed}
 
 marks_more : (es : List (Entry (Unit {0}))) (e : Entry (Unit {0})) → AreMarks es → is_buffer e.load ≡ false → AreMarks (es ++ e ∷ [])

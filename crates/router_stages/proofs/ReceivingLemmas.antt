@@ -1,5 +1,5 @@
 -- One turn of a receiver keeps its law.
-use Rattle.std.proofs.Common.{◌≡◌, ◌⊎◌, inl, inr, ℕ, ◌+◌, ◌<◌, Bool, true, false, nat_eq, List, [], ◌∷◌, length, Option, Some, None, refl, sym, ap, subst, ◌∙◌, arith}
+use Rattle.std.proofs.Common.{◌≡◌, inl, inr, ℕ, ◌+◌, ◌<◌, Bool, true, false, nat_eq, List, [], ◌∷◌, length, Option, refl, sym, ap, subst, ◌∙◌, arith}
 use Rattle.packet_ledger.specs.Share.{Held, IsPosted, new_share}
 use Rattle.pipeline_laws.specs.Item.{Arrival}
 use Rattle.pipeline_laws.specs.Rules.{Rules}
@@ -7,13 +7,10 @@ use Rattle.pipeline_laws.specs.Deeds.{Ending, Accepted, Refused, Lacked, Counted
 use Rattle.process_packet.specs.declared.cause.Cause.{Cause}
 use Rattle.process_packet.specs.declared.config.Config.{Config}
 use Rattle.process_packet.specs.declared.underlay.Underlay.{Underlay}
-use Rattle.router_laws.specs.Heard.{Heard, Gave, WasQuiet, HadFailed, WasAtEnd, arrival, given, ToldNothing}
+use Rattle.router_laws.specs.Heard.{Heard, Gave, arrival, given, ToldNothing}
 use Rattle.router_laws.specs.Keeping.{IsReceiving}
-use Rattle.router_laws.specs.Shares.{raise_all}
 use Rattle.router_laws.proofs.Hearing.{hears_none, hears_datagram, hears_nothing, hears_tried, hears_posted}
 use Rattle.router_rules.specs.Rules.{kinds, rules}
-use Rattle.ruled_pipe.specs.Producer.{Sender}
-use Rattle.stage_laws.specs.Counting.{receiver_counts}
 use Rattle.stage_laws.specs.Forwards.{AddsTo}
 use Rattle.stage_laws.specs.Receives.{Passed, was_lacked}
 use Rattle.stage_laws.specs.Works.{deed}

@@ -1,10 +1,7 @@
 -- Where each count is below the limit of a share, each may be raised.
-use Rattle.std.proofs.Common.{◌≡◌, ℕ, zero, suc, ◌+◌, ◌-◌, ◌<◌, ◌≤◌, ◌^◌, slice_index_or, subst, sym, ap, arith}
-use Rattle.packet_ledger.specs.Amounts.{count_at}
+use Rattle.std.proofs.Common.{ℕ, suc, ◌+◌, ◌-◌, ◌<◌, ◌≤◌, ◌^◌, slice_index_or, arith}
 use Rattle.packet_ledger.specs.Share.{HasRoom, MayRaise}
 use Rattle.process_packet.specs.Cause.{number_of}
-use Rattle.process_packet.specs.Totals.{dropped_for}
-use Rattle.process_packet.specs.declared.cause.Cause.{Cause}
 use Rattle.process_packet.specs.declared.totals.Totals.{Totals}
 
 dropped_room : (t : Totals) (k : ℕ) → HasRoom t → slice_index_or t.dropped k 0 + 1 ≤ 2 ^ 100

@@ -1,10 +1,10 @@
 -- One turn of a processor keeps its law.
-use Rattle.std.proofs.Common.{◌≡◌, ◌⊎◌, inl, inr, ℕ, suc, ◌+◌, ◌*◌, ◌<◌, Bool, true, false, cond, ◌&&◌, List, [], ◌∷◌, length, Option, Some, None, is_some, refl, sym, ap, subst, ◌∙◌, arith}
+use Rattle.std.proofs.Common.{◌≡◌, inl, inr, ℕ, ◌+◌, ◌*◌, ◌<◌, Bool, false, cond, ◌&&◌, List, [], ◌∷◌, length, Option, Some, None, is_some, refl, sym, ap, subst, ◌∙◌, arith}
 use Rattle.packet_ledger.specs.Share.{Held, IsPosted, new_share}
 use Rattle.pipeline_laws.specs.Item.{Arrival, Outgoing, Out}
 use Rattle.pipeline_laws.specs.Rules.{Rules, Decision, Sends, Asks, Drops}
 use Rattle.pipeline_laws.specs.World.{home, slow_seat, Cause as Fate}
-use Rattle.pipeline_laws.specs.Deeds.{payload_of, Ending, Accepted, Refused, Lacked, Counted}
+use Rattle.pipeline_laws.specs.Deeds.{payload_of, Accepted, Refused, Counted}
 use Rattle.pipeline_laws.specs.Settled.{SlowPathRequest}
 use Rattle.pipeline_laws.specs.Counted.{place_of}
 use Rattle.process_packet.specs.declared.cause.Cause.{Cause}
@@ -18,8 +18,8 @@ use Rattle.ruled_pipe.specs.declared.entry.Load.TheVariants.{Payload, Marked}
 use Rattle.ruled_pipe.specs.declared.entry.Mark.{Mark}
 use Rattle.ruled_pipe.specs.declared.entry.Mark.TheVariants as mark
 use Rattle.ruled_pipe.specs.Consumer.{Taker, looked, took}
-use Rattle.ruled_pipe.specs.Gathered.{end_of, ends_in}
-use Rattle.ruled_pipe.specs.Producer.{Sender, entry}
+use Rattle.ruled_pipe.specs.Gathered.{ends_in}
+use Rattle.ruled_pipe.specs.Producer.{entry}
 use Rattle.stage_laws.specs.Counting.{dropped_by, full_by}
 use Rattle.stage_laws.specs.Ends.{load_in}
 use Rattle.stage_laws.specs.Works.{deed}

@@ -16,7 +16,7 @@ use Rattle.router_rules.specs.Links.{has_two_bands}
 use Rattle.router_rules.specs.Rules.{kinds}
 use Rattle.stage_laws.specs.Counting.{Count, Sent, Replied, Dropped, handed_count}
 use Rattle.stage_laws.specs.Forwards.{AddsTo, Handed}
-use Rattle.stage_parts.specs.Told.{Told, named, told_of, telling}
+use Rattle.stage_parts.specs.Told.{Told, told_of}
 use Rattle.router_stages.specs.Exits.{GaveBack}
 use Rattle.router_stages.specs.declared.turn.Turn.{Turn}
 use Rattle.router_stages.specs.declared.turn.Turn.TheVariants.{Did, Quiet, Ended}

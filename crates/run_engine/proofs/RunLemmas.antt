@@ -1,8 +1,8 @@
 -- Lines that are obeyed one after the other, and what was written for them.
-use Rattle.std.proofs.Common.{◌≡◌, ℕ, zero, suc, List, [], ◌∷◌, ◌++◌, length, take, Option, Some, None, Result, Ok, Err, Bool, true, false, refl, sym, ap, subst, ◌∙◌, append_assoc, inl, inr}
+use Rattle.std.proofs.Common.{◌≡◌, ℕ, zero, suc, List, [], ◌∷◌, ◌++◌, length, take, Option, Some, None, Result, Ok, Err, true, refl, sym, ap, subst, ◌∙◌, append_assoc, inl, inr}
 use Rattle.std.specs.Prelude.{⊤, IfErr, IfSome, OnOk}
 use Rattle.std.specs.Io.KnownBytes.{Appends}
-use Rattle.std.proofs.lemmas.List.{append-nil, take_at, take-append-drop}
+use Rattle.std.proofs.lemmas.List.{append-nil, take_at}
 use Rattle.router_engine.specs.Lines.{lines_of}
 use Rattle.router_engine.specs.ReplayParts.{IsCut, Same, left_of, lines_in}
 use Rattle.router_engine.specs.declared.fault.LinesFault.{LinesFault}
@@ -11,7 +11,7 @@ use Rattle.router_lines.specs.Command.{command_of}
 use Rattle.router_lines.specs.declared.closing.Closing.{Closing}
 use Rattle.router_lines.specs.declared.command.Command.{Command}
 use Rattle.router_lines.specs.declared.command.Command.TheVariants as command
-use Rattle.run_engine.specs.Run.{IsEnd, IsReport, Leads, LedIn, LedReady, Obeys, ObeysAll, Ran, report_of}
+use Rattle.run_engine.specs.Run.{Leads, LedIn, LedReady, Obeys, ObeysAll, Ran, report_of}
 use Rattle.run_engine.specs.declared.control.Figures.{Figures}
 
 abbrev Lines : Type 0

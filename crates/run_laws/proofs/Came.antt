@@ -1,7 +1,7 @@
 -- What the workers that came back give the running theorem.
-use Rattle.std.proofs.Common.{◌≡◌, ℕ, zero, suc, ◌+◌, ◌*◌, Bool, true, false, List, [], ◌∷◌, ◌++◌, map, length, Option, Some, None, slice_get, refl, sym, ◌∙◌, ap, subst, arith}
+use Rattle.std.proofs.Common.{◌≡◌, ℕ, zero, suc, ◌+◌, ◌*◌, Bool, true, List, [], ◌∷◌, ◌++◌, map, length, Option, Some, None, slice_get, refl, sym, ◌∙◌, ap, subst, arith}
 use Rattle.std.proofs.lemmas.List.{length-map}
-use Rattle.pipeline_laws.specs.Deeds.{Each, has_mark, payloads}
+use Rattle.pipeline_laws.specs.Deeds.{Each}
 use Rattle.pipeline_laws.specs.Item.{Arrival, Outgoing}
 use Rattle.pipeline_laws.specs.Settled.{SlowPathRequest}
 use Rattle.process_packet.specs.declared.config.Config.{Config}
@@ -14,8 +14,8 @@ use Rattle.stage_laws.specs.Workers.{IsColumn}
 use Rattle.router_rules.specs.Links.{interface_at, link_count}
 use Rattle.router_rules.specs.Rules.{kinds}
 use Rattle.router_laws.specs.Heard.{Heard}
-use Rattle.router_laws.specs.Keeping.{IsReceiving, IsWorking, IsAnswering, IsForwarding}
-use Rattle.router_laws.specs.Returned.{AllAt, ReceiverBack, ProcessorBack, SlowBack, ForwarderBack, Returned, HaveReturned, IsBackReceiver, IsBackProcessor, IsBackForwarder, link_rows}
+use Rattle.router_laws.specs.Keeping.{IsReceiving, IsWorking, IsAnswering}
+use Rattle.router_laws.specs.Returned.{AllAt, ReceiverBack, ProcessorBack, ForwarderBack, Returned, HaveReturned, IsBackReceiver, IsBackProcessor, IsBackForwarder, link_rows}
 use Rattle.router_stages.specs.Answering.{Answering}
 use Rattle.router_stages.specs.Forwarding.{Forwarding}
 use Rattle.router_stages.specs.Receiving.{Receiving}
@@ -24,14 +24,13 @@ use Rattle.stage_parts.specs.Outlet.{Offering}
 use Rattle.stage_parts.specs.Outlets.{senders}
 use Rattle.stage_parts.specs.Told.{Told, told_of}
 use Rattle.router_ends.specs.Handing.{NeverClosed}
-use Rattle.router_ends.specs.Rows.{AreEndsOf}
-use Rattle.router_ends.specs.Settled.{AreSettled, ReadsColumns}
+use Rattle.router_ends.specs.Settled.{ReadsColumns}
 use Rattle.router_ends.specs.Shutting.{AreShutters, EachEnds, Shutting, closed_at, shutter_ends}
 use Rattle.worker_threads.specs.Back.{AreBack}
-use Rattle.worker_threads.specs.Workers.{IsSameReceiver, ReceiverEnded, IsSameProcessor, ProcessorEnded, IsSameSlowPath, SlowPathEnded, IsSameForwarder, ForwarderEnded}
+use Rattle.worker_threads.specs.Workers.{IsSameReceiver, ReceiverEnded, IsSameProcessor, ProcessorEnded, IsSameSlowPath, SlowPathEnded}
 use Rattle.run_laws.specs.Crew.{AreAnswering, AreForwarding, AreWorking, Crew, IsAnsweringAt, IsCrew, IsReceivingAt, IsWorkingAt, Piping, are_used}
-use Rattle.run_laws.specs.Ended.{IsBack, inner_rows, inner_takers, middle_row, middle_takers, outer_rows, takers_of}
-use Rattle.run_laws.specs.Came.{CrewsReturn, HasKept, HasSettled, back_of, forwarder_back, processor_back, receiver_back, slow_back}
+use Rattle.run_laws.specs.Ended.{IsBack, inner_rows, inner_takers, middle_row, outer_rows, takers_of}
+use Rattle.run_laws.specs.Came.{CrewsReturn, HasKept, HasSettled, back_of, forwarder_back, processor_back, receiver_back}
 use Rattle.run_laws.proofs.Ends.{ends_long, same_ends}
 use Rattle.run_laws.proofs.Rows.{back_long, working_long}
 

@@ -1,5 +1,5 @@
 -- Crews that came back: their pipes have ended.
-use Rattle.std.proofs.Common.{◌≡◌, ℕ, zero, suc, ◌+◌, ◌*◌, Bool, true, false, List, [], ◌∷◌, ◌++◌, map, length, refl, sym, ◌∙◌, ap, subst, arith, length-append}
+use Rattle.std.proofs.Common.{◌≡◌, ℕ, ◌+◌, true, List, [], ◌∷◌, ◌++◌, map, length, sym, ◌∙◌, ap, subst, arith, length-append}
 use Rattle.std.proofs.lemmas.List.{length-map}
 use Rattle.pipeline_laws.specs.Item.{Arrival, Outgoing}
 use Rattle.pipeline_laws.specs.Settled.{SlowPathRequest}
@@ -18,8 +18,8 @@ use Rattle.router_ends.specs.Settled.{AreBundles, AreTaken, HasTaken, HaveEnded,
 use Rattle.router_ends.specs.Shutting.{ShuttersFinish, shutter_ends}
 use Rattle.worker_threads.specs.Back.{AreBack}
 use Rattle.run_laws.specs.Crew.{AreAnswering, Crew, IsCrew, Piping, are_used}
-use Rattle.run_laws.specs.Ended.{CrewsEnd, HasMarked, IsBack, PipesEnd, inner_rows, inner_takers, middle_row, middle_takers, outer_rows, takers_of}
-use Rattle.run_laws.proofs.Rows.{A, F, P, R, back_long, inner_bundles, inner_taken, last_bundles, middle_ends, outer_bundles, outer_taken, slow_taken, working_long}
+use Rattle.run_laws.specs.Ended.{CrewsEnd, HasMarked, IsBack, inner_rows, inner_takers, middle_row, middle_takers, outer_rows, takers_of}
+use Rattle.run_laws.proofs.Rows.{A, P, R, back_long, inner_bundles, inner_taken, last_bundles, middle_ends, outer_bundles, outer_taken, slow_taken, working_long}
 
 rows_long : {T : Type 0} (bs : List (Row T)) (rows : List (List (Sender T))) → rows_of bs ≡ rows → length bs ≡ length rows
 rows_long bs rows e = sym (length-map bs (λ (r : Row _). r.ends)) ∙ ap length e

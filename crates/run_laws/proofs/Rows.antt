@@ -1,34 +1,32 @@
 -- The pipes of workers that came back have ended.
-use Rattle.std.proofs.Common.{◌≡◌, ℕ, zero, suc, ◌+◌, ◌*◌, ◌≤◌, Bool, true, false, List, [], ◌∷◌, ◌++◌, map, length, Some, slice_get, refl, sym, ◌∙◌, ap, subst, arith}
+use Rattle.std.proofs.Common.{◌≡◌, ℕ, suc, ◌+◌, ◌*◌, ◌≤◌, Bool, true, List, [], ◌∷◌, ◌++◌, map, length, refl, sym, ◌∙◌, ap, subst, arith}
 use Rattle.pipeline_laws.specs.Deeds.{Each}
 use Rattle.pipeline_laws.specs.Item.{Arrival, Outgoing}
-use Rattle.pipeline_laws.specs.Settled.{SlowPathRequest}
 use Rattle.process_packet.specs.declared.config.Config.{Config}
 use Rattle.ruled_pipe.specs.Producer.{Sender}
 use Rattle.ruled_pipe.specs.Consumer.{Taker}
 use Rattle.ruled_pipe.specs.Pipe.{Shape, IsEndOf}
-use Rattle.ruled_pipe.specs.Gathered.{EndsWithMark, ends_in}
-use Rattle.router_rules.specs.Links.{has_two_bands, interface_at, link_count}
+use Rattle.ruled_pipe.specs.Gathered.{ends_in}
+use Rattle.router_rules.specs.Links.{has_two_bands}
 use Rattle.router_rules.specs.Rules.{kinds}
 use Rattle.router_laws.specs.Returned.{AllAt}
 use Rattle.router_stages.specs.Answering.{Answering}
-use Rattle.router_stages.specs.Exits.{is_used}
-use Rattle.router_stages.specs.Forwarding.{Band, Forwarding, IsOver}
+use Rattle.router_stages.specs.Forwarding.{Forwarding}
 use Rattle.router_stages.specs.Receiving.{Receiving}
 use Rattle.router_stages.specs.Working.{Working}
-use Rattle.stage_parts.specs.Outlet.{IsMarked, Offering}
+use Rattle.stage_parts.specs.Outlet.{IsMarked}
 use Rattle.stage_parts.specs.Outlets.{senders}
 use Rattle.stage_parts.specs.Outlets as outlets
 use Rattle.router_ends.specs.Handing.{AreMarked, AreSpared, Finishes}
-use Rattle.router_ends.specs.Rows.{AreEndsOf, AreFor, Row, rows_of}
-use Rattle.router_ends.specs.Settled.{AreBundles, AreFinished, AreOfPipe, AreTaken, HasTaken, HaveEnded, IsEnded, IsFinal}
+use Rattle.router_ends.specs.Rows.{AreFor, Row, rows_of}
+use Rattle.router_ends.specs.Settled.{AreBundles, AreFinished, AreOfPipe, AreTaken, HasTaken, IsFinal}
 use Rattle.router_ends.specs.Shutting.{AreMarking, AreShutters, EachEnds, Shutting, ShuttersFinish, shutter_ends}
 use Rattle.worker_threads.specs.Back.{AreBack}
 use Rattle.worker_threads.specs.Same.{AreSameEnds, IsSameTaker}
 use Rattle.worker_threads.specs.Workers.{IsSameReceiver, ReceiverEnded, IsSameProcessor, ProcessorEnded, IsSameSlowPath, SlowPathEnded, IsSameForwarder, ForwarderEnded}
-use Rattle.run_laws.specs.Crew.{Crew, IsCrew, IsPiping, Piping, IsReceivingAt, IsWorkingAt, AreWorking, IsAnsweringAt, AreAnswering, IsForwardingAt, AreForwarding, IsTakerOf, are_used}
-use Rattle.run_laws.specs.Ended.{CrewsEnd, IsBack, HasMarked, PipesEnd, inner_rows, inner_takers, middle_row, middle_takers, outer_rows, takers_of}
-use Rattle.run_laws.proofs.Ends.{same_ends, spared, used_low, used_high}
+use Rattle.run_laws.specs.Crew.{Piping, IsReceivingAt, IsWorkingAt, AreWorking, IsAnsweringAt, AreAnswering, IsForwardingAt, AreForwarding, IsTakerOf, are_used}
+use Rattle.run_laws.specs.Ended.{takers_of}
+use Rattle.run_laws.proofs.Ends.{same_ends, spared, used_high}
 
 module _ {X Y : Type 0} where
   pub back_long : (R : X → Y → Type 0) (xs : List X) (ys : List Y) → AreBack R xs ys → length ys ≡ length xs

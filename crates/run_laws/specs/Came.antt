@@ -1,16 +1,13 @@
 -- What a router's workers, as they came back, give the running theorem.
-use Rattle.std.specs.Prelude.{◌≡◌, ◌*◌, ◌+◌, ℕ, zero, suc, Bool, false, List, [], ◌∷◌, map, Option, Some, slice_get}
-use Rattle.pipeline_laws.specs.Deeds.{Each, has_mark}
-use Rattle.pipeline_laws.specs.Item.{Arrival, Outgoing}
+use Rattle.std.specs.Prelude.{◌≡◌, ℕ, List, [], ◌∷◌, map, Option}
+use Rattle.pipeline_laws.specs.Deeds.{Each}
 use Rattle.pipeline_laws.specs.Settled.{SlowPathRequest}
 use Rattle.process_packet.specs.declared.config.Config.{Config}
-use Rattle.ruled_pipe.specs.Producer.{Sender}
 use Rattle.ruled_pipe.specs.Consumer.{Taker}
 use Rattle.router_rules.specs.Rules.{kinds}
 use Rattle.router_laws.specs.Heard.{Heard}
 use Rattle.router_laws.specs.Keeping.{IsReceiving, IsWorking, IsAnswering, IsForwarding}
 use Rattle.router_laws.specs.Returned.{ReceiverBack, ProcessorBack, SlowBack, ForwarderBack, Returned, HaveReturned}
-use Rattle.packet_ledger.specs.Share.{new_share}
 use Rattle.router_stages.specs.Answering.{Answering}
 use Rattle.router_stages.specs.Forwarding.{Forwarding}
 use Rattle.router_stages.specs.Receiving.{Receiving}
@@ -21,7 +18,7 @@ use Rattle.router_ends.specs.Handing.{NeverClosed}
 use Rattle.router_ends.specs.Settled.{AreSettled, IsDone}
 use Rattle.router_ends.specs.Shutting.{PushMarks, closed_at, shutter_ends}
 use Rattle.run_laws.specs.Crew.{Crew, IsCrew, Piping}
-use Rattle.run_laws.specs.Ended.{HasMarked, IsBack, inner_rows, inner_takers, middle_row, middle_takers, outer_rows, takers_of}
+use Rattle.run_laws.specs.Ended.{IsBack, inner_rows, inner_takers, middle_row, middle_takers, outer_rows, takers_of}
 
 module _ {S G K : Type 0} (told : S → Option (List Heard)) (shown : K → Option (List Told)) (failed : K → ℕ) where
   -- Each worker kept its law.

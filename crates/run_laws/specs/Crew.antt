@@ -1,7 +1,6 @@
 -- The pipes of a router and its workers, as they begin.
-use Rattle.std.specs.Prelude.{◌≡◌, ◌+◌, ◌*◌, ℕ, Bool, true, List, [], ◌∷◌, length}
-use Rattle.pipeline_laws.specs.Item.{Arrival, Outgoing}
-use Rattle.pipeline_laws.specs.Settled.{SlowPathRequest}
+use Rattle.std.specs.Prelude.{◌≡◌, ◌+◌, ◌*◌, ℕ, Bool, List, [], ◌∷◌, length}
+use Rattle.pipeline_laws.specs.Item.{Outgoing}
 use Rattle.process_packet.specs.declared.config.Config.{Config}
 use Rattle.ruled_pipe.specs.Consumer.{Taker}
 use Rattle.ruled_pipe.specs.Pipe.{Shape, IsEndOf}

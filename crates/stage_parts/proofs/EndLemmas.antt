@@ -1,7 +1,7 @@
 -- Ends of many pipes, one step more.
-use Rattle.std.proofs.Common.{◌≡◌, ◌⊎◌, inl, inr, ℕ, zero, suc, ◌+◌, ◌<◌, nat_lt, Bool, true, false, eqb, ◌||◌, ◌&&◌, MatchBool, List, [], ◌∷◌, map, length, Some, get_or, slice_get, slice_index_or, slice_set, refl, sym, ap, subst, ◌∙◌, arith}
+use Rattle.std.proofs.Common.{◌≡◌, ◌⊎◌, inl, inr, ℕ, zero, suc, ◌+◌, ◌<◌, nat_lt, Bool, true, false, eqb, ◌||◌, ◌&&◌, MatchBool, List, [], ◌∷◌, length, Some, get_or, slice_get, slice_index_or, slice_set, refl, sym, ap, subst, ◌∙◌, arith}
 use Rattle.std.proofs.lemmas.Bool.{cases_eq, ne_eqb, eq-eqb}
-use Rattle.ruled_pipe.specs.declared.entry.Load.TheVariants.{Payload, Marked}
+use Rattle.ruled_pipe.specs.declared.entry.Load.TheVariants.{Payload}
 use Rattle.ruled_pipe.specs.declared.entry.Mark.TheVariants.{End}
 use Rattle.ruled_pipe.specs.Producer.{Sender, entry, offered, refused}
 use Rattle.stage_laws.specs.Works.{SentOn, TurnedAway}

@@ -1,5 +1,5 @@
 -- The marks among a producer's pushes, one push more.
-use Rattle.std.proofs.Common.{◌≡◌, ℕ, ◌+◌, ◌<◌, ◌≤◌, Bool, true, false, List, [], ◌∷◌, ◌++◌, Result, Ok, Err, MatchResult, refl, sym, ap, subst, ◌∙◌, arith}
+use Rattle.std.proofs.Common.{◌≡◌, ℕ, ◌+◌, ◌<◌, ◌≤◌, Bool, true, false, List, [], ◌∷◌, ◌++◌, Result, Ok, Err, MatchResult, refl, sym, subst, arith}
 use Rattle.ruled_pipe.specs.declared.entry.Entry.{Entry}
 use Rattle.ruled_pipe.specs.declared.entry.Load.{Load}
 use Rattle.ruled_pipe.specs.declared.entry.Load.TheVariants.{Payload, Marked}
@@ -7,7 +7,7 @@ use Rattle.ruled_pipe.specs.declared.entry.Mark.TheVariants.{Close, End}
 use Rattle.ruled_pipe.specs.declared.producer.Full.{Full}
 use Rattle.ruled_pipe.specs.Producer.{Sender, entry, offered, refused}
 use Rattle.ruled_pipe.specs.Consumer.{Taker, took}
-use Rattle.ruled_pipe.specs.Gathered.{end_of, ends_in, EndsWithMark}
+use Rattle.ruled_pipe.specs.Gathered.{end_of, ends_in}
 use Rattle.stage_parts.specs.Outlet.{IsMarked, NoClose, is_closing}
 
 module _ {T : Type 0} where

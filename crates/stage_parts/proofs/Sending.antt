@@ -1,7 +1,7 @@
 -- One call of a sink over a list.
-use Rattle.std.proofs.Common.{◌≡◌, ◌⊎◌, inl, inr, ℕ, Bool, true, false, not, List, Option, Some, None, refl, sym, ap, subst, ◌∙◌}
+use Rattle.std.proofs.Common.{◌≡◌, inl, inr, Bool, true, false, not, refl, sym, ap, subst, ◌∙◌}
 use Rattle.stage_parts.specs.Told.{Told}
-use Rattle.stage_parts.specs.ListSink.{Kept, Notes, Sends, called, failing, is_among, with_told}
+use Rattle.stage_parts.specs.ListSink.{Kept, Notes, Sends, called, failing, is_among}
 
 same_fails : (kept : Bool) (t : Told) (old new : Kept) → Notes kept t old new → (new.fails ≡ old.fails) × (new.calls ≡ old.calls)
 same_fails true t old new (inl n) = (ap (λ k. k.fails) n.1, ap (λ k. k.calls) n.1)

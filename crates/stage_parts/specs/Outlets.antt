@@ -1,5 +1,5 @@
 -- A worker's ends of many pipes.
-use Rattle.std.specs.Prelude.{◌≡◌, ◌<◌, ℕ, Bool, true, false, MatchBool, List, [], ◌∷◌, map, length, Some, slice_get, slice_index_or, slice_set}
+use Rattle.std.specs.Prelude.{◌≡◌, ℕ, Bool, true, false, MatchBool, List, [], ◌∷◌, map, length, Some, slice_get, slice_index_or, slice_set}
 use Rattle.ruled_pipe.specs.Producer.{Sender}
 use Rattle.stage_parts.specs.Outlet.{Offering, Tried, gave, kept}
 

@@ -1,5 +1,5 @@
 -- What a sink tells.
-use Rattle.std.specs.Prelude.{ℕ, Bool, List, map}
+use Rattle.std.specs.Prelude.{ℕ, Bool, List}
 use Rattle.pipeline_laws.specs.Item.{Outgoing}
 use Rattle.router_rules.specs.Rules.{kinds}
 use Rattle.router_rules.specs.declared.outgoing.Outgoing.{Outgoing as Named}

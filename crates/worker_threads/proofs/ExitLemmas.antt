@@ -1,5 +1,5 @@
 -- A processor and the slow path stay the same ones.
-use Rattle.std.proofs.Common.{◌≡◌, ◌⊎◌, inl, inr, ℕ, ◌+◌, ◌*◌, Bool, true, false, ◌&&◌, if◌then◌else◌, Option, Some, None, refl, sym, ap, subst, ◌∙◌, arith}
+use Rattle.std.proofs.Common.{◌≡◌, inl, inr, ℕ, ◌+◌, ◌*◌, Bool, true, false, ◌&&◌, if◌then◌else◌, Option, Some, None, refl, sym, ap, subst, ◌∙◌, arith}
 use Rattle.atomic_table.specs.Seated.{TableId}
 use Rattle.pipeline_laws.specs.Item.{Arrival, Outgoing}
 use Rattle.pipeline_laws.specs.Rules.{Decision, Sends, Asks, Drops, Reply, Replies, Withholds}
@@ -25,7 +25,7 @@ use Rattle.router_stages.specs.declared.turn.Turn.{Turn}
 use Rattle.router_stages.specs.declared.turn.Turn.TheVariants.{Did, Quiet, Ended}
 use Rattle.router_stages.proofs.UsedLemmas.{used_low, used_high}
 use Rattle.worker_threads.specs.Same.{AreSameEnds, IsSameEnd, IsSameTaker, end_self, ends_self, ends_then, taker_self}
-use Rattle.worker_threads.specs.Workers.{IsSameProcessor, ProcessorEnded, IsSameSlowPath, SlowPathEnded, processor_self, processor_then, slow_self}
+use Rattle.worker_threads.specs.Workers.{IsSameProcessor, ProcessorEnded, IsSameSlowPath, SlowPathEnded, processor_self, processor_then}
 use Rattle.worker_threads.proofs.SameLemmas.{ends_as, gave_same, kept_same, mark_same, tried_same, all_there, both_there}
 
 abbrev used : Config → ℕ → Bool

@@ -10,7 +10,7 @@ use Rattle.router_stages.specs.Receiving.{Receiving, Idles, Heeds, Received, Wai
 use Rattle.router_stages.specs.declared.turn.Turn.{Turn}
 use Rattle.router_stages.specs.declared.turn.Turn.TheVariants.{Did, Quiet, Ended}
 use Rattle.worker_threads.specs.Same.{AreSameEnds, ends_self}
-use Rattle.worker_threads.specs.Workers.{IsSameReceiver, ReceiverEnded, receiver_self}
+use Rattle.worker_threads.specs.Workers.{IsSameReceiver, ReceiverEnded}
 use Rattle.worker_threads.proofs.SameLemmas.{ends_as, gave_same, kept_same, tried_same, all_there}
 
 abbrev every : ℕ → Bool

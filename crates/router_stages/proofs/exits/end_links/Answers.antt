@@ -1,6 +1,6 @@
-use Rattle.std.proofs.Common.{◌≡◌, ◌<◌, ◌≤◌, ◌+◌, ◌*◌, ◌&&◌, ℕ, Bool, length, nat_lt, true, refl, ap, sym, subst, ◌∙◌, arith}
+use Rattle.std.proofs.Common.{◌<◌, ◌+◌, ◌*◌, ◌&&◌, Bool, length, ap, sym, subst, arith}
 use Rattle.std.proofs.lemmas.Bool.{lt-ltb}
-use Rattle.router_rules.specs.Links.{has_two_bands, link_count}
+use Rattle.router_rules.specs.Links.{has_two_bands}
 use Rattle.stage_parts.specs.Outlets.{Trying}
 use Rattle.stage_parts.proofs.EndLemmas.{trying_as}
 use Rattle.router_stages.specs.Exits.{is_used}

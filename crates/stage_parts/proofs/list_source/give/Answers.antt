@@ -1,4 +1,4 @@
-use Rattle.std.proofs.Common.{◌≡◌, ◌⊎◌, inl, inr, ◌≤◌, List, ℕ, take, length, sym, ap, subst, ◌∙◌, arith}
+use Rattle.std.proofs.Common.{◌≡◌, ◌⊎◌, ◌≤◌, List, ℕ, take, length, sym, ap, ◌∙◌, arith}
 use Rattle.router_laws.specs.Heard.{Gave}
 use Rattle.stage_parts.specs.ListSource.{heard_of}
 use Rattle.stage_parts.proofs.Telling.{cut_front}

@@ -1,4 +1,4 @@
-use Rattle.std.proofs.Common.{◌≡◌, ◌<◌, ◌+◌, ◌||◌, ◌&&◌, Bool, subst, eqb, nat_lt, true, false, ap, sym, ◌∙◌, arith, length}
+use Rattle.std.proofs.Common.{◌<◌, ◌+◌, ◌||◌, ◌&&◌, Bool, subst, eqb, nat_lt, true, false, sym, arith, length}
 use Rattle.stage_parts.specs.Outlets.{Trying}
 use Rattle.stage_parts.proofs.EndLemmas.{trying_first, trying_next, trying_as, lt_next, lt_none, lt_same, lt_true}
 use Rattle.stage_parts.proofs.outlets.end_all.Goals as goal

@@ -1,4 +1,4 @@
-use Rattle.std.proofs.Common.{◌≡◌, ◌∙◌, ap, false}
+use Rattle.std.proofs.Common.{◌∙◌, ap}
 use Rattle.stage_parts.specs.Outlet.{Offering}
 use Rattle.stage_parts.proofs.EndLemmas.{open_at}
 use Rattle.stage_parts.proofs.outlets.offer_at.Goals as goal

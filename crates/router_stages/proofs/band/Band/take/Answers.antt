@@ -1,4 +1,4 @@
-use Rattle.std.proofs.Common.{◌≡◌, ◌+◌, ◌≤◌, ◌||◌, min, ℕ, Bool, refl, sym, ap, ap₂, subst, ◌∙◌, arith}
+use Rattle.std.proofs.Common.{◌≡◌, ◌+◌, ◌||◌, min, Bool, sym, ap, ap₂, ◌∙◌, arith}
 use Rattle.pipeline_laws.specs.Item.{Outgoing}
 use Rattle.router_rules.specs.Rules.{kinds}
 use Rattle.ruled_pipe.specs.Consumer.{Taker, took}

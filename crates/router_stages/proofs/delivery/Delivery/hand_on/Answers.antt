@@ -1,5 +1,4 @@
-use Rattle.std.proofs.Common.{rules, ◌≡◌, ◌<◌, ◌∙◌, Option, length, subst, arith}
-use Rattle.std.specs.Arc.{arc_value}
+use Rattle.std.proofs.Common.{rules, ◌<◌, ◌∙◌, Option, length, subst, arith}
 use Rattle.process_packet.specs.declared.config.Config.{Config}
 use Rattle.stage_parts.specs.Items.{StandsIn}
 use Rattle.router_stages.proofs.ExitsLemmas.{back_long}

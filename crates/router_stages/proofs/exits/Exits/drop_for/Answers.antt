@@ -1,4 +1,4 @@
-use Rattle.std.proofs.Common.{◌≡◌, ◌<◌, ◌∙◌, length, subst, sym, arith}
+use Rattle.std.proofs.Common.{◌<◌, ◌∙◌, length, subst, sym, arith}
 use Rattle.std.specs.Arc.{arc_value}
 use Rattle.router_rules.specs.Links.{link_count}
 use Rattle.router_stages.specs.Exits.{Leaving}

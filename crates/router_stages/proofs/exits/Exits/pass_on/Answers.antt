@@ -1,4 +1,4 @@
-use Rattle.std.proofs.Common.{◌≡◌, ◌<◌, ◌∙◌, ℕ, List, Option, Some, None, refl, ap, ap₂, sym, subst}
+use Rattle.std.proofs.Common.{◌≡◌, ◌<◌, ◌∙◌, ℕ, List, Option, Some, refl, ap, ap₂, sym, subst}
 use Rattle.std.specs.Arc.{arc_value}
 use Rattle.pipeline_laws.specs.Item.{Arrival, Outgoing}
 use Rattle.pipeline_laws.specs.Rules.{Decision, Sends, Asks, Drops}
@@ -7,7 +7,7 @@ use Rattle.process_packet.specs.declared.config.Config.{Config}
 use Rattle.process_packet.specs.declared.decision.Decision.{Decision as Decided}
 use Rattle.router_rules.specs.Datagram.{Parcel}
 use Rattle.router_rules.specs.Links.{link_count, link_index}
-use Rattle.router_rules.specs.Rules.{Arrives, by_decision, decided, kinds, rules}
+use Rattle.router_rules.specs.Rules.{Arrives, by_decision, decided, kinds}
 use Rattle.router_rules.specs.declared.shared.Shared.{Shared}
 use Rattle.stage_parts.specs.Items.{StandsIn, asking, leaving, with_bytes}
 use Rattle.stage_parts.specs.Outlet.{Offering}

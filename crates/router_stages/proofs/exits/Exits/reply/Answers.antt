@@ -3,10 +3,9 @@ use Rattle.std.specs.Arc.{arc_value}
 use Rattle.pipeline_laws.specs.Item.{Outgoing}
 use Rattle.pipeline_laws.specs.Rules.{Reply, Replies, Withholds}
 use Rattle.pipeline_laws.specs.Settled.{SlowPathRequest}
-use Rattle.process_packet.specs.declared.cause.Cause.{Cause}
 use Rattle.process_packet.specs.declared.config.Config.{Config}
 use Rattle.router_rules.specs.Datagram.{Parcel}
-use Rattle.router_rules.specs.Links.{link_count, link_index}
+use Rattle.router_rules.specs.Links.{link_count}
 use Rattle.router_rules.specs.Rules.{Arrives, kinds, replied}
 use Rattle.router_rules.specs.declared.shared.Shared.{Shared}
 use Rattle.router_rules.proofs.ReplyLemmas.{answer_leaves_by}

@@ -1,8 +1,6 @@
-use Rattle.std.proofs.Common.{◌≡◌, Bool, Option, Some, None, sym, ap, subst}
+use Rattle.std.proofs.Common.{Bool, sym, subst}
 use Rattle.packet_ledger.specs.Share.{HasRoom}
-use Rattle.pipeline_laws.specs.Item.{Outgoing}
-use Rattle.router_rules.specs.Rules.{kinds}
-use Rattle.router_stages.specs.Forwarding.{Band, Forwarding, KeepsForwarding, Met, MetIf, PassedMet}
+use Rattle.router_stages.specs.Forwarding.{Forwarding, KeepsForwarding, PassedMet}
 use Rattle.router_stages.proofs.RoomLemmas.{may_raise}
 use Rattle.router_stages.proofs.ForwardingLemmas.{took_low, took_high, looked_first}
 use Rattle.router_stages.proofs.forwarder.Forwarder.turn.Goals as goal

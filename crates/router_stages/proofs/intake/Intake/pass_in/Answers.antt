@@ -1,20 +1,17 @@
-use Rattle.std.proofs.Common.{◌≡◌, ◌<◌, ◌≤◌, ◌∙◌, ℕ, List, Option, Some, None, length, take, sym, ap, subst, arith, true, false}
+use Rattle.std.proofs.Common.{◌≡◌, ◌<◌, ◌∙◌, ℕ, List, Some, None, length, take, sym, ap, subst, arith, true, false}
 use Rattle.std.specs.Arc.{arc_value}
 use Rattle.flow_key.specs.Flow.{flow_at}
 use Rattle.flow_key.specs.Hash.{processor_of}
-use Rattle.packet_ledger.specs.Share.{Held, MayRaise}
+use Rattle.packet_ledger.specs.Share.{MayRaise}
 use Rattle.pipeline_laws.specs.Item.{Arrival}
-use Rattle.process_packet.specs.declared.cause.Cause.{Cause}
 use Rattle.process_packet.specs.declared.cause.Cause.TheVariants as cause
-use Rattle.process_packet.specs.declared.config.Config.{Config}
 use Rattle.router_laws.specs.Heard.{arrival}
 use Rattle.router_rules.specs.Rules.{inspected, kinds}
 use Rattle.router_rules.specs.declared.shared.Shared.{Shared}
-use Rattle.stage_parts.specs.Outlet.{Offering}
 use Rattle.stage_parts.specs.Outlets.{GaveAt, KeptAt}
 use Rattle.stage_parts.proofs.EndLemmas.{gave_long, kept_long}
 use Rattle.router_stages.specs.Pool.{Stock, Another, stock}
-use Rattle.router_stages.specs.Intake.{Intake, Taking, PassedIn, place}
+use Rattle.router_stages.specs.Intake.{Intake, Taking}
 use Rattle.router_stages.proofs.Passing.{may_fate, in_fault, in_lack, in_accepted, in_refused, seen_as}
 use Rattle.router_stages.proofs.intake.Intake.pass_in.Goals as goal
 

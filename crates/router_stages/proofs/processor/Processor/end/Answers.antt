@@ -1,5 +1,4 @@
-use Rattle.std.proofs.Common.{rules, ◌≡◌, sym, ap, subst}
-use Rattle.ruled_pipe.specs.Gathered.{ends_in}
+use Rattle.std.proofs.Common.{rules, sym, subst}
 use Rattle.router_stages.specs.Exits.{is_used}
 use Rattle.router_rules.specs.Links.{has_two_bands}
 use Rattle.router_stages.specs.Working.{Working, IsDone}

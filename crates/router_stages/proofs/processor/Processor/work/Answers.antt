@@ -1,4 +1,4 @@
-use Rattle.std.proofs.Common.{rules, sym, ap, subst, ◌∙◌, Option}
+use Rattle.std.proofs.Common.{rules, sym, subst, ◌∙◌, Option}
 use Rattle.pipeline_laws.specs.Item.{Arrival}
 use Rattle.router_rules.specs.Rules.{kinds}
 use Rattle.packet_ledger.specs.Share.{HasRoom}

@@ -1,7 +1,7 @@
-use Rattle.std.proofs.Common.{◌≡◌, ◌<◌, ℕ, Option, Some, sym, ap, subst, ◌∙◌}
+use Rattle.std.proofs.Common.{◌≡◌, ℕ, Option, sym, ap, subst, ◌∙◌}
 use Rattle.std.specs.Arc.{arc_value}
 use Rattle.process_packet.specs.declared.config.Config.{Config}
-use Rattle.router_rules.specs.Links.{interface_at, link_count, link_index}
+use Rattle.router_rules.specs.Links.{interface_at, link_index}
 use Rattle.router_rules.specs.Ports.{IsPortsOf}
 use Rattle.router_rules.specs.declared.shared.Shared.{Shared}
 use Rattle.stage_parts.specs.Items.{StandsIn}

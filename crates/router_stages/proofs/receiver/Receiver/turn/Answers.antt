@@ -1,6 +1,6 @@
-use Rattle.std.proofs.Common.{◌≡◌, ◌+◌, ◌-◌, ◌^◌, ◌<◌, arith, inl, inr, nat_eq, take, true, refl, sym, ap, subst, ◌∙◌}
-use Rattle.packet_ledger.specs.Share.{HasRoom, MayRaise}
-use Rattle.router_laws.specs.Heard.{Heard, Gave, WasQuiet, HadFailed, WasAtEnd, arrival}
+use Rattle.std.proofs.Common.{◌≡◌, ◌+◌, ◌-◌, ◌^◌, ◌<◌, arith, inr, nat_eq, take, true, refl, sym, ap, subst, ◌∙◌}
+use Rattle.packet_ledger.specs.Share.{HasRoom}
+use Rattle.router_laws.specs.Heard.{Gave, WasQuiet, HadFailed, WasAtEnd, arrival}
 use Rattle.stage_laws.specs.Forwards.{AddsTo}
 use Rattle.stage_parts.specs.Heard.{failures_of, heard}
 use Rattle.stage_parts.specs.declared.source.NextLen.{NextLen}

@@ -1,4 +1,4 @@
-use Rattle.std.proofs.Common.{◌≡◌, ◌≤◌, length, subst, arith}
+use Rattle.std.proofs.Common.{◌≡◌, length, subst, arith}
 use Rattle.ruled_pipe.specs.Gathered.{Views, IsSettled, EachEndsWithMark, ends_in}
 use Rattle.ruled_pipe.proofs.Drained.{drained, settles}
 use Rattle.ruled_pipe.proofs.gathered.Gathered.settled.Goals as goal

@@ -1,4 +1,4 @@
-use Rattle.std.proofs.Common.{sym, ap, ◌∙◌, subst, ◌<◌, ◌≡◌}
+use Rattle.std.proofs.Common.{sym, subst, ◌<◌}
 use Rattle.ruled_pipe.specs.Consumer.{Taker}
 use Rattle.ruled_pipe.specs.Gathered.{ends_in}
 use Rattle.stage_parts.proofs.Marks.{taken_more}

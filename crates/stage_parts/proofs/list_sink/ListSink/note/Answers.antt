@@ -1,4 +1,4 @@
-use Rattle.std.proofs.Common.{◌≡◌, List, Option, Some, None, Vec, Global, map, sym, ap, ◌∙◌}
+use Rattle.std.proofs.Common.{List, Option, None, Vec, Global, map, sym, ap, ◌∙◌}
 use Rattle.std.specs.Option.{option_map}
 use Rattle.stage_parts.specs.Told.{Told}
 use Rattle.stage_parts.specs.ListSink.{Kept, told_in, with_told}

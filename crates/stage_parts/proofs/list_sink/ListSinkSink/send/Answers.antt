@@ -1,4 +1,4 @@
-use Rattle.std.proofs.Common.{◌≡◌, not, Bool, sym, ◌∙◌}
+use Rattle.std.proofs.Common.{sym, ◌∙◌}
 use Rattle.stage_parts.specs.Told.{telling}
 use Rattle.stage_parts.proofs.Sending.{sends_chosen}
 use Rattle.stage_parts.proofs.list_sink.ListSinkSink.send.Goals as goal

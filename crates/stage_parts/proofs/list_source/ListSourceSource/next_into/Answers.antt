@@ -1,4 +1,4 @@
-use Rattle.std.proofs.Common.{◌≡◌, ◌<◌, ◌+◌, arith, length, sym, subst}
+use Rattle.std.proofs.Common.{◌<◌, ◌+◌, arith, length, sym, subst}
 use Rattle.stage_laws.specs.Forwards.{AddsTo}
 use Rattle.router_laws.specs.Heard.{Heard}
 use Rattle.stage_parts.specs.Heard.{heard}

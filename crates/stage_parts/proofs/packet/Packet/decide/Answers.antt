@@ -1,4 +1,4 @@
-use Rattle.std.proofs.Common.{◌≡◌, take, ap, ◌∙◌}
+use Rattle.std.proofs.Common.{take, ap, ◌∙◌}
 use Rattle.pipeline_laws.specs.Item.{Arrival}
 use Rattle.process_packet.specs.Network.{network}
 use Rattle.router_rules.specs.Rules.{kinds}
