@@ -1,4 +1,4 @@
-use Rattle.std.proofs.Common.{◌≡◌, ◌<◌, ◌∙◌, Option, length, ap, subst, sym, arith}
+use Rattle.std.proofs.Common.{◌≡◌, ◌<◌, ◌∙◌, Option, length, ap, subst, sym, arith, rules}
 use Rattle.std.specs.Arc.{arc_value}
 use Rattle.packet_ledger.specs.Share.{MayRaise}
 use Rattle.process_packet.specs.declared.cause.Cause.TheVariants as cause
@@ -45,3 +45,6 @@ returns-in-Err g c =
     let at : c.pipe_for-at.result ≡ pipe_for r c.args.egress_packet = c.pipe_for-at.ensures ∙ ap (λ (h : Shared). pipe_for h.config c.args.egress_packet) c.deref.ensures in
     subst (λ (l : Leaving). SentAs c.args.egress_packet l (record { config = r; links = c.offer_at.new.ends.items; free = c.give_back.new.free.items; share = c.fate.new.self })) c.self.view_is
     (sent_not r s.links.items c.offer_at.new.ends.items s.free.items c.give_back.new.free.items s.share c.fate.new.self c.args.egress_packet c.in-Err.egress_packet c.pipe_for-at.result c.arrived-link.result at c.in-Err.ensures.1 c.in-Err.ensures.0 c.arrived-link.ensures.arrived c.give_back.ensures c.fate.ensures)
+
+pub returns-in_default : goal.returns-in_default
+returns-in_default g c = search rules
