@@ -4,7 +4,10 @@
 
 #[cfg(test)]
 mod acts;
+mod arrivals;
 #[cfg(test)]
 mod runs;
 #[cfg(test)]
 mod samples;
+
+pub use arrivals::arrival;

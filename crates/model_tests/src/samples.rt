@@ -1,10 +1,9 @@
 //! What the tests carry, and the router that it crosses.
 
-ghost use Rattle.std.specs.Prelude.{◌≡◌, IfOk};
-
+use crate::arrivals::arrival;
 use cmac_core::Cmac;
 use pipe_model::World;
-use process_packet::{Arrival, Bands, Config, Ip, Link, NoMemory, Underlay};
+use process_packet::{Bands, Config, Ip, Link, NoMemory, Underlay};
 use router_rules::{link_count, link_index};
 use sample_packets::{FIRST, IN_TIME, KEY, PATH_AT, with_bytes};
 use segment_switch::LinkKind;
@@ -67,22 +66,6 @@ fn config(alloc: Global, bands: Bands) -> Result<Config, AllocError> {
         links: Vec::from_array(alloc, links)?,
         siblings: Vec::new(alloc),
         services: Vec::new(alloc),
-    })
-}
-
-/// What comes by link 1 with this number.
-fn arrival(alloc: Global, number: u64, now: u64, bytes: &[u8]) -> Result<Arrival, AllocError>
-    ensures { IfOk result (λ x. (x.link ≡ 1) × (x.number ≡ number)) }
-{
-    Ok(Arrival {
-        link: 1,
-        number,
-        source: Underlay {
-            ip: Ip::V4([10, 1, 0, 2]),
-            port: 40000,
-        },
-        now,
-        bytes: Vec::from_slice(alloc, bytes)?,
     })
 }
 
