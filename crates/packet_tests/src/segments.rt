@@ -21,6 +21,18 @@ fn tells_where_segments_change(rt: HostRuntime) -> Result<(), Fail> {
     Ok(())
 }
 
+/// Whether a pair of links is judged so, on one segment and where segments change.
+fn is_judged(from: LinkKind, to: LinkKind, straight: bool, changing: bool) -> bool {
+    pair_ok(Some(from), to, false).is_ok() == straight
+        && pair_ok(Some(from), to, true).is_ok() == changing
+        && joins(from, to) == changing
+}
+
+/// Whether what begins its path here may leave by such a link, but not by one of another segment.
+fn may_begin_by(to: LinkKind) -> bool {
+    pair_ok(None, to, false).is_ok() && pair_ok(None, to, true) == Err(PairFault::ChangeOver)
+}
+
 #[test]
 fn judges_pairs(rt: HostRuntime) {
     // a line for what the packet came by: Core, Parent, Child; a column for what it leaves by
@@ -36,18 +48,15 @@ fn judges_pairs(rt: HostRuntime) {
     ];
     for from in 0..3usize {
         for to in 0..3usize {
-            let (a, b) = (KINDS[from], KINDS[to]);
-            assert_eq!(rt; pair_ok(Some(a), b, false).is_ok(), straight[from][to]);
-            assert_eq!(rt; pair_ok(Some(a), b, true).is_ok(), changing[from][to]);
-            assert_eq!(rt; joins(a, b), changing[from][to]);
+            let (straight, changing) = (straight[from][to], changing[from][to]);
+            assert!(rt; is_judged(KINDS[from], KINDS[to], straight, changing));
         }
     }
     for to in KINDS {
-        assert_eq!(rt; pair_ok(None, to, false), Ok(()));
-        assert_eq!(rt; pair_ok(None, to, true), Err(PairFault::ChangeOver));
+        assert!(rt; may_begin_by(to));
     }
     let parents = pair_ok(Some(LinkKind::Parent), LinkKind::Parent, false);
-    assert_eq!(rt; parents, Err(PairFault::StraightOn));
+    assert!(rt; parents == Err(PairFault::StraightOn));
     assert_eq!(rt;
         (PairFault::StraightOn.code(), PairFault::ChangeOver.code()),
         (48, 53)
