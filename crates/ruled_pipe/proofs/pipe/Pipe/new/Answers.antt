@@ -1,4 +1,4 @@
-use Rattle.std.proofs.Common.{◌+◌, List, sym, ◌∙◌, subst, ap}
+use Rattle.std.proofs.Common.{rules, ◌+◌, List, sym, ◌∙◌, subst, ap}
 use Rattle.atomic_table.specs.Seated.{TableId}
 use Rattle.std.specs.Arc.{arc_value}
 use Rattle.crossbeam_queue.specs.Passes.{ruled_capacity}
@@ -22,3 +22,12 @@ loop-number-preserved g c =
       made.1,
       subst P (sym c.in_ok-push.ensures.items) (one_more_new id cap c.args.producers at.number at.ends.items c.in_ok-end.end at.invariant.2 (made.0 ∙ ap (λ (t : TableId). new_sender t at.number c.args.producers cap) at.invariant.0.0)),
     )
+
+pub returns-clause-pipe : goal.returns-clause-pipe
+returns-clause-pipe g c = search rules
+
+pub returns-clause-producers : goal.returns-clause-producers
+returns-clause-producers g c = search rules
+
+pub returns-clause-consumer : goal.returns-clause-consumer
+returns-clause-consumer g c = search rules
