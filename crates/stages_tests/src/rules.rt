@@ -64,20 +64,30 @@ fn config(alloc: Global, internal_bands: Bands) -> Result<Config, AllocError> {
     })
 }
 
+/// Whether the link of an interface has this place among all links.
+fn stands_at(config: &Config, index: u16, id: u16) -> bool {
+    link_index(config, id) == index && interface_at(config, usize::from(index)) == id
+}
+
+/// Whether the links stand in the order of their interfaces, the internal network's first, and no link
+/// is found where there is none.
+fn stand_in_order(config: &Config) -> bool {
+    link_count(config) == 4
+        && stands_at(config, 0, 0)
+        && stands_at(config, 1, 2)
+        && stands_at(config, 2, 7)
+        && stands_at(config, 3, 300)
+        && [1, 3, 299, 301, u16::MAX]
+            .iter()
+            .all(|id| link_index(config, *id) == 4)
+        && interface_at(config, 4) == 0
+        && interface_at(config, usize::MAX) == 0
+}
+
 #[test]
 fn numbers_links_by_their_interfaces(rt: HostRuntime) -> Result<(), Fail> {
     let config = config(rt.alloc(), Bands::One)?;
-    assert_eq!(rt; link_count(&config), 4);
-    for (index, id) in [(0, 0), (1, 2), (2, 7), (3, 300)] {
-        assert_eq!(rt; link_index(&config, id), index);
-        assert_eq!(rt; interface_at(&config, usize::from(index)), id);
-    }
-    // none has these
-    for id in [1, 3, 299, 301, u16::MAX] {
-        assert_eq!(rt; link_index(&config, id), 4, "{id}");
-    }
-    assert_eq!(rt; interface_at(&config, 4), 0);
-    assert_eq!(rt; interface_at(&config, usize::MAX), 0);
+    assert!(rt; stand_in_order(&config));
     Ok(())
 }
 
@@ -93,25 +103,31 @@ fn tells_links_of_two_bands(rt: HostRuntime) -> Result<(), Fail> {
     Ok(())
 }
 
+/// Whether the tables tell this place, interface and bands of one link.
+fn is_told(ports: &Ports, index: u16, id: u16, two_bands: bool) -> bool {
+    ports.number(id) == index && ports.interface(index) == id && ports.two_bands(index) == two_bands
+}
+
+/// Whether the tables tell the links, and nothing of links that there are not.
+fn are_told(ports: &Ports) -> bool {
+    ports.count() == 4
+        && is_told(ports, 0, 0, false)
+        && is_told(ports, 1, 2, true)
+        && is_told(ports, 2, 7, false)
+        && is_told(ports, 3, 300, false)
+        && [1, 3, 299, 301, u16::MAX]
+            .iter()
+            .all(|id| ports.number(*id) == 4)
+        && (ports.interface(4), ports.interface(u16::MAX)) == (0, 0)
+        && !ports.two_bands(4)
+        && !ports.two_bands(u16::MAX)
+}
+
 #[test]
 fn looks_links_up(rt: HostRuntime) -> Result<(), Fail> {
     let shared = Shared::new(config(rt.alloc(), Bands::One)?);
-    let ports = &shared.ports;
-    assert_eq!(rt; ports.count(), 4);
-    for (index, id, two) in [(0, 0, false), (1, 2, true), (2, 7, false), (3, 300, false)] {
-        assert_eq!(rt; ports.number(id), index);
-        assert_eq!(rt; ports.interface(index), id);
-        assert_eq!(rt; ports.two_bands(index), two);
-    }
-    for id in [1, 3, 299, 301, u16::MAX] {
-        assert_eq!(rt; ports.number(id), 4, "{id}");
-    }
-    assert_eq!(rt; (ports.interface(4), ports.interface(u16::MAX)), (0, 0));
-    assert_eq!(rt;
-        (ports.two_bands(4), ports.two_bands(u16::MAX)),
-        (false, false)
-    );
-    assert_eq!(rt; shared.config.links.len(), 3);
+    assert!(rt; are_told(&shared.ports));
+    assert!(rt; shared.config.links.len() == 3);
     Ok(())
 }
 
@@ -160,10 +176,14 @@ fn finds_workers_and_pipes(rt: HostRuntime) -> Result<(), Fail> {
         (WorkerIndex::Slow.feeds(high), forwarder.feeds(high)),
         (true, false)
     );
-    let producers = [WorkerIndex::Slow, WorkerIndex::Controller, forwarder].map(
-        |worker| worker.producer(&config),
+    assert_eq!(rt;
+        (
+            WorkerIndex::Slow.producer(&config),
+            WorkerIndex::Controller.producer(&config),
+            forwarder.producer(&config)
+        ),
+        (Some(1), Some(2), None)
     );
-    assert_eq!(rt; producers, [Some(1), Some(2), None]);
     assert_eq!(rt; high.producers(&config), 3);
     Ok(())
 }
