@@ -1,5 +1,5 @@
-//! What tests and benches of the workers share: ends of new pipes, datagrams, counts, and a gate that
-//! admits all. Nothing here runs in the router.
+//! What tests and benches of the workers share: a router, ends of new pipes, datagrams, counts, and a gate
+//! that admits all. Nothing here runs in the router.
 #![tactic(auto)]
 
 mod configuration;
@@ -7,11 +7,11 @@ mod counts;
 mod datagrams;
 mod ends;
 mod gate;
-mod size;
+mod routers;
 
 pub use configuration::TWO_BANDS;
 pub use counts::{CLOSED, FULL_LINK, FULL_PROCESSOR, NO_BUFFER, NOTHING, SEND_FAILED, totals};
 pub use datagrams::{NEAR, datagram, firsts, give};
 pub use ends::{ends_of, next_outlet, next_producer, next_share};
 pub use gate::Open;
-pub use size::is_small;
+pub use routers::router;

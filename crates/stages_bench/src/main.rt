@@ -7,16 +7,15 @@ mod devices;
 mod ends;
 mod stages;
 
-ghost use Rattle.std.specs.Prelude.{◌≡◌, Some, true};
+ghost use Rattle.std.specs.Prelude.{◌≡◌, Some};
 ghost use Rattle.std.specs.Arc.{arc_value};
 ghost use Rattle.router_rules.specs.Links.{link_count};
 
 use crate::stages::{BATCH, Stages, stages_of};
 use packet_ledger::Blank;
-use router_config::read_config;
+use process_packet::Bands;
 use router_rules::Shared;
-use sample_packets::CONFIGURATION;
-use sample_stages::is_small;
+use sample_stages::router;
 use stage_parts::Router;
 use std::alloc::{AllocError, Global};
 use std::marker::Brand;
@@ -82,25 +81,12 @@ fn time<N: Router, R: Wait + Clock + Copy>(
     Ok((spent?, sum))
 }
 
-/// The first datagram's router.
-fn router(alloc: Global) -> Result<Option<Shared>, AllocError> {
-    match read_config(alloc, CONFIGURATION) {
-        Ok(config) => Ok(Some(Shared::new(config))),
-        Err(_) => Ok(None),
-    }
-}
-
 fn main(rt: HostRuntime) -> io::Result<()> {
     if env::args(&rt)?.skip(1).next().is_none() {
         return Ok(());
     }
     let alloc = rt.alloc();
-    let Some(shared) = router(alloc)? else {
-        return Ok(());
-    };
-    if !is_small(&shared) {
-        return Ok(());
-    }
+    let shared = Shared::new(router(alloc, Bands::One)?);
     let shared = Arc::new(alloc, shared)?;
     let blank = Blank::new(alloc)?;
     let (spent, sum) = time::<Brand, HostRuntime>(rt, alloc, blank, shared)?;

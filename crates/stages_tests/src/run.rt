@@ -1,6 +1,6 @@
 //! A run of workers, turn by turn.
 
-ghost use Rattle.std.specs.Prelude.{◌≡◌, ◌<◌, ◌≤◌, Some, length, true};
+ghost use Rattle.std.specs.Prelude.{◌≡◌, ◌<◌, ◌≤◌, Some, length};
 ghost use Rattle.std.specs.Arc.{arc_value};
 ghost use Rattle.router_rules.specs.Links.{link_count};
 
@@ -11,7 +11,7 @@ use process_packet::Totals;
 use router_rules::Shared;
 use router_stages::{Forwarder, Processor, Receiver, SlowPath};
 use ruled_pipe::{Mark, Producer};
-use sample_stages::{Open, is_small};
+use sample_stages::Open;
 use stage_parts::{EgressPacket, ListSink, ListSource, Next, Router};
 use std::alloc::Global;
 use std::marker::Brand;
@@ -130,8 +130,9 @@ pub fn run<R: Abort + Wait + Copy>(
     shared: Shared,
     answers: Vec<Next>,
     plan: Plan,
-) -> Outcome {
-    assert!(rt; is_small(&shared));
+) -> Outcome
+    requires { (link_count shared.config ≡ 4) × (shared.config.processors ≡ 1) }
+{
     assert!(rt; plan.capacity > 0 && plan.capacity <= 65536);
     let shared = Arc::new(alloc, shared).expect(&rt, "memory");
     let blank = Blank::new(alloc).expect(&rt, "memory");

@@ -2,15 +2,11 @@
 //! refused to the sink, that sink fails once more, unless it is told to fail at this call anyhow.
 
 use crate::run::{Outcome, Plan, run};
-use process_packet::Totals;
-use router_config::read_config;
+use process_packet::{Bands, Totals};
 use router_rules::Shared;
-use sample_packets::{
-    ANSWER, CONFIGURATION, FIRST, IN_TIME, LATE, MAC_AT, OTHER_MAC, PAYLOAD_AT, with_bytes,
-};
+use sample_packets::{ANSWER, FIRST, IN_TIME, LATE, MAC_AT, OTHER_MAC, PAYLOAD_AT, with_bytes};
 use sample_stages::{
-    CLOSED, FULL_PROCESSOR, NEAR, NO_BUFFER, NOTHING, SEND_FAILED, TWO_BANDS, datagram, firsts,
-    totals,
+    CLOSED, FULL_PROCESSOR, NEAR, NO_BUFFER, NOTHING, SEND_FAILED, datagram, firsts, router, totals,
 };
 use stage_parts::{Next, Sent, Sink};
 use std::alloc::{AllocError, Global};
@@ -29,14 +25,14 @@ fn plan(turns: &'static str) -> Plan {
     }
 }
 
-// What came of a run of the router that a text configures.
+// What came of a run of the router whose link 2 has these bands.
 fn ran<R: AllocGlobal + Abort + Wait + Copy>(
     rt: R,
-    text: &str,
+    bands: Bands,
     answers: Result<Vec<Next>, AllocError>,
     plan: Plan,
 ) -> Outcome {
-    let config = read_config(rt.alloc(), text).expect(&rt, "configuration");
+    let config = router(rt.alloc(), bands).expect(&rt, "memory");
     let answers = answers.expect(&rt, "memory");
     run(rt, rt.alloc(), Shared::new(config), answers, plan)
 }
@@ -79,7 +75,7 @@ fn is(outcome: &Outcome, numbers: &[u64], wanted: &Totals) -> bool {
 fn a_full_processor_pipe_refuses(rt: HostRuntime) {
     let mut plan = plan("RRPRFPF");
     plan.capacity = 1;
-    let outcome = ran(rt, CONFIGURATION, firsts(rt.alloc(), 3), plan);
+    let outcome = ran(rt, Bands::One, firsts(rt.alloc(), 3), plan);
     assert!(rt; is(&outcome, &[1, 3], &totals(3, 2, FULL_PROCESSOR, 1)));
 }
 
@@ -87,7 +83,7 @@ fn a_full_processor_pipe_refuses(rt: HostRuntime) {
 fn without_a_buffer_packets_are_dropped(rt: HostRuntime) {
     let mut plan = plan("RRRPFRPF");
     plan.buffers = 1;
-    let outcome = ran(rt, CONFIGURATION, firsts(rt.alloc(), 4), plan);
+    let outcome = ran(rt, Bands::One, firsts(rt.alloc(), 4), plan);
     assert!(rt; is(&outcome, &[1, 4], &totals(4, 2, NO_BUFFER, 2)));
 }
 
@@ -95,13 +91,13 @@ fn without_a_buffer_packets_are_dropped(rt: HostRuntime) {
 fn a_refused_packet_is_dropped(rt: HostRuntime) {
     let mut plan = plan("RRRPPPFFF");
     plan.fails = &[2];
-    let outcome = ran(rt, CONFIGURATION, firsts(rt.alloc(), 3), plan);
+    let outcome = ran(rt, Bands::One, firsts(rt.alloc(), 3), plan);
     assert!(rt; is(&outcome, &[1, 3], &totals(3, 2, SEND_FAILED, 1)));
 }
 
 #[test]
 fn after_a_closing_mark_a_packet_is_swept(rt: HostRuntime) {
-    let outcome = ran(rt, CONFIGURATION, firsts(rt.alloc(), 2), plan("RRPCPFFF"));
+    let outcome = ran(rt, Bands::One, firsts(rt.alloc(), 2), plan("RRPCPFFF"));
     assert!(rt; is(&outcome, &[1], &totals(2, 1, CLOSED, 1)));
 }
 
@@ -115,7 +111,7 @@ fn with_a_failure(alloc: Global) -> Result<Vec<Next>, AllocError> {
 #[test]
 fn a_failing_source_is_passed_over(rt: HostRuntime) {
     let answers = with_a_failure(rt.alloc());
-    let outcome = ran(rt, CONFIGURATION, answers, plan("RrRPPpFFf"));
+    let outcome = ran(rt, Bands::One, answers, plan("RrRPPpFFf"));
     assert!(rt; is(&outcome, &[1, 2], &totals(2, 2, 0, 0)));
 }
 
@@ -173,7 +169,7 @@ fn an_expired_packet_is_answered(rt: HostRuntime) {
     let answers = only(rt.alloc(), datagram(rt.alloc(), &other, NEAR, LATE));
     let mut plan = plan("RPSFf");
     plan.link = 1;
-    let outcome = ran(rt, CONFIGURATION, answers, plan);
+    let outcome = ran(rt, Bands::One, answers, plan);
     assert!(rt; is_answered(&outcome, &other));
 }
 
@@ -187,6 +183,6 @@ fn with_an_urgent_one(alloc: Global) -> Result<Vec<Next>, AllocError> {
 #[test]
 fn the_high_band_goes_first(rt: HostRuntime) {
     let answers = with_an_urgent_one(rt.alloc());
-    let outcome = ran(rt, TWO_BANDS, answers, plan("RRPPFF"));
+    let outcome = ran(rt, Bands::Two, answers, plan("RRPPFF"));
     assert!(rt; is(&outcome, &[2, 1], &totals(2, 2, 0, 0)));
 }
