@@ -16,3 +16,6 @@ returns-in-Err-push_no_command g c =
 
 pub returns-in-Ok : goal.returns-in-Ok
 returns-in-Ok g c = search rules
+
+pub returns-in-Some-End : goal.returns-in-Some-End
+returns-in-Some-End g c = search rules

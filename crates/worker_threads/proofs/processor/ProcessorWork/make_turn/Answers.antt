@@ -1,5 +1,12 @@
+use Rattle.std.proofs.Common.{rules}
 use Rattle.worker_threads.proofs.ExitLemmas.{worked_same}
 use Rattle.worker_threads.proofs.processor.ProcessorWork.make_turn.Goals as goal
 
 pub returns-clause-same : goal.returns-clause-same
 returns-clause-same g c = worked_same g.G.Gate.answers c.args.self.now c.turn.new.self c.turn.result c.turn.ensures
+
+pub returns-clause-turned : goal.returns-clause-turned
+returns-clause-turned g c = search rules
+
+pub returns-clause-ended : goal.returns-clause-ended
+returns-clause-ended g c = search rules

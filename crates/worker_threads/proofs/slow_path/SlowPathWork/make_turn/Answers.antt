@@ -1,5 +1,12 @@
+use Rattle.std.proofs.Common.{rules}
 use Rattle.worker_threads.proofs.ExitLemmas.{answered_same}
 use Rattle.worker_threads.proofs.slow_path.SlowPathWork.make_turn.Goals as goal
 
 pub returns-clause-same : goal.returns-clause-same
 returns-clause-same g c = answered_same c.turn.result c.args.self.now c.turn.new.self c.turn.ensures
+
+pub returns-clause-turned : goal.returns-clause-turned
+returns-clause-turned g c = search rules
+
+pub returns-clause-ended : goal.returns-clause-ended
+returns-clause-ended g c = search rules
