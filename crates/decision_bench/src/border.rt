@@ -4,12 +4,9 @@ ghost use Rattle.std.specs.Prelude.{◌≡◌};
 
 use cmac_core::Cmac;
 use process_packet::{Bands, Config, Ip, Link, Service, Sibling, Underlay};
+use sample_packets::KEY;
 use segment_switch::LinkKind;
 use std::alloc::{AllocError, Global};
-
-const KEY: [u8; 16] = [
-    0x2b, 0x7e, 0x15, 0x16, 0x28, 0xae, 0xd2, 0xa6, 0xab, 0xf7, 0x15, 0x88, 0x09, 0xcf, 0x4f, 0x3c,
-];
 
 /// The address 10.NET.0.HOST with a port.
 fn at(net: u8, host: u8, port: u16) -> Underlay
