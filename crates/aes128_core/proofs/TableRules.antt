@@ -3,7 +3,7 @@ use Rattle.std.proofs.Common.{◌≡◌, ℕ, ◌<◌, List, map, get_or, [], re
 use Rattle.std.specs.List.{range_with_len}
 use Rattle.std.proofs.lemmas.List.{get_or-map}
 use Rattle.std.proofs.lemmas.List.FromFn.{get_or-map-range_with_len}
-use Rattle.aes128_core.specs.Field.{times, inverse_below}
+use Rattle.aes128_core.specs.Field.{times, inverse}
 use Rattle.aes128_core.specs.SBox.{s_box}
 use Rattle.aes128_core.specs.State.{four}
 use Rattle.aes128_core.specs.Rounds.{matrix}
@@ -16,7 +16,7 @@ entry : {X : Type 0} (f : ℕ → X) (xs : List X) (n i : ℕ) (d : X) → xs �
 entry {X} f xs n i d e lt = ap (λ (t : List X). get_or t i d) e ∙ get_or-map-range_with_len f 0 n i i d lt (zero-add i)
 
 s_box_table : S_BOX ≡ map s_box (range_with_len 0 256)
-unfolding s_box times inverse_below
+unfolding s_box times inverse
 s_box_table = refl
 
 pub s_box_at : (b : ℕ) → b < 256 → get_or S_BOX b 0 ≡ s_box b
