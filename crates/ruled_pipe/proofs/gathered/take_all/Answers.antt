@@ -1,4 +1,4 @@
-use Rattle.std.proofs.Common.{◌≡◌, List, [], ◌∷◌, length, sym, ap, subst, ◌∙◌, append_assoc, append-nil, arith}
+use Rattle.std.proofs.Common.{◌≡◌, rules, List, [], ◌∷◌, length, refl, sym, ap, subst, ◌∙◌, append_assoc, append-nil, arith}
 use Rattle.std.proofs.lemmas.List.{nil_from_length}
 use Rattle.std.specs.Vec.Iter.{into_iter_items}
 use Rattle.ruled_pipe.specs.Producer.{Sender}
@@ -26,3 +26,17 @@ returns-clause-full g c =
     let all = sym (append-nil at.yielded) ∙ rw empty at at.invariant.3 ∙ c.into_iter-producer-iterator.ensures.into_iter_gives.0 in
     let P : List (Sender g.row.T.Denot) → Type 0 = λ l. EachFull l in
     subst P all at.invariant.2
+
+pub returns-clause-queue : goal.returns-clause-queue
+returns-clause-queue g c = c.loop-producer.invariant.0.0
+
+pub returns-clause-known : goal.returns-clause-known
+returns-clause-known g c =
+    let at = c.loop-producer in
+    let none = c.in-None.ensures.steps in
+    let empty : into_iter_items at.producer-iterator ≡ [] = nil_from_length _ (sym at.invariant.4 ∙ none.0) in
+    let all = sym (append-nil at.yielded) ∙ rw empty at at.invariant.3 ∙ c.into_iter-producer-iterator.ensures.into_iter_gives.0 in
+    rw all at at.invariant.1
+
+pub loop-producer-init : goal.loop-producer-init
+loop-producer-init g c = ((c.requires.queue, refl), c.requires.fresh, (λ k d lt. absurd (omega arith)), refl, search rules)
