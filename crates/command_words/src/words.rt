@@ -33,7 +33,7 @@ const RUN_ABOUT: &str =
 const CHECK_ABOUT: &str = "Tells whether a configuration is good, and else where it isn't";
 
 /// What the command line asks for.
-#[derive(Clone, Copy, Debug)]
+#[derive(Clone, Copy)]
 pub enum Order<'a> {
     /// To answer the datagrams on the standard input.
     Route {

@@ -399,7 +399,7 @@ fn cuts_the_quote_to_the_longest_answer(rt: HostRuntime) -> Result<(), Fail> {
         to: None,
         len: 1232,
     };
-    assert_eq!(rt; result, wanted);
+    assert!(rt; result == wanted);
     assert!(rt; is_longest_answer(&out, &bytes));
     Ok(())
 }

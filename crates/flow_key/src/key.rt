@@ -1,7 +1,7 @@
 ghost use Rattle.std.specs.Prelude.{◌<◌, ◌^◌};
 
 /// The flow of a datagram. Two keys are equal where the datagrams belong to one flow.
-#[derive(Clone, Copy, Debug, PartialEq, Eq)]
+#[derive(Clone, Copy, PartialEq, Eq)]
 pub struct FlowKey<'a> {
     /// The flow that the source has chosen (FlowID), 20 bits.
     pub flow_id: u32,

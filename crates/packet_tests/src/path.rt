@@ -35,13 +35,13 @@ fn reads_and_writes_a_path(rt: HostRuntime) -> Result<(), Fail> {
         (0, 1, 0)
     );
     assert_eq!(rt; path.lengths, [3, 0, 0]);
-    assert_eq!(rt; path.infos.as_slice(), [info()].as_slice());
+    assert!(rt; path.infos.as_slice() == [info()].as_slice());
     let hops = [
         hop(0, 17, [0xa0, 0xa1, 0xa2, 0xa3, 0xa4, 0xa5]),
         hop(1, 2, [0x0e, 0x66, 0xd2, 0x97, 0x45, 0x36]),
         hop(18, 0, [0xb0, 0xb1, 0xb2, 0xb3, 0xb4, 0xb5]),
     ];
-    assert_eq!(rt; path.hops.as_slice(), hops.as_slice());
+    assert!(rt; path.hops.as_slice() == hops.as_slice());
     let mut room = [0x55; 50];
     assert_eq!(rt; write_path(&path, &mut room[..47]), Err(NoRoom));
     assert_eq!(rt; write_path(&path, &mut room), Ok(48));
@@ -61,19 +61,16 @@ fn reads_one_field(rt: HostRuntime) {
         lengths: [3, 0, 0],
     };
     let path = one_segment();
-    assert_eq!(rt; read_meta(&path), meta);
-    assert_eq!(rt; check_path(&path), Ok(meta));
+    assert!(rt; read_meta(&path) == meta);
+    assert!(rt; check_path(&path) == Ok(meta));
     assert_eq!(rt;
         (meta.segment_count(), meta.hop_count(), meta.path_len()),
         (1, 3, 48)
     );
     assert_eq!(rt; (meta.segment_of(2), meta.first_hop(0)), (0, 0));
     assert_eq!(rt; (meta.hops_place(), meta.hop_place(1)), (12, 24));
-    assert_eq!(rt; read_info(&path, 0), info());
-    assert_eq!(rt;
-        read_hop(&path, 24),
-        hop(1, 2, [0x0e, 0x66, 0xd2, 0x97, 0x45, 0x36])
-    );
+    assert!(rt; read_info(&path, 0) == info());
+    assert!(rt; read_hop(&path, 24) == hop(1, 2, [0x0e, 0x66, 0xd2, 0x97, 0x45, 0x36]));
 }
 
 /// Whether the bytes are refused as a path for this fault.

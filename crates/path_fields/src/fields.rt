@@ -2,7 +2,7 @@ ghost use Rattle.std.specs.Prelude.{◌≡◌, ◌<◌, ◌^◌, length};
 
 /// An info field (draft-dekater-scion-dataplane, "SCION Path Type"). The peering flag is clear in each, and
 /// not kept.
-#[derive(Clone, Copy, Debug, PartialEq, Eq)]
+#[derive(Clone, Copy, PartialEq, Eq)]
 pub struct Info {
     /// The six flags that no standard names, kept as they came.
     pub reserved_flags: u8,
@@ -21,7 +21,7 @@ pub struct Info {
 }
 
 /// A hop field (draft-dekater-scion-dataplane, "Hop Field").
-#[derive(Clone, Copy, Debug, PartialEq, Eq)]
+#[derive(Clone, Copy, PartialEq, Eq)]
 pub struct Hop {
     /// The six flags that no standard names, kept as they came.
     pub reserved_flags: u8,

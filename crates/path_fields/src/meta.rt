@@ -9,7 +9,7 @@ use field_rows::u32_at;
 
 /// The path meta header: the cursor and the segment lengths (draft-dekater-scion-dataplane, "Path Meta
 /// Header").
-#[derive(Clone, Copy, Debug, PartialEq, Eq)]
+#[derive(Clone, Copy, PartialEq, Eq)]
 pub struct Meta {
     /// The segment of the current hop (CurrINF), two bits.
     pub current_info: u8,

@@ -26,7 +26,7 @@ pub fn request(sequence: u8) -> [u8; 24] {
 }
 
 /// What a router tells of itself.
-#[derive(Clone, Copy, Debug, PartialEq, Eq)]
+#[derive(Clone, Copy, PartialEq, Eq)]
 pub struct Reply {
     pub sequence: u64,
     pub isd: u64,

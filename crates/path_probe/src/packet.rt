@@ -24,7 +24,7 @@ pub struct End {
 }
 
 /// A host of an AS.
-#[derive(Clone, Copy, Debug)]
+#[derive(Clone, Copy)]
 pub struct Place {
     pub isd: u16,
     pub autonomous_system: u64,
@@ -68,7 +68,7 @@ pub fn segment_over(core: End, other: End, at_core: u16, timestamp: u32) -> Segm
 }
 
 /// What the routers are asked: to carry the packet, or the router of a hop's interface for an answer.
-#[derive(Clone, Copy, Debug, PartialEq, Eq)]
+#[derive(Clone, Copy, PartialEq, Eq)]
 pub enum Asked {
     Nothing,
     /// The router by which the packet leaves the first AS.

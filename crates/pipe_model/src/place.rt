@@ -18,7 +18,7 @@ use process_packet::{Cause, Config};
 use router_rules::{Worker, interface_at, link_count, slow_seat};
 
 /// Where a packet, its problem or its answer is. A pipe is named by its consumer.
-#[derive(Clone, Copy, Debug, PartialEq, Eq)]
+#[derive(Clone, Copy, PartialEq, Eq)]
 pub enum Place {
     Hand(Worker),
     Pipe(Worker),

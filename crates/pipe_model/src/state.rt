@@ -30,7 +30,7 @@ pub fn sources(alloc: Global, arrivals: Vec<Vec<Arrival>>) -> Result<Vec<Pipe>, 
 }
 
 /// Hands, pipes and all that ended.
-#[derive(Debug, Drop)]
+#[derive(Drop)]
 pub struct State {
     pub(crate) hands: Hands,
     pub(crate) pipes: Pipes,

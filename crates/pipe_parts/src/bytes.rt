@@ -4,7 +4,7 @@ use std::alloc::AllocError;
 use std::marker::Model;
 
 /// The bytes of a datagram. Contracts see them as their list.
-#[derive(Debug, Drop)]
+#[derive(Drop)]
 pub struct Bytes {
     items: Vec<u8>,
 }

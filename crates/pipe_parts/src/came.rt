@@ -9,7 +9,7 @@ use process_packet::{Arrival, Underlay};
 use std::alloc::AllocError;
 
 /// A datagram that arrived.
-#[derive(Debug, Drop)]
+#[derive(Drop)]
 pub struct Came {
     /// The number of the link by which it came.
     pub link: u16,

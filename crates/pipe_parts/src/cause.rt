@@ -7,7 +7,7 @@ ghost use Rattle.router_rules.specs.Causes.{booked_as};
 use process_packet::Cause as RouterCause;
 
 /// Why a packet, or the answer to it, ended without being sent.
-#[derive(Clone, Copy, Debug, PartialEq, Eq)]
+#[derive(Clone, Copy, PartialEq, Eq)]
 pub enum Cause {
     /// The router's rules dropped it, or withheld the answer.
     Ruled(RouterCause),

@@ -11,7 +11,7 @@ use std::alloc::{AllocError, Global};
 use std::marker::Model;
 
 /// How a packet, or the answer to it, ended that was not sent.
-#[derive(Debug, Drop)]
+#[derive(Drop)]
 pub struct Fate {
     link: u16,
     number: u64,
@@ -29,7 +29,7 @@ impl Model for Fate {
 }
 
 /// The fates of a run, in order.
-#[derive(Debug, Drop)]
+#[derive(Drop)]
 pub struct Fates {
     items: Vec<Fate>,
 }

@@ -10,7 +10,7 @@ use std::alloc::{AllocError, Global};
 use std::marker::Model;
 
 /// What a worker has in hand, if anything.
-#[derive(Debug, Drop)]
+#[derive(Drop)]
 pub enum Hand {
     /// It is to be worked on.
     Got(Item),
@@ -19,7 +19,7 @@ pub enum Hand {
 }
 
 /// What one worker has in hand.
-#[derive(Debug, Drop)]
+#[derive(Drop)]
 struct Seat {
     hand: Option<Hand>,
 }
@@ -36,7 +36,7 @@ impl Model for Seat {
 }
 
 /// What the workers have in hand, by their seats.
-#[derive(Debug, Drop)]
+#[derive(Drop)]
 pub struct Hands {
     seats: Vec<Seat>,
 }

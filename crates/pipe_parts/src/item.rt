@@ -16,7 +16,7 @@ use process_packet::Underlay;
 use std::alloc::AllocError;
 
 /// What leaves: its bytes, and to whom.
-#[derive(Debug, Drop)]
+#[derive(Drop)]
 pub struct Parcel {
     /// The interface by which the packet came; 0 is the internal network.
     pub came_by: u16,
@@ -26,7 +26,7 @@ pub struct Parcel {
 }
 
 /// A packet on its way out, or the answer to one.
-#[derive(Debug, Drop)]
+#[derive(Drop)]
 pub struct Out {
     /// The number of the arriving link.
     pub arrived: u16,
@@ -40,7 +40,7 @@ pub struct Out {
 }
 
 /// What is in a pipe or in a hand: a packet on one of its stages, its answer, or a mark.
-#[derive(Debug, Drop)]
+#[derive(Drop)]
 pub enum Item {
     /// It is not yet received.
     Arrived(Came),

@@ -9,7 +9,7 @@ use std::alloc::{AllocError, Global};
 use std::marker::Model;
 
 /// Of each link, whether its high pipe was seen empty.
-#[derive(Debug, Drop)]
+#[derive(Drop)]
 pub struct Looks {
     links: Vec<bool>,
 }

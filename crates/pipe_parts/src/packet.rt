@@ -9,14 +9,14 @@ use process_packet::Problem;
 use std::alloc::AllocError;
 
 /// A datagram whose header has no fault.
-#[derive(Debug, Drop)]
+#[derive(Drop)]
 pub struct Packet {
     pub came: Came,
     pub ghost header_is_sound: { header_fault came.bytes ≡ None },
 }
 
 /// A packet without a fault, and what its sender is to be told.
-#[derive(Debug, Drop)]
+#[derive(Drop)]
 pub struct Request {
     pub came: Came,
     pub problem: Problem,

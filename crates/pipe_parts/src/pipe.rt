@@ -16,7 +16,7 @@ use std::alloc::{AllocError, Global};
 use std::marker::Model;
 
 /// An item, with the worker that pushed it.
-#[derive(Debug, Drop)]
+#[derive(Drop)]
 pub struct Entry {
     from: WorkerIndex,
     item: Item,
@@ -52,7 +52,7 @@ impl Entry {
 
 /// A push that found a pipe full: of which packet, how many were pushed before, and how many of these
 /// taken.
-#[derive(Debug, Drop)]
+#[derive(Drop)]
 pub struct Refusal {
     link: u16,
     number: u64,
@@ -85,7 +85,7 @@ impl Refusal {
 }
 
 /// A pipe. Besides all that was pushed it keeps counts and marks that would else be looked for in it.
-#[derive(Debug, Drop)]
+#[derive(Drop)]
 pub struct Pipe {
     history: Vec<Entry>,
     taken: usize,

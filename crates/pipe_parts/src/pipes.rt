@@ -15,7 +15,7 @@ use std::marker::Model;
 
 /// All pipes, by their places. A pipe that isn't there has no room and holds nothing, and nothing changes
 /// it.
-#[derive(Debug, Drop)]
+#[derive(Drop)]
 pub struct Pipes {
     items: Vec<Pipe>,
 }

@@ -22,7 +22,7 @@ use scmp_answer::{AnswerLen, LONGEST_ANSWER, answer_into};
 use std::alloc::{AllocError, Global};
 
 /// What a worker makes of an item: another item, or the end of it.
-#[derive(Debug, Drop)]
+#[derive(Drop)]
 pub enum Outcome {
     Makes(Item),
     Ends(Cause),

@@ -16,14 +16,14 @@ use std::alloc::{AllocError, Global};
 use std::marker::Model;
 
 /// The numbers of the links by which a packet came and left.
-#[derive(Clone, Copy, Debug)]
+#[derive(Clone, Copy)]
 struct Way {
     arrived: u16,
     link: u16,
 }
 
 /// What was sent on one link, in order.
-#[derive(Debug, Drop)]
+#[derive(Drop)]
 struct Outbox {
     entries: Vec<(Outgoing, Bytes)>,
     /// Of each entry.
@@ -84,7 +84,7 @@ impl Outbox {
 }
 
 /// What was sent on each link, in order.
-#[derive(Debug, Drop)]
+#[derive(Drop)]
 pub struct Sent {
     links: Vec<Outbox>,
 }

@@ -6,7 +6,7 @@ use crate::underlay::Underlay;
 use thiserror::Error;
 
 /// A datagram that arrived.
-#[derive(Debug, Drop)]
+#[derive(Drop)]
 pub struct Arrival {
     /// The link by which it came; 0 is the internal network.
     pub link: u16,
@@ -21,7 +21,7 @@ pub struct Arrival {
 }
 
 /// What is done with a datagram, and the bytes that leave.
-#[derive(Debug, Drop)]
+#[derive(Drop)]
 pub enum Routed {
     /// It leaves by a link with these bytes, where link 0 is the internal network; `to` is absent on an
     /// external link, whose other end is the only one.

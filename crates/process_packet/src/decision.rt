@@ -4,7 +4,7 @@ use crate::cause::Cause;
 use crate::underlay::Underlay;
 
 /// What the sender of a packet is told by SCMP (SCMP specification, "Message Format").
-#[derive(Clone, Copy, Debug, PartialEq, Eq)]
+#[derive(Clone, Copy, PartialEq, Eq)]
 pub struct Problem {
     /// The type: 1 destination unreachable, 4 parameter problem, 131 traceroute reply.
     pub kind: u8,
@@ -16,7 +16,7 @@ pub struct Problem {
 }
 
 /// What is done with a packet.
-#[derive(Clone, Copy, Debug, PartialEq, Eq)]
+#[derive(Clone, Copy, PartialEq, Eq)]
 pub enum Decision {
     /// It leaves by a link, where link 0 is the internal network; `to` is absent on an external link,
     /// whose other end is the only one.

@@ -4,7 +4,7 @@ use crate::underlay::Underlay;
 use segment_switch::LinkKind;
 
 /// How many bands a link has: packets of the high band overtake those of the other one.
-#[derive(Clone, Copy, Debug, PartialEq, Eq)]
+#[derive(Clone, Copy, PartialEq, Eq)]
 pub enum Bands {
     /// All packets leave in one order.
     One,
@@ -28,7 +28,7 @@ impl Bands {
 }
 
 /// A link of this router to another AS.
-#[derive(Clone, Copy, Debug, PartialEq, Eq)]
+#[derive(Clone, Copy, PartialEq, Eq)]
 pub struct Link {
     /// The number of its interface, at least 1.
     pub id: u16,
@@ -43,7 +43,7 @@ pub struct Link {
 }
 
 /// An interface of another router of this AS.
-#[derive(Clone, Copy, Debug, PartialEq, Eq)]
+#[derive(Clone, Copy, PartialEq, Eq)]
 pub struct Sibling {
     /// The number of the interface, at least 1.
     pub id: u16,
@@ -54,7 +54,7 @@ pub struct Sibling {
 }
 
 /// Where a service of this AS is.
-#[derive(Clone, Copy, Debug, PartialEq, Eq)]
+#[derive(Clone, Copy, PartialEq, Eq)]
 pub struct Service {
     /// Its number, at most 32767.
     pub number: u16,

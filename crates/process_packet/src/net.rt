@@ -3,7 +3,7 @@
 use crate::config::Config;
 
 /// An end of a wire.
-#[derive(Clone, Copy, Debug, PartialEq, Eq)]
+#[derive(Clone, Copy, PartialEq, Eq)]
 pub struct End {
     /// The router, by its place among the net's configurations, from 0 on.
     pub router: usize,
@@ -12,7 +12,7 @@ pub struct End {
 }
 
 /// A wire between two links.
-#[derive(Clone, Copy, Debug, PartialEq, Eq)]
+#[derive(Clone, Copy, PartialEq, Eq)]
 pub struct Wire {
     /// Either of its ends.
     pub one: End,

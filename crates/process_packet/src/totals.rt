@@ -4,7 +4,7 @@ ghost use Rattle.process_packet.specs.Totals.{dropped_for};
 use crate::cause::Cause;
 
 /// How many datagrams were received, and what became of them.
-#[derive(Clone, Copy, Debug, PartialEq, Eq)]
+#[derive(Clone, Copy, PartialEq, Eq)]
 pub struct Totals {
     /// Taken from their link.
     pub received: u128,

@@ -1,7 +1,7 @@
 //! The underlay: the UDP addresses between which datagrams travel.
 
 /// An IP address, version 4 or 6.
-#[derive(Clone, Copy, Debug, PartialEq, Eq)]
+#[derive(Clone, Copy, PartialEq, Eq)]
 pub enum Ip {
     /// Its bytes in network order.
     V4([u8; 4]),
@@ -10,7 +10,7 @@ pub enum Ip {
 }
 
 /// An IP address and a UDP port.
-#[derive(Clone, Copy, Debug, PartialEq, Eq)]
+#[derive(Clone, Copy, PartialEq, Eq)]
 pub struct Underlay {
     pub ip: Ip,
     pub port: u16,

@@ -9,7 +9,7 @@ use std::sync::Wait;
 use std::thread;
 
 /// Why a closing mark was not pushed.
-#[derive(Clone, Copy, Debug, PartialEq, Eq, Drop)]
+#[derive(Clone, Copy, PartialEq, Eq, Drop)]
 pub enum CloseFault {
     /// The pipe was full.
     Full,

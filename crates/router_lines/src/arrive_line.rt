@@ -16,7 +16,7 @@ use std::alloc::{AllocError, Global};
 const LAST_SECOND: u64 = 1099511627775;
 
 /// A datagram that arrives.
-#[derive(Debug, Drop)]
+#[derive(Drop)]
 pub struct Incoming {
     pub arrival_context: ArrivalContext,
     pub bytes: Vec<u8>,

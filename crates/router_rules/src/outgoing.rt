@@ -1,7 +1,7 @@
 use process_packet::Underlay;
 
 /// A packet that left, or the answer to one, named by the packet's arriving link and its number there.
-#[derive(Clone, Copy, Debug, PartialEq, Eq)]
+#[derive(Clone, Copy, PartialEq, Eq)]
 pub struct Outgoing {
     /// The interface by which the packet came; 0 is the internal network.
     pub arrived: u16,

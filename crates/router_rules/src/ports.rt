@@ -11,7 +11,7 @@ use std::marker::Model;
 
 /// The links of a router by their numbers: their interfaces, which ascend, and whether each has two
 /// bands. It is made once of a configuration, which would rank all its links for each that is looked up.
-#[derive(Debug, Drop)]
+#[derive(Drop)]
 pub struct Ports {
     interfaces: [u16; 33],
     two_bands: [bool; 33],

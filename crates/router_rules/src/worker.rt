@@ -1,7 +1,7 @@
 //! Who works, and which pipes there are, by the names that callers know.
 
 /// A worker of the pipeline. Links are named by their interface; 0 is the internal network.
-#[derive(Clone, Copy, Debug, PartialEq, Eq)]
+#[derive(Clone, Copy, PartialEq, Eq)]
 pub enum Worker {
     /// It receives what arrives on a link.
     Receiver(u16),
@@ -16,7 +16,7 @@ pub enum Worker {
 }
 
 /// A pipe, named by its consumer. The forwarder of a link with two bands has a second one.
-#[derive(Clone, Copy, Debug, PartialEq, Eq)]
+#[derive(Clone, Copy, PartialEq, Eq)]
 pub enum Queue {
     Of(Worker),
     /// The high band of a link.

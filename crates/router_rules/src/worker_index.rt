@@ -16,7 +16,7 @@ use process_packet::Config;
 
 /// A worker, its link by the index among the links, from 0 on. `Worker` has the link by its
 /// interface.
-#[derive(Clone, Copy, Debug, PartialEq, Eq)]
+#[derive(Clone, Copy, PartialEq, Eq)]
 pub enum WorkerIndex {
     Receiver(u16),
     Processor(u8),
@@ -26,7 +26,7 @@ pub enum WorkerIndex {
 }
 
 /// A pipe, its link by the index among the links, from 0 on. `Queue` has the link by its interface.
-#[derive(Clone, Copy, Debug, PartialEq, Eq)]
+#[derive(Clone, Copy, PartialEq, Eq)]
 pub enum QueueIndex {
     Of(WorkerIndex),
     High(u16),

@@ -13,7 +13,7 @@ pub enum StartFault<S, K> {
 }
 
 /// Why a link was not closed.
-#[derive(Clone, Copy, Debug, PartialEq, Eq)]
+#[derive(Clone, Copy, PartialEq, Eq)]
 pub enum CloseFault {
     /// A closing mark was refused; one that was accepted stays.
     Full,

@@ -1,7 +1,7 @@
 //! What came of a turn.
 
 /// What came of a worker's turn.
-#[derive(Clone, Copy, Debug, PartialEq, Eq)]
+#[derive(Clone, Copy, PartialEq, Eq)]
 pub enum Turn {
     /// It did something.
     Did,

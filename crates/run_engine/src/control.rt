@@ -5,7 +5,7 @@ use router_lines::Closing;
 
 /// What a router that ended tells: how much each link sent, in ascending order of the interfaces, and the
 /// counts.
-#[derive(Debug, Drop)]
+#[derive(Drop)]
 pub struct Figures {
     pub sent: Vec<u128>,
     pub totals: Totals,

@@ -85,7 +85,7 @@ fn close_while_full(rt: HostRuntime) -> Result<(), Fail> {
     ];
     let outcome = led(rt, router(&rt, 1, 2), &CUES, &ORDERS)?;
     let wanted = (totals(4, 3, CLOSED, 1), [1, 2, 3, 0, 0, 0, 0, 0], true);
-    assert_eq!(rt; outcome, wanted);
+    assert!(rt; outcome == wanted);
     Ok(())
 }
 
@@ -103,7 +103,7 @@ fn close_while_one_band_is_full(rt: HostRuntime) -> Result<(), Fail> {
     ];
     let outcome = led(rt, two_band_router(&rt, 2), &CUES, &ORDERS)?;
     let wanted = (totals(4, 3, CLOSED, 1), [1, 2, 3, 0, 0, 0, 0, 0], true);
-    assert_eq!(rt; outcome, wanted);
+    assert!(rt; outcome == wanted);
     Ok(())
 }
 
@@ -122,7 +122,7 @@ fn a_closed_link_sends_nothing(rt: HostRuntime) -> Result<(), Fail> {
     ];
     for config in [router(&rt, 1, 64), two_band_router(&rt, 64)] {
         let outcome = led(rt, config, &CUES, &ORDERS)?;
-        assert_eq!(rt; outcome, (totals(3, 0, CLOSED, 3), [0; 8], true));
+        assert!(rt; outcome == (totals(3, 0, CLOSED, 3), [0; 8], true));
     }
     Ok(())
 }
@@ -140,7 +140,7 @@ fn the_high_band_goes_first(rt: HostRuntime) -> Result<(), Fail> {
     const ORDERS: [Order; 2] = [Order::Asked(5), Order::Stage(1)];
     let outcome = led(rt, two_band_router(&rt, 64), &CUES, &ORDERS)?;
     let wanted = (totals(5, 5, CLOSED, 0), [1, 4, 2, 3, 5, 0, 0, 0], true);
-    assert_eq!(rt; outcome, wanted);
+    assert!(rt; outcome == wanted);
     Ok(())
 }
 
@@ -164,6 +164,6 @@ fn full_pipes_are_emptied_at_the_end(rt: HostRuntime) -> Result<(), Fail> {
         [1, 2, 3, 4, 5, 6, 0, 0],
         true,
     );
-    assert_eq!(rt; outcome, wanted);
+    assert!(rt; outcome == wanted);
     Ok(())
 }

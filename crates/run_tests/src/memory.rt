@@ -19,7 +19,7 @@ fn ended_sources_count_nothing(rt: HostRuntime) -> Result<(), Fail> {
     let sources = four_sources(rt.alloc(), Vec::new(rt.alloc()))?;
     let sinks = list_sinks(rt.alloc(), 4, 0)?;
     let played = ran(rt, router(&rt, 1, 4), sources, sinks, Open, None);
-    assert_eq!(rt; played.report.totals, NOTHING);
+    assert!(rt; played.report.totals == NOTHING);
     assert!(rt; sent_by(&played.report, &[0; 4]));
     Ok(())
 }
@@ -43,7 +43,7 @@ fn the_first_datagram_crosses(rt: HostRuntime) -> Result<(), Fail> {
     let mut wanted = NOTHING;
     wanted.received = 1;
     wanted.sent = 1;
-    assert_eq!(rt; played.report.totals, wanted);
+    assert!(rt; played.report.totals == wanted);
     assert!(rt; sent_by(&played.report, &[0, 0, 1, 0]));
     let told = played.report.sinks.get(2).and_then(|sink| sink.told());
     match told {
@@ -64,7 +64,7 @@ fn sources_that_always_fail_give_nothing(rt: HostRuntime) -> Result<(), Fail> {
     let sources = Vec::from_array(rt.alloc(), failing)?;
     let sinks = list_sinks(rt.alloc(), 4, 0)?;
     let played = ran(rt, router(&rt, 1, 4), sources, sinks, Open, None);
-    assert_eq!(rt; played.report.totals, NOTHING);
+    assert!(rt; played.report.totals == NOTHING);
     assert!(rt; sent_by(&played.report, &[0; 4]));
     for source in &played.report.sources {
         assert!(rt; source.failures() > 0);
@@ -89,7 +89,7 @@ fn a_failure_is_no_datagram(rt: HostRuntime) -> Result<(), Fail> {
     let mut wanted = NOTHING;
     wanted.received = 2;
     wanted.sent = 2;
-    assert_eq!(rt; played.report.totals, wanted);
+    assert!(rt; played.report.totals == wanted);
     assert!(rt; sent_by(&played.report, &[0, 0, 2, 0]));
     Ok(())
 }
@@ -102,7 +102,7 @@ fn a_sink_that_always_refuses_is_counted(rt: HostRuntime) -> Result<(), Fail> {
     let mut wanted = NOTHING;
     wanted.received = 20;
     wanted.dropped[SEND_FAILED] = 20;
-    assert_eq!(rt; played.report.totals, wanted);
+    assert!(rt; played.report.totals == wanted);
     assert!(rt; sent_by(&played.report, &[0; 4]));
     let failures = played.report.sinks.get(2).map(|sink| sink.failures());
     assert_eq!(rt; failures, Some(20));

@@ -62,7 +62,7 @@ fn a_thousand_datagrams_take_no_memory(rt: HostRuntime) -> Result<(), Fail> {
     };
     let played = ran(rt, router(&rt, 1, 64), sources, sinks, Open, Some(lead));
     assert!(rt; played.as_told);
-    assert_eq!(rt; played.report.totals, all_sent(1000));
+    assert!(rt; played.report.totals == all_sent(1000));
     assert!(rt; sent_by(&played.report, &[0, 0, 1000, 0]));
     Ok(())
 }

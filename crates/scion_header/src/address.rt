@@ -5,7 +5,7 @@ ghost use Rattle.scion_header.specs.Host.{host_bytes, length_code};
 use crate::host::Host;
 
 /// The address of an end host: its isolation domain, its autonomous system and the host there.
-#[derive(Clone, Copy, Debug, PartialEq, Eq)]
+#[derive(Clone, Copy, PartialEq, Eq)]
 pub struct Address {
     /// The isolation domain, 16 bits.
     pub isd: u16,

@@ -1,5 +1,5 @@
 /// Where the parts of a datagram's header end, counted in bytes from the datagram's start.
-#[derive(Clone, Copy, Debug, PartialEq, Eq)]
+#[derive(Clone, Copy, PartialEq, Eq)]
 pub struct HeaderEnds {
     /// Where the addresses end: the path begins there.
     pub addresses: usize,

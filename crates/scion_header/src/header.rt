@@ -6,7 +6,7 @@ use crate::address::Address;
 
 /// The common header and the address header (draft-dekater-scion-dataplane, "SCION Header Specification").
 /// The version is 0 and the path type that of a SCION path in each.
-#[derive(Clone, Copy, Debug, PartialEq, Eq)]
+#[derive(Clone, Copy, PartialEq, Eq)]
 pub struct Header {
     /// The traffic class (TrafficClass): six bits of differentiated services, then two bits of congestion
     /// notification.

@@ -7,7 +7,7 @@ use field_rows::array_at;
 
 /// The address of a host within its autonomous system, by its length in bytes: an IPv4 address has
 /// four, an IPv6 address sixteen.
-#[derive(Clone, Copy, Debug, PartialEq, Eq)]
+#[derive(Clone, Copy, PartialEq, Eq)]
 pub enum Host {
     /// An IPv4 address or a service, by the address's kind.
     Four([u8; 4]),

@@ -1,7 +1,7 @@
 //! What comes after the extension headers of a packet.
 
 /// What a router tells apart of the upper layer.
-#[derive(Clone, Copy, Debug, PartialEq, Eq)]
+#[derive(Clone, Copy, PartialEq, Eq)]
 pub enum Upper {
     /// An SCMP message of this type.
     Scmp(u8),
@@ -12,7 +12,7 @@ pub enum Upper {
 }
 
 /// Where the upper layer begins.
-#[derive(Clone, Copy, Debug, PartialEq, Eq)]
+#[derive(Clone, Copy, PartialEq, Eq)]
 pub struct UpperPlace {
     /// The number of its protocol: 17 is UDP, 202 SCMP.
     pub protocol: u8,

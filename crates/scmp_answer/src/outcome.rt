@@ -3,7 +3,7 @@
 use process_packet::{Cause, Underlay};
 
 /// What becomes of a problem, where an answer's bytes are in a buffer.
-#[derive(Clone, Copy, Debug, PartialEq, Eq)]
+#[derive(Clone, Copy, PartialEq, Eq)]
 pub enum AnswerLen {
     /// An answer of `len` bytes leaves by a link, where link 0 is the internal network; `to` is absent
     /// on an external link, whose other end is the only one.
@@ -17,7 +17,7 @@ pub enum AnswerLen {
 }
 
 /// What becomes of a problem, with an answer's bytes.
-#[derive(Debug, Drop)]
+#[derive(Drop)]
 pub enum Answered {
     /// An answer leaves by a link, as in `AnswerLen`.
     Send {

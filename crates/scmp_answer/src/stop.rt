@@ -3,7 +3,7 @@
 use process_packet::{Arrival, Routed};
 
 /// A packet at a router of a net, and what is done with it there.
-#[derive(Debug, Drop)]
+#[derive(Drop)]
 pub struct Stop {
     /// The router, by its place among the net's configurations.
     pub router: usize,

@@ -1,5 +1,5 @@
 /// What the AS at the other end of a link is to the local one.
-#[derive(Clone, Copy, Debug, PartialEq, Eq)]
+#[derive(Clone, Copy, PartialEq, Eq)]
 pub enum LinkKind {
     /// Both are core ASes.
     Core,

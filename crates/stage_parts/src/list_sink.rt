@@ -11,7 +11,7 @@ use std::alloc::Global;
 use std::marker::Model;
 
 /// What a sink was handed, and whether it took it.
-#[derive(Debug, Drop)]
+#[derive(Drop)]
 pub struct Sent {
     pub out: Outgoing,
     pub bytes: Vec<u8>,

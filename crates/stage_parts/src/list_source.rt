@@ -10,7 +10,7 @@ use process_packet::Underlay;
 use std::marker::Model;
 
 /// An answer of a source over a list.
-#[derive(Debug, Drop)]
+#[derive(Drop)]
 pub enum Next {
     /// A datagram; of a longer one than a buffer holds its first 9,217 bytes are given.
     Datagram {

@@ -7,7 +7,7 @@ ghost use Rattle.stage_parts.specs.Told.{Told, telling};
 use router_rules::Outgoing;
 
 /// A sink failed to send.
-#[derive(Clone, Copy, Debug, PartialEq, Eq)]
+#[derive(Clone, Copy, PartialEq, Eq)]
 pub struct SinkFault;
 
 /// A sink of datagrams.

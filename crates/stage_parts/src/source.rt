@@ -8,7 +8,7 @@ ghost use Rattle.stage_parts.specs.Heard.{failures_of, fits, heard};
 use process_packet::Underlay;
 
 /// What a source answers.
-#[derive(Clone, Copy, Debug, PartialEq, Eq)]
+#[derive(Clone, Copy, PartialEq, Eq)]
 pub enum NextLen {
     /// A datagram of `len` bytes, now at the front of the buffer, with the underlay's source and the
     /// time in seconds of Unix time. A longer one is cut to the buffer.

@@ -140,14 +140,11 @@ fn tells_what_a_receiver_refuses(rt: HostRuntime) -> Result<(), Fail> {
     let mut config = config(rt.alloc(), Bands::One)?;
     config.processors = 2;
     config.seed = 1;
-    assert_eq!(rt; inspect(&URGENT), None);
-    assert_eq!(rt; processor_or_fault(&config, &URGENT), Ok(1));
-    assert_eq!(rt; inspect(&URGENT[..35]), Some(Cause::Short));
-    assert_eq!(rt;
-        processor_or_fault(&config, &URGENT[..35]),
-        Err(Cause::Short)
-    );
-    assert_eq!(rt; inspect(&[0; TOO_LONG]), Some(Cause::TooLong));
+    assert!(rt; inspect(&URGENT) == None);
+    assert!(rt; processor_or_fault(&config, &URGENT) == Ok(1));
+    assert!(rt; inspect(&URGENT[..35]) == Some(Cause::Short));
+    assert!(rt; processor_or_fault(&config, &URGENT[..35]) == Err(Cause::Short));
+    assert!(rt; inspect(&[0; TOO_LONG]) == Some(Cause::TooLong));
     assert_eq!(rt; (is_urgent(&URGENT), is_urgent(&[0; 36])), (true, false));
     Ok(())
 }
@@ -158,20 +155,14 @@ fn finds_workers_and_pipes(rt: HostRuntime) -> Result<(), Fail> {
     assert_eq!(rt; (slow_seat(&config), seat_count(&config)), (5, 10));
     assert_eq!(rt; link_pipe(&config, true, 3), 13);
     let forwarder = WorkerIndex::named(&config, Worker::Forwarder(7));
-    assert_eq!(rt;
-        (forwarder, forwarder.seat(&config)),
-        (WorkerIndex::Forwarder(2), 8)
-    );
+    assert!(rt; (forwarder, forwarder.seat(&config)) == (WorkerIndex::Forwarder(2), 8));
     assert_eq!(rt;
         (forwarder.is_there(&config), forwarder.is(WorkerIndex::Slow)),
         (true, false)
     );
     let high = QueueIndex::named(&config, Queue::High(2));
     assert_eq!(rt; (high.is_there(&config), high.place(&config)), (true, 9));
-    assert_eq!(rt;
-        (high.consumer(), high.is_out()),
-        (WorkerIndex::Forwarder(1), true)
-    );
+    assert!(rt; (high.consumer(), high.is_out()) == (WorkerIndex::Forwarder(1), true));
     assert_eq!(rt;
         (WorkerIndex::Slow.feeds(high), forwarder.feeds(high)),
         (true, false)

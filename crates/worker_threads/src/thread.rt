@@ -226,7 +226,7 @@ fn work_once_told<N: Ledger, W: Work<N> + Drop, R: Wait + Clock>(
 pub type Handle<N, W> = PromisedHandle<Option<W>, WillEnd<N, W>>;
 
 /// No thread could be made.
-#[derive(Clone, Copy, Debug, PartialEq, Eq)]
+#[derive(Clone, Copy, PartialEq, Eq)]
 pub struct ThreadFault;
 
 /// A thread of the worker's own, which waits for its orders. It takes no memory of the allocator.
