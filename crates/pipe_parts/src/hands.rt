@@ -8,6 +8,7 @@ ghost use Rattle.pipe_parts.specs.Items.{hand_in};
 use crate::item::Item;
 use std::alloc::{AllocError, Global};
 use std::marker::Model;
+use std::mem;
 
 /// What a worker has in hand, if anything.
 #[derive(Drop)]
@@ -88,7 +89,9 @@ impl Hands {
         ensures { self.new ≡ slice_set self.old seat (hand_in hand) }
     {
         if seat < self.seats.len() {
-            self.seats[seat] = Seat { hand };
+            drop(mem::replace(&mut self.seats[seat], Seat { hand }));
+        } else {
+            drop(hand);
         }
     }
 }

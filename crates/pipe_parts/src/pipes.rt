@@ -112,8 +112,9 @@ impl Pipes {
         ensures { self.new ≡ (if is_ok result then slice_set self.old at (pushed (pipe_at self.old at) (worker_of from) (item_in item)) else self.old) }
     {
         if at < self.items.len() {
-            self.items[at].push(from, item)?;
+            return self.items[at].push(from, item);
         }
+        drop(item);
         Ok(())
     }
 

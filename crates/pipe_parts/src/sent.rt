@@ -127,8 +127,9 @@ impl Sent {
         ensures { self.new ≡ (if is_ok result then slice_set self.old link (slice_index_or self.old link [] ++ outgoing_in out ∷ []) else self.old) }
     {
         if link < self.links.len() {
-            self.links[link].push(out)?;
+            return self.links[link].push(out);
         }
+        drop(out);
         Ok(())
     }
 }
