@@ -1,6 +1,6 @@
 //! The command line.
 ghost use Rattle.std.specs.Prelude.{◌≡◌, ◌≢◌, ◌≤◌, ℕ, List, Option, Some, codes, map, option_map, string_bytes, false, IfErr, IfNone, IfOk, IfSome};
-ghost use Rattle.clap.specs.Simple.{app_of, subcommand_rows_of, with_subcommand};
+ghost use Rattle.clap.specs.Simple.{app_of, subcommand_rows_of, with_rule, with_subcommand};
 ghost use Rattle.clap.specs.Values.{kind_of};
 ghost use Rattle.clap.specs.Matches.{found_of};
 ghost use Rattle.clap.specs.Walk.{first_of, rows_of, rule_of};
@@ -22,6 +22,14 @@ const LAST_SECOND: u64 = 1099511627775;
 
 /// The help of `--config`.
 const CONFIG_HELP: &str = "The border router's configuration, as TOML";
+
+/// The help of the other options of `route`.
+const LINK_HELP: &str = "The link on which the datagrams arrive; 0 is the internal network";
+
+const NOW_HELP: &str = "When they arrive, in seconds since 1970";
+
+const FROM_HELP: &str =
+    "The underlay's source, as 1.2.3.4:5 or [a:b:c:d:e:f:0:1]:5; else the link's remote end";
 
 /// The help of the commands that take a configuration alone.
 const REPLAY_ABOUT: &str =
@@ -127,31 +135,27 @@ fn offered<'a>(alloc: Global, name: &'a str, value: &'a str, help: &'a str) -> A
         .action(ArgAction::Set)
 }
 
+/// The command with an option more.
+fn with_option<'a>(command: Command<'a>, option: Arg<'a>) -> Result<Command<'a>, AllocError>
+    requires { option.global ≡ false }
+    ensures app { IfOk result (λ r. app_of r ≡ with_rule (app_of command.entry) (rule_of option.entry)) }
+    ensures own { IfOk result (λ r. (fields_of command.entry).has_globals ≡ false → (fields_of r).has_globals ≡ false) }
+{
+    command.arg(option)
+}
+
 /// The words of `route`.
 fn route_grammar<'a>(alloc: Global) -> Result<Command<'a>, AllocError>
     ensures app { IfOk result (λ command. app_of command ≡ route) }
     ensures own { IfOk result (λ command. (fields_of command).has_globals ≡ false) }
 {
-    let config = wanted(alloc, "config", "FILE", CONFIG_HELP);
-    let link = wanted(
-        alloc,
-        "link",
-        "N",
-        "The link on which the datagrams arrive; 0 is the internal network",
+    let command = Command::new(alloc, "route").about(
+        "Answers each line of hex on the standard input, a datagram, by one line",
     );
-    let now = wanted(alloc, "now", "S", "When they arrive, in seconds since 1970");
-    let from = offered(
-        alloc,
-        "from",
-        "ADDR",
-        "The underlay's source, as 1.2.3.4:5 or [a:b:c:d:e:f:0:1]:5; else the link's remote end",
-    );
-    Command::new(alloc, "route")
-        .about("Answers each line of hex on the standard input, a datagram, by one line")
-        .arg(config)?
-        .arg(link)?
-        .arg(now)?
-        .arg(from)
+    let command = with_option(command, wanted(alloc, "config", "FILE", CONFIG_HELP))?;
+    let command = with_option(command, wanted(alloc, "link", "N", LINK_HELP))?;
+    let command = with_option(command, wanted(alloc, "now", "S", NOW_HELP))?;
+    with_option(command, offered(alloc, "from", "ADDR", FROM_HELP))
 }
 
 /// The words of an order that takes a configuration alone.
@@ -180,17 +184,24 @@ fn with_alone<'a>(
     program.subcommand(order)
 }
 
+/// The words of a program with `route` more.
+fn with_route<'a>(alloc: Global, program: Command<'a>) -> Result<Command<'a>, AllocError>
+    ensures { IfOk result (λ command. app_of command ≡ with_subcommand (app_of program.entry) route.top) }
+{
+    let order = route_grammar(alloc)?;
+    program.subcommand(order)
+}
+
 /// The words that the program takes.
 fn grammar<'a>(alloc: Global) -> Result<Command<'a>, AllocError>
     ensures { IfOk result (λ command. app_of command ≡ router) }
 {
-    let route = route_grammar(alloc)?;
     let program = Command::new(alloc, "router")
         .about("A SCION border router")
         .version("0.1.0")
         .no_binary_name(true)
-        .subcommand_required(true)
-        .subcommand(route)?;
+        .subcommand_required(true);
+    let program = with_route(alloc, program)?;
     let program = with_alone(alloc, program, "replay", REPLAY_ABOUT)?;
     let program = with_alone(alloc, program, "run", RUN_ABOUT)?;
     with_alone(alloc, program, "check", CHECK_ABOUT)
@@ -281,6 +292,32 @@ fn order_of<'a>(matches: &ArgMatches<'a>) -> Option<Order<'a>>
     None
 }
 
+/// Why options that the grammar takes give no order.
+fn wrong_value(command: &mut Command<'_>) -> WordsFault {
+    let message =
+        "N is a decimal number up to 65535, S one up to 1099511627775, and ADDR an address and port";
+    match command.error(ErrorKind::ValueValidation, message) {
+        Ok(error) => fault_of(error),
+        Err(_) => WordsFault::Memory,
+    }
+}
+
+/// The order that the words give by the program's grammar.
+fn parse<'a>(command: &mut Command<'a>, words: &'a [String]) -> Result<Order<'a>, WordsFault>
+    requires { app_of command.old ≡ router }
+    ensures order { IfOk result (λ order. Orders (map string_bytes words.now) (asked_of order)) }
+    ensures fault { IfErr result (λ fault. (asked : Asked) → Orders (map string_bytes words.now) asked → fault ≡ Memory) }
+{
+    let matches = match command.try_get_matches_from_mut(words) {
+        Ok(matches) => matches,
+        Err(error) => return Err(fault_of(error)),
+    };
+    match order_of(&matches) {
+        Some(order) => Ok(order),
+        None => Err(wrong_value(command)),
+    }
+}
+
 /// The order that the words after the program's name give.
 ///
 /// Each option is named once, by `--name VALUE` or `--name=VALUE`. Numbers are plain decimals:
@@ -290,19 +327,7 @@ pub fn read_words<'a>(alloc: Global, words: &'a [String]) -> Result<Order<'a>, W
     ensures fault { IfErr result (λ fault. (asked : Asked) → Orders (map string_bytes words.now) asked → fault ≡ Memory) }
 {
     let mut command = grammar(alloc)?;
-    let matches = match command.try_get_matches_from_mut(words) {
-        Ok(matches) => matches,
-        Err(error) => return Err(fault_of(error)),
-    };
-    match order_of(&matches) {
-        Some(order) => Ok(order),
-        None => {
-            let message =
-                "N is a decimal number up to 65535, S one up to 1099511627775, and ADDR an address and port";
-            match command.error(ErrorKind::ValueValidation, message) {
-                Ok(error) => Err(fault_of(error)),
-                Err(_) => Err(WordsFault::Memory),
-            }
-        }
-    }
+    let order = parse(&mut command, words);
+    drop(command);
+    order
 }
