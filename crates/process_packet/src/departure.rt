@@ -6,7 +6,7 @@ use crate::underlay::Underlay;
 use path_fields::{set_cursor, set_seg_id};
 
 /// How a packet leaves: by which link, and what changes in its path.
-#[derive(Clone, Copy, PartialEq, Eq)]
+#[derive(Clone, Copy)]
 pub(crate) struct Departure {
     pub link: u16,
     pub to: Option<Underlay>,

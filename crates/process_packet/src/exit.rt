@@ -4,7 +4,7 @@ use crate::underlay::Underlay;
 use segment_switch::LinkKind;
 
 /// The way out of the AS by an interface, with the kind of its link.
-#[derive(Clone, Copy, PartialEq, Eq)]
+#[derive(Clone, Copy)]
 pub(crate) enum Exit {
     /// A link of this router.
     Own(LinkKind),

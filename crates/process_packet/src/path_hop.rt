@@ -5,7 +5,7 @@ ghost use Rattle.std.specs.Prelude.{◌≡◌, ◌<◌, ◌≤◌, slice_index};
 use path_fields::{Hop, Info, Meta, read_hop, read_info};
 
 /// A hop of a path: its place, its hop field and the info field of its segment.
-#[derive(Clone, Copy, PartialEq, Eq)]
+#[derive(Clone, Copy)]
 pub(crate) struct PathHop {
     /// Its segment.
     pub segment: usize,

@@ -12,7 +12,7 @@ use path_fields::PathFault;
 use scion_header::HeaderFault;
 
 /// How a row ends the decision if the packet isn't sent.
-#[derive(Clone, Copy, PartialEq, Eq)]
+#[derive(Clone, Copy)]
 pub(crate) enum Refusal {
     /// The sender is told.
     Answer(Problem),

@@ -14,7 +14,7 @@ use toml::Table;
 use toml::value::Array;
 
 /// The version of a configuration's format: the second one tells the bands of each link.
-#[derive(Clone, Copy, PartialEq, Eq)]
+#[derive(Clone, Copy)]
 pub(crate) enum Version {
     First,
     Second,

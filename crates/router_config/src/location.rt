@@ -18,7 +18,7 @@ use toml::value::Array;
 use toml::{Table, Value};
 
 /// A key of a configuration, or of a member of one of its lists.
-#[derive(Clone, Copy, PartialEq, Eq)]
+#[derive(Clone, Copy)]
 pub(crate) enum Key {
     Version,
     IsdAs,
@@ -43,7 +43,7 @@ pub(crate) enum Key {
 }
 
 /// Where a value is.
-#[derive(Clone, Copy, PartialEq, Eq)]
+#[derive(Clone, Copy)]
 pub(crate) enum Location {
     /// At a key of the configuration.
     Value(Key),
