@@ -1,5 +1,5 @@
 -- A worker made of what is next of each list.
-use Rattle.std.proofs.Common.{◌≡◌, ℕ, zero, suc, ◌+◌, List, [], ◌∷◌, ◌++◌, length, Some, slice_get, sym, ◌∙◌, ap, subst, arith, length-append}
+use Rattle.std.proofs.Common.{◌≡◌, ℕ, zero, suc, ◌+◌, List, [], ◌∷◌, ◌++◌, length, Some, slice_get, sym, ◌∙◌, ap, subst, arith, append-nil, length-append}
 use Rattle.packet_ledger.specs.Share.{Held, new_share}
 use Rattle.pipeline_laws.specs.Deeds.{Each}
 use Rattle.pipeline_laws.specs.Item.{Arrival, Outgoing}
@@ -75,6 +75,22 @@ module _ {X : Type 0} where
   -- the same rest, by other names
   pub rest_as : (P : ℕ → X → Type 0) (n a b : ℕ) (xs ys : List X) → xs ≡ ys → a ≡ b → IsRest P n b ys → IsRest P n a xs
   rest_as P n a b xs ys same total r = record { each = subst (λ (zs : List X). AllAt P n zs) (sym same) r.each; count = let l = ap length same in let c = r.count in omega arith }
+
+  -- all that was taken, once as many were as there are
+  pub rest_ends : (P : ℕ → X → Type 0) (k n a b : ℕ) (xs : List X) → k ≡ n → a ≡ b → IsRest P k a xs → IsRest P n b xs
+  rest_ends P k n a b xs same total r = subst (λ (j : ℕ). IsRest P j b xs) same (subst (λ (t : ℕ). IsRest P k t xs) total r)
+
+  pub all_made : (P : ℕ → X → Type 0) (k n : ℕ) (xs : List X) → k ≡ n → length xs ≡ k → AllAt P 0 xs → IsRest P 0 n xs
+  all_made P k n xs same long all = record { each = all; count = let e = long ∙ same in omega arith }
+
+-- what two lists make by turns, after what was made already: at first, and once nothing is left
+module _ {X Y Z : Type 0} (f : List X → List Y → List Z) where
+  pub paired_first : (room : List Z) (xs us : List X) (ys vs : List Y) → room ≡ [] → xs ≡ us → ys ≡ vs → room ++ f xs ys ≡ f us vs
+  paired_first room xs us ys vs a b d = ap (λ (zs : List Z). zs ++ f xs ys) a ∙ (ap (λ (ws : List X). f ws ys) b ∙ ap (λ (ws : List Y). f us ws) d)
+
+  pub paired_last : ((ys : List Y) → f [] ys ≡ []) → (made : List Z) (xs : List X) (ys : List Y) (all : List Z) → length xs ≡ 0 → made ++ f xs ys ≡ all → made ≡ all
+  paired_last none made [] ys all long is = sym (append-nil made) ∙ (ap (λ (zs : List Z). made ++ zs) (sym (none ys)) ∙ is)
+  paired_last none made (x ∷ xs) ys all long is = absurd (omega arith)
 
 pub long_as : (k l n a b : ℕ) (xs : List (Row (Unit {0}))) → k ≡ l → a ≡ b → IsRest (IsLong l) n (b + l) xs → IsRest (IsLong k) n (a + k) xs
 long_as k l n a b xs same total r = record { each = subst (λ (j : ℕ). AllAt (IsLong j) n xs) (sym same) r.each; count = let c = r.count in omega arith }

@@ -1,9 +1,10 @@
-use Rattle.std.proofs.Common.{ℕ, ◌+◌, length, refl, sym, ◌∙◌, ap}
+use Rattle.std.proofs.Common.{◌≡◌, ◌≤◌, ℕ, ◌+◌, length, refl, sym, ◌∙◌, ap, subst, arith}
 use Rattle.std.specs.Arc.{arc_value}
 use Rattle.router_rules.specs.Links.{link_count}
 use Rattle.router_rules.specs.declared.shared.Shared.{Shared}
+use Rattle.wired_workers.specs.Rest.{HaveGone}
 use Rattle.wired_workers.proofs.Fresh.{takers_are}
-use Rattle.wired_workers.proofs.Making.{all_none, all_pushed, bundle_long, long_as, none_gone, one_gone, pushed_long, rest_as, taker_new, working_there}
+use Rattle.wired_workers.proofs.Making.{all_made, all_none, all_pushed, bundle_long, long_as, none_gone, one_gone, pushed_long, rest_as, rest_ends, taker_new, working_there}
 use Rattle.wired_workers.proofs.RestLemmas.{rest_first, rest_next}
 use Rattle.wired_workers.proofs.middle.processors_of.Goals as goal
 
@@ -51,3 +52,32 @@ loop-index-preserved g c =
       free = rest_next _ _ _ _ _ _ c.next-back.ensures at.free;
       shares = one_gone _ _ _ _ _ c.next-share.ensures at.shares;
     }
+
+-- all have been made
+all_taken : (k count n : ℕ) → k ≤ count → count ≤ k → count ≡ n → k ≡ n
+all_taken k count n a b e = omega arith
+
+pub returns-clause-links : goal.returns-clause-links
+returns-clause-links g c =
+    let e = c.from-count.ensures ∙ ap (λ (s : Shared). s.config.processors) c.deref-2.ensures in
+    let n = all_taken c.loop-index.index _ _ c.loop-index.auto.index-end c.loop-index-test.false e in
+    rest_ends _ _ _ _ _ _ n (ap (λ (k : ℕ). k + 2) e) c.loop-index.invariant.links
+
+pub returns-clause-free : goal.returns-clause-free
+returns-clause-free g c =
+    let e = c.from-count.ensures ∙ ap (λ (s : Shared). s.config.processors) c.deref-2.ensures in
+    let l = c.link_count-producers.ensures.count ∙ ap (λ (s : Shared). link_count s.config) c.deref.ensures in
+    let n = all_taken c.loop-index.index _ _ c.loop-index.auto.index-end c.loop-index-test.false e in
+    rest_ends _ _ _ _ _ _ n refl (long_as _ _ _ _ _ _ (sym l) (sym (ap (λ (k : ℕ). k + 1) e)) c.loop-index.invariant.free)
+
+pub returns-clause-shares : goal.returns-clause-shares
+returns-clause-shares g c =
+    let e = c.from-count.ensures ∙ ap (λ (s : Shared). s.config.processors) c.deref-2.ensures in
+    let n = all_taken c.loop-index.index _ _ c.loop-index.auto.index-end c.loop-index-test.false e in
+    subst (λ (k : ℕ). HaveGone k c.args.shares.now c.loop-index.shares) n c.loop-index.invariant.shares
+
+pub returns-clause-made : goal.returns-clause-made
+returns-clause-made g c =
+    let e = c.from-count.ensures ∙ ap (λ (s : Shared). s.config.processors) c.deref-2.ensures in
+    let n = all_taken c.loop-index.index _ _ c.loop-index.auto.index-end c.loop-index-test.false e in
+    all_made _ _ _ _ n c.loop-index.invariant.count.0 c.loop-index.invariant.made
