@@ -1,2 +1,3 @@
 pub mod KeptLemmas
 pub mod SentLemmas
+mod Counted
