@@ -39,10 +39,16 @@ struct Pace {
     turns: u32,
     // Turns that did something since it last waited, up to the number at which a thread gathers.
     items: u32,
+    // How many such turns more are each followed by a wait at once.
+    alone: u32,
 }
 
 // After this many turns in a row that did something, a thread naps once before it sleeps.
 const SEVERAL: u32 = 2;
+
+// After a wait that one turn alone did something after, so many such turns are each followed by a wait at
+// once: where packets come one by one, a turn between would find nothing.
+const ALONE: u32 = 15;
 
 impl Pace {
     fn new() -> Pace {
@@ -50,6 +56,7 @@ impl Pace {
             idle: Idle::new(),
             turns: 0,
             items: 0,
+            alone: 0,
         }
     }
 
@@ -71,8 +78,19 @@ impl Pace {
     // gather costs less than a sleep for each.
     fn gathers(&mut self) -> bool {
         let several = self.items >= SEVERAL;
+        self.alone = if self.items == 1 { ALONE } else { 0 };
         self.items = 0;
         several
+    }
+
+    // Whether a wait is to follow at once.
+    fn waits_at_once(&mut self) -> bool {
+        if self.alone == 0 {
+            return false;
+        }
+        self.alone -= 1;
+        self.items = 0;
+        true
     }
 }
 
@@ -170,7 +188,12 @@ fn advance<N: Ledger, W: Work<N>, R: Wait + Clock>(
     ensures ended { result ≡ true → W.has_ended worker.new × W.is_posted worker.new }
 {
     match attempt(worker, &orders.book, pace) {
-        Turn::Did => false,
+        Turn::Did => {
+            if orders.event.is_none() && pace.waits_at_once() {
+                let _ = worker.wait();
+            }
+            false
+        }
         Turn::Quiet => pause(rt, worker, orders, pace),
         Turn::Ended => true,
     }
