@@ -111,6 +111,12 @@ MINUTES ?= 1
 soak: bin/router
 	MINUTES=$(MINUTES) tests/soak/run.sh
 
+.PHONY: gate-times
+
+# The gate, from nothing, with the processor time of each crate's proof, tests and wrong bodies; it needs python3 too.
+gate-times:
+	tests/gate/times.py --anew
+
 .PHONY: pictures
 
 # Draws the pictures of docs/ from their sources and from crates.txt; it needs python3 and Graphviz's dot too.
