@@ -9,7 +9,7 @@
 mod message;
 mod packet;
 
-use crate::message::{SCMP, UDP, reply_of, request};
+use crate::message::{Reply, SCMP, UDP, reply_of, request};
 use crate::packet::{Asked, End, Place, Segment, datagram, segment_over};
 use process_packet::{Config, Ip, Underlay};
 use router_config::{read_config, read_underlay};
@@ -99,18 +99,6 @@ fn sockets_at<R: Net>(
     Ok((near, far))
 }
 
-/// The two hosts with their sockets, the way into the network, and the segments between them.
-#[derive(Drop)]
-struct Probe {
-    from: Place,
-    to: Place,
-    entry: SocketAddr,
-    near: UdpSocket,
-    far: UdpSocket,
-    up: Segment,
-    down: Segment,
-}
-
 /// A host of a router's AS.
 fn place_of(router: &Router, host: [u8; 4]) -> io::Result<Place> {
     if router.autonomous_system >= 1 << 48 {
@@ -174,17 +162,43 @@ fn routers_at<R: Files + AllocGlobal>(
     })
 }
 
-/// The places of the two hosts, and the way into the network.
-fn places_of(
-    routers: &Routers,
-    from: [u8; 4],
-    to: [u8; 4],
-) -> io::Result<(Place, Place, SocketAddr)> {
-    Ok((
-        place_of(&routers.first, from)?,
-        place_of(&routers.last, to)?,
-        entry_of(&routers.first)?,
-    ))
+/// The places of the two hosts, the way into the network, and the segments between them.
+#[derive(Clone, Copy)]
+struct Plan {
+    from: Place,
+    to: Place,
+    entry: SocketAddr,
+    up: Segment,
+    down: Segment,
+}
+
+/// The path over these routers, beaconed now, between two hosts.
+fn plan_of(routers: Routers, from: [u8; 4], to: [u8; 4], now: u32) -> io::Result<Plan> {
+    let Routers {
+        first,
+        entering,
+        leaving,
+        last,
+    } = routers;
+    let entry = entry_of(&first);
+    let (from, to) = (place_of(&first, from), place_of(&last, to));
+    let up = segment_over(entering.end, first.end, 0x1234, now);
+    let down = segment_over(leaving.end, last.end, 0x5678, now);
+    Ok(Plan {
+        from: from?,
+        to: to?,
+        entry: entry?,
+        up,
+        down,
+    })
+}
+
+/// A path between two hosts, with their sockets.
+#[derive(Drop)]
+struct Probe {
+    plan: Plan,
+    near: UdpSocket,
+    far: UdpSocket,
 }
 
 /// The probe that the words ask for.
@@ -201,17 +215,21 @@ fn probe_of<R: Files + Net + Clock + AllocGlobal>(rt: &R, words: &[String]) -> i
         leaving.as_str(),
         last.as_str(),
     )?;
-    let (from, to, entry) = places_of(&routers, near.0, far.0)?;
+    let plan = plan_of(routers, near.0, far.0, now)?;
     let (near, far) = sockets_at(rt, near, far)?;
-    Ok(Probe {
-        from,
-        to,
-        entry,
-        near,
-        far,
-        up: segment_over(routers.entering.end, routers.first.end, 0x1234, now),
-        down: segment_over(routers.leaving.end, routers.last.end, 0x5678, now),
-    })
+    Ok(Probe { plan, near, far })
+}
+
+/// Prints what a router answered, and after how long.
+fn print_reply<R: Print>(rt: &R, sequence: u8, reply: Reply, micros: u128) -> io::Result<()> {
+    let high = reply.autonomous_system >> 32;
+    let middle = (reply.autonomous_system >> 16) & 0xffff;
+    let low = reply.autonomous_system & 0xffff;
+    let isd = reply.isd;
+    let interface = reply.interface;
+    println!(rt;
+        "{sequence} {isd}-{high:x}:{middle:x}:{low:x} interface {interface}, after {micros} us"
+    )
 }
 
 impl Probe {
@@ -219,13 +237,13 @@ impl Probe {
     fn send(&self, alloc: Global, asked: Asked, protocol: u8, payload: &[u8]) -> io::Result<()> {
         let bytes = datagram(
             alloc,
-            (&self.from, &self.to),
-            (&self.up, &self.down),
+            (&self.plan.from, &self.plan.to),
+            (&self.plan.up, &self.plan.down),
             asked,
             protocol,
             payload,
         )?;
-        self.near.send_to(bytes.as_slice(), self.entry)?;
+        self.near.send_to(bytes.as_slice(), self.plan.entry)?;
         Ok(())
     }
 
@@ -256,17 +274,10 @@ impl Probe {
         let mut room = [0u8; 1500];
         let (len, _) = self.near.recv_from(&mut room)?;
         let micros = start.elapsed(rt)?.as_micros();
-        let Some(reply) = reply_of(&room[..len]) else {
-            return Err(refused("another answer"));
-        };
-        let high = reply.autonomous_system >> 32;
-        let middle = (reply.autonomous_system >> 16) & 0xffff;
-        let low = reply.autonomous_system & 0xffff;
-        let isd = reply.isd;
-        let interface = reply.interface;
-        println!(rt;
-            "{sequence} {isd}-{high:x}:{middle:x}:{low:x} interface {interface}, after {micros} us"
-        )
+        match reply_of(&room[..len]) {
+            Some(reply) => print_reply(rt, sequence, reply, micros),
+            None => Err(refused("another answer")),
+        }
     }
 
     /// Sends one packet, and then asks the router at each interface of the path.
@@ -288,19 +299,27 @@ fn words_of<R: Env + AllocGlobal>(rt: &R) -> io::Result<Vec<String>> {
     Ok(words)
 }
 
-/// Tries the path that the words ask for.
-fn try_path<R>(rt: &R) -> io::Result<()>
+/// Tries the path that these words ask for.
+fn try_words<R>(rt: &R, words: &[String]) -> io::Result<()>
 where
-    R: Env + Files + Net + Clock + Print + AllocGlobal,
+    R: Files + Net + Clock + Print + AllocGlobal,
 {
-    let words = words_of(rt)?;
     if words.len() == 1 && words[0].as_str() == "--help" {
         return println!(rt;
             "path_probe FROM TO FIRST CORE CORE LAST: tries the path between two hosts"
         );
     }
-    let probe = probe_of(rt, words.as_slice())?;
+    let probe = probe_of(rt, words)?;
     probe.try_all(rt)
+}
+
+/// Tries the path that the words after the program's name ask for.
+fn try_path<R>(rt: &R) -> io::Result<()>
+where
+    R: Env + Files + Net + Clock + Print + AllocGlobal,
+{
+    let words = words_of(rt)?;
+    try_words(rt, words.as_slice())
 }
 
 fn main(rt: HostRuntime) -> ExitCode {
