@@ -1,18 +1,34 @@
 //! A bundle in a worker's hands, and as it comes back.
 
-ghost use Rattle.std.specs.Prelude.{◌≡◌, ◌≤◌, [], ℕ, List, IfOk, length};
+ghost use Rattle.std.specs.Prelude.{◌≡◌, ◌≤◌, ◌<◌, [], ℕ, List, IfOk, length};
 ghost use Rattle.router_ends.specs.Handing.{AreMarked, NeverClosed};
 ghost use Rattle.router_ends.specs.Rows.{AreEndsOf, IsBundle, fresh_ends};
 ghost use Rattle.ruled_pipe.specs.Pipe.{Shape};
 ghost use Rattle.stage_parts.specs.Outlets.{AreFresh, senders};
 
 use crate::ends::Ends;
-use stage_parts::Outlet;
+use stage_parts::{Event, Outlet};
 use std::alloc::{AllocError, Global};
+use std::sync::Arc;
 
-/// A bundle of new ends, as a worker has it that ends its pipes.
-pub fn outlets<T: Drop>(alloc: Global, bundle: Ends<T>) -> Result<Vec<Outlet<T>>, AllocError>
-    requires { IsBundle bundle.ends }
+// The event of a number, for one end more; none where there is no such event.
+fn event_at(events: &[Event], number: usize) -> Result<Option<Event>, AllocError> {
+    match events.get(number) {
+        Some(event) => Ok(Some(Arc::try_clone(event)?)),
+        None => Ok(None),
+    }
+}
+
+/// A bundle of new ends, as a worker has it that ends its pipes. Each notifies the event of its pipe's
+/// consumer, where each consumer has this number of pipes.
+pub fn outlets<T: Drop>(
+    alloc: Global,
+    bundle: Ends<T>,
+    events: &[Event],
+    pipes: usize,
+) -> Result<Vec<Outlet<T>>, AllocError>
+    requires bundle { IsBundle bundle.ends }
+    requires pipes { 0 < pipes }
     ensures same { IfOk result (λ o. senders o.items ≡ bundle.ends) }
     ensures fresh { IfOk result (λ o. AreFresh o.items) }
     ensures ends { IfOk result (λ o. (p : ℕ) (shapes : List Shape) → bundle.ends ≡ fresh_ends p shapes → AreEndsOf p shapes (senders o.items)) }
@@ -20,7 +36,8 @@ pub fn outlets<T: Drop>(alloc: Global, bundle: Ends<T>) -> Result<Vec<Outlet<T>>
     let items = bundle.into_items();
     let mut outlets = Vec::with_capacity(alloc, items.len())?;
     for end in items {
-        outlets.push_reserved(Outlet::of(end));
+        let event = event_at(events, outlets.len() / pipes)?;
+        outlets.push_reserved(Outlet::of(end, event));
     }
     Ok(outlets)
 }

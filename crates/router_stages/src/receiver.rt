@@ -140,7 +140,8 @@ impl<N: Router, R: Wait + Copy, S: Source> Receiver<N, R, S> {
 
     /// Waits as its source does, before its end, and says whether it waited.
     pub fn wait(&mut self) -> bool
-        ensures { Waited S.told S.failed self.old self.new }
+        ensures same { Waited S.told S.failed self.old self.new }
+        ensures waits { result ≡ true → S.waits self.old.source ≡ true }
     {
         if self.ended {
             return false;

@@ -1,6 +1,6 @@
 //! Devices and a gate that wait for their cues.
 
-ghost use Rattle.std.specs.Prelude.{◌≡◌, ◌+◌, ◌-◌, ◌^◌, ◌<◌, None, is_ok, if◌then◌else◌, length};
+ghost use Rattle.std.specs.Prelude.{◌≡◌, ◌+◌, ◌-◌, ◌^◌, ◌<◌, None, false, is_ok, if◌then◌else◌, length};
 ghost use Rattle.stage_laws.specs.Forwards.{AddsTo};
 ghost use Rattle.stage_parts.specs.Heard.{failures_of, fits, heard};
 ghost use Rattle.stage_parts.specs.Told.{telling};
@@ -40,6 +40,8 @@ impl Source for CuedSource {
     ghost told = { λ s. None };
 
     ghost failed = { λ s. 0 };
+
+    ghost waits = { λ s. false };
 
     fn next_into(&mut self, buffer: &mut [u8]) -> NextLen {
         if self.given > 0 {

@@ -1,6 +1,6 @@
 //! Sources and sinks that keep nothing of what they are asked for.
 
-ghost use Rattle.std.specs.Prelude.{◌≡◌, ◌+◌, ◌-◌, ◌^◌, ◌<◌, None, is_ok, if◌then◌else◌, length};
+ghost use Rattle.std.specs.Prelude.{◌≡◌, ◌+◌, ◌-◌, ◌^◌, ◌<◌, None, false, is_ok, if◌then◌else◌, length};
 ghost use Rattle.stage_laws.specs.Forwards.{AddsTo};
 ghost use Rattle.stage_parts.specs.Heard.{failures_of, fits, heard};
 ghost use Rattle.stage_parts.specs.Told.{telling};
@@ -43,6 +43,8 @@ impl Source for Paced {
     ghost told = { λ s. None };
 
     ghost failed = { λ s. 0 };
+
+    ghost waits = { λ s. false };
 
     fn next_into(&mut self, buffer: &mut [u8]) -> NextLen {
         self.asked = true;
@@ -116,6 +118,8 @@ impl Source for Failing {
     ghost told = { λ s. None };
 
     ghost failed = { λ s. s.failed };
+
+    ghost waits = { λ s. false };
 
     fn next_into(&mut self, buffer: &mut [u8]) -> NextLen {
         let _ = buffer;

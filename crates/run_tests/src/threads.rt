@@ -1,7 +1,8 @@
 //! Small workers, in threads, to their ends.
 
-ghost use Rattle.std.specs.Prelude.{◌≡◌, ◌≤◌, [], IfOk, length, vec_capacity};
+ghost use Rattle.std.specs.Prelude.{◌≡◌, ◌≤◌, [], IfOk, false, length, vec_capacity};
 
+use crossbeam_utils::sync::EventCount;
 use packet_ledger::{Blank, Book, Ledger, Share};
 use router_stages::Turn;
 use ruled_pipe::{Load, Pipe};
@@ -36,6 +37,8 @@ impl<L: Ledger, R: Wait> Work<L> for Countdown<L, R> {
     ghost has_ended = { λ a. a.left ≡ 0 };
 
     ghost is_posted = { λ a. Unit {0} };
+
+    ghost waits = { λ a. false };
 
     fn has_room(&self) -> bool {
         self.share.has_room()
@@ -233,6 +236,8 @@ impl<L: Ledger, R: Wait> Work<L> for Feeder<R> {
 
     ghost is_posted = { λ a. Unit {0} };
 
+    ghost waits = { λ a. false };
+
     fn has_room(&self) -> bool {
         true
     }
@@ -280,6 +285,8 @@ impl<L: Ledger, R: Wait> Work<L> for Drain<R> {
     ghost has_ended = { λ a. Unit {0} };
 
     ghost is_posted = { λ a. Unit {0} };
+
+    ghost waits = { λ a. false };
 
     fn has_room(&self) -> bool {
         true
@@ -348,8 +355,7 @@ fn at_both_ends<R: Wait + Copy>(
     let Some(end) = ends.pop() else {
         return Ok(None);
     };
-    let mut to = Outlet::of(end);
-    to.set_event(event);
+    let to = Outlet::of(end, Some(event));
     let feeder = Feeder {
         rt,
         to,
@@ -408,8 +414,8 @@ where
     requires none { L.workers ≡ 0 }
 {
     let orders = orders_of::<L>(alloc, blank)?;
-    let event = Event::new(alloc)?;
-    let Some((feeder, drain)) = at_both_ends(rt, alloc, event.another()?)? else {
+    let event = Arc::new(alloc, EventCount::new())?;
+    let Some((feeder, drain)) = at_both_ends(rt, alloc, Arc::try_clone(&event)?)? else {
         return Ok(0);
     };
     let first = alone(alloc, feeder, orders.another()?)?;

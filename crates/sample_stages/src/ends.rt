@@ -46,7 +46,7 @@ pub fn next_outlet<T: Drop>(ends: &mut Vec<Producer<T>>) -> Outlet<T>
     ensures rest { All IsNew ends.new.items }
     ensures fewer { length ends.new.items + 1 ≡ length ends.old.items }
 {
-    Outlet::of(next_producer(ends))
+    Outlet::of(next_producer(ends), None)
 }
 
 /// The next new counts.

@@ -1,7 +1,5 @@
 //! Memory for one datagram.
 
-ghost use Rattle.std.specs.Prelude.{◌≡◌, length};
-
 use process_packet::{Ip, Underlay};
 use std::alloc::{AllocError, Global};
 use std::marker::Model;
@@ -65,12 +63,5 @@ impl Buffer {
         };
         let storage = Box::new(alloc, storage)?;
         Ok(Buffer { storage })
-    }
-
-    // The buffer of this storage.
-    pub(crate) fn of(storage: Box<Storage>) -> Buffer
-        requires { length storage.value.bytes.items ≡ 9217 }
-    {
-        Buffer { storage }
     }
 }

@@ -83,6 +83,6 @@ impl<N: Router> EgressPacket<N> {
     /// Its buffer, which is free again.
     pub fn into_buffer(self) -> Buffer {
         let EgressPacket { storage, of: _ } = self;
-        Buffer::of(storage)
+        Buffer { storage }
     }
 }

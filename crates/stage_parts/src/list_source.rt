@@ -1,6 +1,6 @@
 //! A source over a list.
 
-ghost use Rattle.std.specs.Prelude.{◌≡◌, ◌+◌, ◌-◌, ◌^◌, ◌<◌, [], ◌∷◌, ℕ, List, Option, Some, length, map};
+ghost use Rattle.std.specs.Prelude.{◌≡◌, ◌+◌, ◌-◌, ◌^◌, ◌<◌, [], ◌∷◌, ℕ, List, Option, Some, false, length, map};
 ghost use Rattle.stage_laws.specs.Forwards.{AddsTo};
 ghost use Rattle.stage_parts.specs.Heard.{failures_of, fits, heard};
 ghost use Rattle.stage_parts.specs.ListSource.{Gives, heard_of};
@@ -99,6 +99,8 @@ impl Source for ListSource {
     ghost told = { λ s. s.told };
 
     ghost failed = { λ s. s.failed };
+
+    ghost waits = { λ s. false };
 
     fn next_into(&mut self, buffer: &mut [u8]) -> NextLen
         requires failures { self.old.failed < 2 ^ 64 - 1 }

@@ -28,23 +28,17 @@ impl<T> Model for Outlet<T> {
 }
 
 impl<T: Drop> Outlet<T> {
-    /// The end of a producer that pushed nothing yet.
-    pub fn of(producer: Producer<T>) -> Outlet<T>
+    /// The end of a producer that pushed nothing yet, and the event on which its pipe's consumer sleeps, if
+    /// it has one.
+    pub fn of(producer: Producer<T>, event: Option<Event>) -> Outlet<T>
         requires { producer.offers ≡ [] }
         ensures { result ≡ record { sender = producer; ended = false } }
     {
         Outlet {
             producer,
             ended: false,
-            event: None,
+            event,
         }
-    }
-
-    /// From now on a push that is accepted notifies this event.
-    pub fn set_event(&mut self, event: Event)
-        ensures { self.new ≡ self.old }
-    {
-        self.event = Some(event);
     }
 
     /// Whether its end mark is there.

@@ -123,7 +123,7 @@ impl<N: Router> Packet<N> {
     /// Its buffer, which is free again.
     pub fn into_buffer(self) -> Buffer {
         let Packet { storage, of: _ } = self;
-        Buffer::of(storage)
+        Buffer { storage }
     }
 
     /// The packet on its way out by the link of a number, with its bytes as they are.

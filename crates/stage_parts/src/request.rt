@@ -124,7 +124,7 @@ fn answer_packet<N: Router>(
         }
         AnswerLen::Drop(cause) => Err(Withheld {
             cause,
-            buffer: Buffer::of(storage),
+            buffer: Buffer { storage },
         }),
     }
 }

@@ -1,6 +1,6 @@
 //! Where datagrams come from.
 
-ghost use Rattle.std.specs.Prelude.{◌≡◌, ◌+◌, ◌-◌, ◌^◌, ◌<◌, ◌≤◌, ℕ, List, Option, length};
+ghost use Rattle.std.specs.Prelude.{◌≡◌, ◌+◌, ◌-◌, ◌^◌, ◌<◌, ◌≤◌, ℕ, List, Option, length, true};
 ghost use Rattle.stage_laws.specs.Forwards.{AddsTo};
 ghost use Rattle.router_laws.specs.Heard.{Heard};
 ghost use Rattle.stage_parts.specs.Heard.{failures_of, fits, heard};
@@ -27,7 +27,7 @@ pub enum NextLen {
 
 /// A source of datagrams.
 pub trait Source {
-    ghost use Rattle.std.specs.Prelude.{ℕ, List, Option};
+    ghost use Rattle.std.specs.Prelude.{Bool, ℕ, List, Option};
     ghost use Rattle.router_laws.specs.Heard.{Heard};
 
     /// All its answers so far, where it tells them.
@@ -35,6 +35,9 @@ pub trait Source {
 
     /// How often it failed.
     ghost failed: { Self → ℕ };
+
+    /// Whether it can wait in a way of its own.
+    ghost waits: { Self → Bool };
 
     /// Reads a datagram into a buffer of 9,217 bytes.
     fn next_into(&mut self, buffer: &mut [u8]) -> NextLen
@@ -50,6 +53,7 @@ pub trait Source {
     fn wait(&mut self) -> bool
         ensures told { told self.new ≡ told self.old }
         ensures failed { failed self.new ≡ failed self.old }
+        ensures waits { result ≡ true → waits self.old ≡ true }
     {
         false
     }

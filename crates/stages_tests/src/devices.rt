@@ -104,7 +104,7 @@ fn ends_once<R: Wait>(rt: &R, producer: Producer<u32>, consumer: Consumer<u32>) 
     requires producer { producer.offers ≡ [] }
     requires consumer { (consumer.taken ≡ []) × (consumer.producers ≡ 1) }
 {
-    let mut outlet = Outlet::of(producer);
+    let mut outlet = Outlet::of(producer, None);
     let mut inlet = Inlet::of(consumer, 1);
     let one = offers(rt, &mut outlet, 8) && !offers(rt, &mut outlet, 9);
     let two = !outlet.end(rt) && takes(rt, &mut inlet, 8);

@@ -3,4 +3,3 @@ pub mod Fresh
 pub mod Making
 pub mod OkLemmas
 pub mod RestLemmas
-pub mod WakingLemmas

@@ -15,7 +15,7 @@ ghost use Rattle.wired_workers.specs.Kits.{IsEnteringAt, receivings};
 ghost use Rattle.wired_workers.specs.Rest.{AreNewShares, HaveGone, IsRest};
 
 use crate::line::Line;
-use crate::waking::{Events, wake};
+use crate::waking::Events;
 use packet_ledger::Share;
 use router_ends::{Ends, outlets};
 use router_rules::{Shared, link_count};
@@ -107,7 +107,7 @@ fn entering_at<N: Router>(
     ensures config { IfOk result (λ e. (e.config ≡ (arc_value shared.now).config) × (e.link ≡ link)) }
     ensures processors { IfOk result (λ e. (p : ℕ) (shapes : List Shape) → bundle.ends ≡ fresh_ends p shapes → AreEndsOf p shapes (senders e.processors)) }
 {
-    let processors = wake(outlets(alloc, bundle)?, events.processors.as_slice(), 1)?;
+    let processors = outlets(alloc, bundle, events.processors.as_slice(), 1)?;
     let (shared, stop, first) = begun(alloc, shared, stop)?;
     Ok(Entering {
         shared,

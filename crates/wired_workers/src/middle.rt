@@ -14,7 +14,7 @@ ghost use Rattle.wired_workers.specs.Rest.{AreNewShares, HaveGone, IsRest};
 
 use crate::line::Line;
 use crate::pipes::Pipes;
-use crate::waking::{Events, wake};
+use crate::waking::Events;
 use packet_ledger::Share;
 use router_ends::{Ends, outlets};
 use router_rules::{Shared, link_count};
@@ -62,7 +62,7 @@ fn next_ways<N: Router>(
     ensures count { IfOk result (λ w. length w.links ≡ length bundle.ends) }
     ensures free { IfOk result (λ w. w.free ≡ free.ends) }
 {
-    let links = wake(outlets(alloc, bundle)?, events.forwarders.as_slice(), 2)?;
+    let links = outlets(alloc, bundle, events.forwarders.as_slice(), 2)?;
     Ok(Ways {
         links,
         free: free.into_items(),
@@ -80,7 +80,7 @@ fn clones<G: Drop>(
 {
     let shared = Arc::try_clone(shared)?;
     let gate = Arc::try_clone(gate)?;
-    let event = events.slow.another()?;
+    let event = Arc::try_clone(&events.slow)?;
     Ok((shared, gate, event))
 }
 
@@ -106,8 +106,7 @@ fn processor_at<N: Router, G: Gate + Drop, R: Wait + Copy>(
     let (shared, gate, event) = clones(shared, gate, events)?;
     let Ways { links, free, share } = ways;
     let from = Inlet::of(taker, producers);
-    let mut slow = Outlet::of(asking);
-    slow.set_event(event);
+    let slow = Outlet::of(asking, Some(event));
     Ok(Processor::new(rt, shared, index, gate, from, links, slow, free, share))
 }
 

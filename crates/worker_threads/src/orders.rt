@@ -48,7 +48,7 @@ impl<N: Ledger> Orders<N> {
     /// its pushes, marks among them. The worker sleeps on it.
     pub fn another_with(&self, event: &Event) -> Result<Orders<N>, AllocError> {
         let mut orders = self.another()?;
-        orders.event = Some(event.another()?);
+        orders.event = Some(Arc::try_clone(event)?);
         Ok(orders)
     }
 

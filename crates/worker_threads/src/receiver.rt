@@ -21,6 +21,8 @@ impl<N: Router, R: Wait + Copy, S: Source> Work<N> for Receiver<N, R, S> {
 
     ghost is_posted = { λ r. IsDrained r.side.share };
 
+    ghost waits = { λ r. S.waits r.source };
+
     fn has_room(&self) -> bool {
         self.has_room()
     }

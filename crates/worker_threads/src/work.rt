@@ -8,6 +8,8 @@ use router_stages::Turn;
 
 /// A worker that makes turns to its end, and posts into the book `N`.
 pub trait Work<N: Ledger> {
+    ghost use Rattle.std.specs.Prelude.{Bool};
+
     /// What no turn, no wait and no post changes.
     ghost same: { Self → Self → Type 0 };
 
@@ -22,6 +24,9 @@ pub trait Work<N: Ledger> {
 
     /// It holds no counts, or more than the book has room for.
     ghost is_posted: { Self → Type 0 };
+
+    /// Whether it can wait in a way of its own.
+    ghost waits: { Self → Bool };
 
     /// Whether each of its counts can still be raised.
     fn has_room(&self) -> bool
@@ -39,7 +44,8 @@ pub trait Work<N: Ledger> {
     /// Waits until there may be something to do, in a way of its own, and says whether it did. It may
     /// return at any moment.
     fn wait(&mut self) -> bool
-        ensures { same self.old self.new };
+        ensures same { same self.old self.new }
+        ensures waits { result ≡ true → waits self.old ≡ true };
 
     /// Posts its counts, where the book has room.
     fn post(&mut self, book: &Book<N>)

@@ -9,7 +9,7 @@ pub of-requires : goal.of-requires
 of-requires g c =
     let at = c.loop-end in
     let split = ap (λ l. at.yielded ++ l) (sym c.in-Some.ensures.steps.0) ∙ at.invariant.3 ∙ at.invariant.5 in
-    (fresh_one c.args.bundle.ends at.yielded _ c.in-Some.end c.requires split).0
+    (fresh_one c.args.bundle.ends at.yielded _ c.in-Some.end c.requires.bundle split).0
 
 pub loop-end-preserved : goal.loop-end-preserved
 loop-end-preserved g c =
@@ -18,7 +18,7 @@ loop-end-preserved g c =
     let steps = c.in-Some.ensures.steps.0 in
     let split = ap (λ l. at.yielded ++ l) (sym steps) ∙ at.invariant.3 ∙ at.invariant.5 in
     let P : List (Offering g.row.T.Denot) → Type 0 = λ l. (senders l ≡ at.yielded ++ x ∷ []) × AreFresh l in
-    let more = outlets_more at.outlets.items at.yielded x c.of.result at.invariant.0 at.invariant.1 c.of.ensures (fresh_one c.args.bundle.ends at.yielded _ x c.requires split) in
+    let more = outlets_more at.outlets.items at.yielded x c.of.result at.invariant.0 at.invariant.1 c.of.ensures (fresh_one c.args.bundle.ends at.yielded _ x c.requires.bundle split) in
     let here = subst P (sym c.push_reserved.ensures.items) more in (
       here.0,
       here.1,
