@@ -67,31 +67,30 @@ impl<N: Router> Leaving<N> {
 }
 
 fn leaving_at<N: Router>(
-    shared: &Arc<Shared, Global>,
+    shared: Arc<Shared, Global>,
     link: u16,
     producers: usize,
     low: Consumer<EgressPacket<N>>,
     high: Consumer<EgressPacket<N>>,
     free: Ends<Buffer>,
     share: Share<N>,
-) -> Result<Leaving<N>, AllocError>
-    requires config { N.config ≡ Some (arc_value shared.now).config }
+) -> Leaving<N>
+    requires config { N.config ≡ Some (arc_value shared).config }
     requires low { (low.taken ≡ []) × (low.producers ≡ producers) }
     requires high { (high.taken ≡ []) × (high.producers ≡ producers) }
-    requires free { length free.ends ≡ link_count (arc_value shared.now).config }
+    requires free { length free.ends ≡ link_count (arc_value shared).config }
     requires share { share ≡ new_share }
-    ensures config { IfOk result (λ e. (e.config ≡ (arc_value shared.now).config) × (e.link ≡ link)) }
-    ensures bands { IfOk result (λ e. (e.low ≡ band low false) × (e.high ≡ band high false)) }
+    ensures config { (result.config ≡ (arc_value shared).config) × (result.link ≡ link) }
+    ensures bands { (result.low ≡ band low false) × (result.high ≡ band high false) }
 {
-    let shared = Arc::try_clone(shared)?;
-    Ok(Leaving {
+    Leaving {
         shared,
         link,
         low: Band::of(low, producers),
         high: Band::of(high, producers),
         free: free.into_items(),
         share,
-    })
+    }
 }
 
 /// All that the forwarders are made of but their sinks.
@@ -115,11 +114,12 @@ pub fn all_leaving<N: Router>(
     let mut made = Vec::with_capacity(alloc, links)?;
     let mut takers = Line::of(takers);
     for link in 0..links {
+        let own = Arc::try_clone(shared)?;
         let low = takers.next();
         let high = takers.next();
         let back = free.next();
         let share = shares.next();
-        made.push_reserved(leaving_at(shared, link as u16, producers, low, high, back, share)?);
+        made.push_reserved(leaving_at(own, link as u16, producers, low, high, back, share));
     }
     let _ = pipes;
     Ok(made)

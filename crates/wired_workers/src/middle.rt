@@ -21,7 +21,7 @@ use router_rules::{Shared, link_count};
 use router_stages::{Processor, SlowPath};
 use ruled_pipe::{Consumer, Pipe, Producer};
 use stage_parts::{
-    Buffer, EgressPacket, Event, Gate, Inlet, Outlet, Packet, Router, SlowPathRequest,
+    Buffer, EgressPacket, Event, Gate, Inlet, Outlet, Packet, Router, SlowPathRequest, both,
 };
 use std::alloc::{AllocError, Global};
 use std::marker::Model;
@@ -84,30 +84,29 @@ fn clones<G: Drop>(
     Ok((shared, gate, event))
 }
 
+// The processor over what it shares with others, its ends and its ways.
 fn processor_at<N: Router, G: Gate + Drop, R: Wait + Copy>(
     rt: R,
-    shared: &Arc<Shared, Global>,
-    gate: &Arc<G, Global>,
+    own: (Arc<Shared, Global>, Arc<G, Global>, Event),
     index: u8,
     producers: usize,
     taker: Consumer<Packet<N>>,
     asking: Producer<SlowPathRequest<N>>,
     ways: Ways<N>,
-    events: &Events,
-) -> Result<Processor<N, R, G>, AllocError>
-    requires config { N.config ≡ Some (arc_value shared.now).config }
+) -> Processor<N, R, G>
+    requires config { N.config ≡ Some (arc_value own.0).config }
     requires taker { (taker.taken ≡ []) × (taker.producers ≡ producers) }
     requires asking { (asking.offers ≡ []) × (asking.refusals ≡ []) }
-    requires ways { (length ways.links ≡ 2 * link_count (arc_value shared.now).config) × (length ways.free ≡ link_count (arc_value shared.now).config) }
-    ensures config { IfOk result (λ w. w.side.config ≡ (arc_value shared.now).config) }
-    ensures ends { IfOk result (λ w. (w.taker ≡ taker) × (w.slow.sender ≡ asking) × (w.side.links ≡ ways.links)) }
-    ensures fresh { IfOk result (λ w. AreFresh w.side.links) }
+    requires ways { (length ways.links ≡ 2 * link_count (arc_value own.0).config) × (length ways.free ≡ link_count (arc_value own.0).config) }
+    ensures config { result.side.config ≡ (arc_value own.0).config }
+    ensures ends { (result.taker ≡ taker) × (result.slow.sender ≡ asking) × (result.side.links ≡ ways.links) }
+    ensures fresh { AreFresh result.side.links }
 {
-    let (shared, gate, event) = clones(shared, gate, events)?;
+    let (shared, gate, event) = own;
     let Ways { links, free, share } = ways;
     let from = Inlet::of(taker, producers);
     let slow = Outlet::of(asking, Some(event));
-    Ok(Processor::new(rt, shared, index, gate, from, links, slow, free, share))
+    Processor::new(rt, shared, index, gate, from, links, slow, free, share)
 }
 
 // The processors, each with its consumer, its end of the slow path's pipe and its ways.
@@ -147,20 +146,11 @@ fn processors_of<N: Router, G: Gate + Drop, R: Wait + Copy>(
         let bundle = links.next();
         let back = free.next();
         let share = shares.next();
-        let ways = next_ways(alloc, bundle, back, share, events)?;
+        let ways = next_ways(alloc, bundle, back, share, events);
+        let (ways, own) = both(ways, clones(shared, gate, events))?;
         let taker = takers.next();
         let slow = asking.next();
-        made.push_reserved(processor_at(
-            rt,
-            shared,
-            gate,
-            index as u8,
-            producers,
-            taker,
-            slow,
-            ways,
-            events,
-        )?);
+        made.push_reserved(processor_at(rt, own, index as u8, producers, taker, slow, ways));
     }
     let _ = inner;
     let _ = middle;
@@ -168,25 +158,24 @@ fn processors_of<N: Router, G: Gate + Drop, R: Wait + Copy>(
     Ok(made)
 }
 
-// The slow path, with its consumer and its ways.
+// The slow path over the configuration, its consumer and its ways.
 fn slow_path_of<N: Router, R: Wait + Copy>(
     rt: R,
-    shared: &Arc<Shared, Global>,
+    shared: Arc<Shared, Global>,
     taker: Consumer<SlowPathRequest<N>>,
     ways: Ways<N>,
-) -> Result<SlowPath<N, R>, AllocError>
-    requires config { N.config ≡ Some (arc_value shared.now).config }
-    requires taker { (taker.taken ≡ []) × (taker.producers ≡ (arc_value shared.now).config.processors) }
-    requires ways { (length ways.links ≡ 2 * link_count (arc_value shared.now).config) × (length ways.free ≡ link_count (arc_value shared.now).config) }
-    ensures config { IfOk result (λ a. a.side.config ≡ (arc_value shared.now).config) }
-    ensures ends { IfOk result (λ a. (a.taker ≡ taker) × (a.side.links ≡ ways.links)) }
-    ensures fresh { IfOk result (λ a. AreFresh a.side.links) }
+) -> SlowPath<N, R>
+    requires config { N.config ≡ Some (arc_value shared).config }
+    requires taker { (taker.taken ≡ []) × (taker.producers ≡ (arc_value shared).config.processors) }
+    requires ways { (length ways.links ≡ 2 * link_count (arc_value shared).config) × (length ways.free ≡ link_count (arc_value shared).config) }
+    ensures config { result.side.config ≡ (arc_value shared).config }
+    ensures ends { (result.taker ≡ taker) × (result.side.links ≡ ways.links) }
+    ensures fresh { AreFresh result.side.links }
 {
     let processors = usize::from(shared.config.processors);
-    let shared = Arc::try_clone(shared)?;
     let from = Inlet::of(taker, processors);
     let Ways { links, free, share } = ways;
-    Ok(SlowPath::new(rt, shared, from, links, free, share))
+    SlowPath::new(rt, shared, from, links, free, share)
 }
 
 // The slow path, which feeds the links' pipes by a new bundle.
@@ -211,9 +200,9 @@ fn slow_path_with<N: Router, R: Wait + Copy>(
     ensures links { IfOk result (λ a. (p : ℕ) (shapes : List Shape) → bundle.ends ≡ fresh_ends p shapes → AreEndsOf p shapes (senders a.side.links)) }
     ensures fresh { IfOk result (λ a. AreFresh a.side.links) }
 {
-    let ways = next_ways(alloc, bundle, free, share, events)?;
-    let slow = slow_path_of(rt, shared, taker, ways)?;
-    Ok(slow)
+    let ways = next_ways(alloc, bundle, free, share, events);
+    let (ways, own) = both(ways, Arc::try_clone(shared))?;
+    Ok(slow_path_of(rt, own, taker, ways))
 }
 
 /// The processors and the slow path.

@@ -4,6 +4,7 @@ use Rattle.process_packet.specs.declared.config.Config.{Config}
 use Rattle.ruled_pipe.specs.Pipe.{Shape}
 use Rattle.ruled_pipe.specs.Consumer.{Taker, new_taker}
 use Rattle.router_rules.specs.Links.{link_count}
+use Rattle.router_rules.specs.declared.shared.Shared.{Shared}
 use Rattle.router_ends.specs.Rows.{Row, new_takers}
 use Rattle.pipeline_laws.specs.Item.{Outgoing}
 use Rattle.router_rules.specs.Rules.{kinds}
@@ -89,12 +90,13 @@ loop-link-preserved g c =
     let config = (arc_value c.args.shared.now).config in
     let shapes = c.args.pipes.now.items in
     let links = c.link_count-links.result in
-    let e = c.in_ok-leaving_at.field-0 in
+    let e = c.leaving_at.result in
+    let same = c.in_ok-own.ensures in
     let two = first_two shapes at.link links at.takers c.next-low.new.self c.next-high.new.self c.next-low.result c.next-high.result c.next-low.ensures c.next-high.ensures at.invariant.takers in
-    let linked : e.link ≡ at.link = (let l = c.in_ok-leaving_at.ensures.config.1 in let few = c.link_count-links.ensures.few in let t = c.loop-link-test.true in omega arith) in
-    let low : e.low.taker ≡ c.next-low.result = ap (λ (b : Band). b.taker) c.in_ok-leaving_at.ensures.bands.0 in
-    let high : e.high.taker ≡ c.next-high.result = ap (λ (b : Band). b.taker) c.in_ok-leaving_at.ensures.bands.1 in
-    let is : IsLeavingAt config shapes at.link e = left_at config shapes at.link e c.next-low.result c.next-high.result c.in_ok-leaving_at.ensures.config.0 linked low high two.0 two.1.0 in
+    let linked : e.link ≡ at.link = (let l = c.leaving_at.ensures.config.1 in let few = c.link_count-links.ensures.few in let t = c.loop-link-test.true in omega arith) in
+    let low : e.low.taker ≡ c.next-low.result = ap (λ (b : Band). b.taker) c.leaving_at.ensures.bands.0 in
+    let high : e.high.taker ≡ c.next-high.result = ap (λ (b : Band). b.taker) c.leaving_at.ensures.bands.1 in
+    let is : IsLeavingAt config shapes at.link e = left_at config shapes at.link e c.next-low.result c.next-high.result (c.leaving_at.ensures.config.0 ∙ ap (λ (s : Shared). s.config) same) linked low high two.0 two.1.0 in
     record {
       made = all_pushed (IsLeavingAt config shapes) at.link at.made.items c.push_reserved.new.self.items e c.push_reserved.ensures.items at.invariant.made at.invariant.count.0 is;
       count = (pushed_long at.link at.made.items c.push_reserved.new.self.items e c.push_reserved.ensures.items at.invariant.count.0, rw c.push_reserved.ensures.capacity at.invariant.count.1);

@@ -1,10 +1,11 @@
-use Rattle.std.proofs.Common.{◌≡◌, ◌≤◌, ℕ, ◌+◌, length, refl, sym, ◌∙◌, ap, subst, arith}
+use Rattle.std.proofs.Common.{◌≡◌, ◌≤◌, ℕ, ◌+◌, ◌*◌, Some, length, refl, sym, ◌∙◌, ap, subst, arith}
 use Rattle.std.specs.Arc.{arc_value}
 use Rattle.router_rules.specs.Links.{link_count}
 use Rattle.router_rules.specs.declared.shared.Shared.{Shared}
 use Rattle.wired_workers.specs.Rest.{HaveGone}
 use Rattle.wired_workers.proofs.Fresh.{takers_are}
 use Rattle.wired_workers.proofs.Making.{all_made, all_none, all_pushed, bundle_long, long_as, none_gone, one_gone, pushed_long, rest_as, rest_ends, taker_new, working_there}
+use Rattle.wired_workers.proofs.OkLemmas.{of_ok}
 use Rattle.wired_workers.proofs.RestLemmas.{rest_first, rest_next}
 use Rattle.wired_workers.proofs.middle.processors_of.Goals as goal
 
@@ -22,6 +23,11 @@ loop-index-init g c =
       shares = none_gone _ _ c.requires.shares;
     }
 
+pub processor_at-requires-clause-config : goal.processor_at-requires-clause-config
+processor_at-requires-clause-config g c =
+    let same = of_ok _ _ _ c.in_ok-ways.ensures.1 c.clones.ensures in
+    c.requires.config ∙ ap (λ (s : Shared). Some s.config) (sym same)
+
 pub processor_at-requires-clause-taker : goal.processor_at-requires-clause-taker
 processor_at-requires-clause-taker g c =
     let new = taker_new _ _ _ _ c.requires.pipes.1 (rest_first _ _ _ _ _ _ c.next-taker.ensures c.loop-index.invariant.takers) in
@@ -29,10 +35,13 @@ processor_at-requires-clause-taker g c =
 
 pub processor_at-requires-clause-ways : goal.processor_at-requires-clause-ways
 processor_at-requires-clause-ways g c =
+    let same = of_ok _ _ _ c.in_ok-ways.ensures.1 c.clones.ensures in
+    let count = of_ok _ _ _ c.in_ok-ways.ensures.0 c.next_ways-ways.ensures.count in
+    let back = of_ok _ _ _ c.in_ok-ways.ensures.0 c.next_ways-ways.ensures.free in
     let is = rest_first _ _ _ _ _ _ c.next-bundle.ensures c.loop-index.invariant.links in
     let long = rest_first _ _ _ _ _ _ c.next-back.ensures c.loop-index.invariant.free in (
-      bundle_long _ _ _ _ _ c.in_ok-ways.ensures.count is c.requires.pipes.2,
-      ap length c.in_ok-ways.ensures.free ∙ (long ∙ (c.link_count-producers.ensures.count ∙ ap (λ (s : Shared). link_count s.config) c.deref.ensures)),
+      bundle_long _ _ _ _ _ count is c.requires.pipes.2 ∙ ap (λ (s : Shared). 2 * link_count s.config) (sym same),
+      ap length back ∙ (long ∙ (c.link_count-producers.ensures.count ∙ ap (λ (s : Shared). link_count s.config) (c.deref.ensures ∙ sym same))),
     )
 
 pub loop-index-preserved : goal.loop-index-preserved
@@ -41,10 +50,11 @@ loop-index-preserved g c =
     let taker = rest_first _ _ _ _ _ _ c.next-taker.ensures at.takers in
     let end = rest_first _ _ _ _ _ _ c.next-slow.ensures at.asking in
     let is = rest_first _ _ _ _ _ _ c.next-bundle.ensures at.links in
-    let links = c.in_ok-ways.ensures.links c.loop-index.index _ is in
-    let made = c.in_ok-processor_at.ensures in
+    let same = of_ok _ _ _ c.in_ok-ways.ensures.1 c.clones.ensures in
+    let links = of_ok _ _ _ c.in_ok-ways.ensures.0 c.next_ways-ways.ensures.links c.loop-index.index _ is in
+    let made = c.processor_at.ensures in
     record {
-      made = all_pushed _ _ _ _ _ c.push_reserved.ensures.items at.made at.count.0 (working_there (arc_value c.args.shared.now).config c.args.inner.now.items c.args.outer.now.items c.args.middle.now c.loop-index.index c.next-taker.result c.next-slow.result c.in_ok-ways.ways.links _ taker end links made.config made.ends made.fresh);
+      made = all_pushed _ _ _ _ _ c.push_reserved.ensures.items at.made at.count.0 (working_there (arc_value c.args.shared.now).config c.args.inner.now.items c.args.outer.now.items c.args.middle.now c.loop-index.index c.next-taker.result c.next-slow.result c.in_ok-ways.ways.links _ taker end links (made.config ∙ ap (λ (s : Shared). s.config) same) made.ends made.fresh);
       count = (pushed_long _ _ _ _ c.push_reserved.ensures.items at.count.0, rw c.push_reserved.ensures.capacity at.count.1);
       takers = rest_next _ _ _ _ _ _ c.next-taker.ensures at.takers;
       asking = rest_next _ _ _ _ _ _ c.next-slow.ensures at.asking;

@@ -1,7 +1,10 @@
-use Rattle.std.proofs.Common.{sym, subst}
+use Rattle.std.proofs.Common.{Some, length, sym, ◌∙◌, ap, subst}
 use Rattle.router_ends.specs.Rows.{AreEndsOf}
+use Rattle.router_rules.specs.Links.{link_count}
+use Rattle.router_rules.specs.declared.shared.Shared.{Shared}
 use Rattle.stage_parts.specs.Outlets.{senders}
+use Rattle.wired_workers.proofs.OkLemmas.{of_ok}
 use Rattle.wired_workers.proofs.middle.slow_path_with.Goals as goal
 
 pub returns-clause-links : goal.returns-clause-links
-returns-clause-links g c = λ p shapes is. subst (λ xs. AreEndsOf p shapes (senders xs)) (sym c.in_ok-slow.ensures.ends.1) (c.in_ok-ways.ensures.links p shapes is)
+returns-clause-links g c = λ p shapes is. subst (λ xs. AreEndsOf p shapes (senders xs)) (sym c.slow_path_of.ensures.ends.1) (of_ok _ _ _ c.in_ok-ways.ensures.0 c.next_ways-ways.ensures.links p shapes is)
