@@ -70,8 +70,8 @@ fn is_answered(
 }
 
 #[test]
-fn answers_by_the_way_back(rt: HostRuntime) -> Result<(), Fail> {
-    let config = read_config(rt.alloc(), CONFIGURATION)?;
+fn answers_by_the_way_back(rt: HostRuntime) {
+    let config = read_config(rt.alloc(), CONFIGURATION).expect(&rt, "configuration");
     let datagram = with_bytes(FIRST, MAC_AT, &OTHER_MAC);
     assert!(rt;
         is_answered(
@@ -138,12 +138,11 @@ fn answers_by_the_way_back(rt: HostRuntime) -> Result<(), Fail> {
         ),
         "no such service: the pointer is not told"
     );
-    Ok(())
 }
 
 #[test]
-fn answers_what_is_no_error_message(rt: HostRuntime) -> Result<(), Fail> {
-    let config = read_config(rt.alloc(), CONFIGURATION)?;
+fn answers_what_is_no_error_message(rt: HostRuntime) {
+    let config = read_config(rt.alloc(), CONFIGURATION).expect(&rt, "configuration");
     let extended = with_bytes(with_bytes(FIRST, MAC_AT, &OTHER_MAC), 4, &[0xc8]);
     assert!(rt;
         is_answered(
@@ -167,7 +166,6 @@ fn answers_what_is_no_error_message(rt: HostRuntime) -> Result<(), Fail> {
         ),
         "two hop-by-hop extensions"
     );
-    Ok(())
 }
 
 /// A traceroute request to the ingress router of its second hop.
@@ -203,8 +201,8 @@ fn is_replied(config: &Config, interface: u16, message: &[u8]) -> bool {
 }
 
 #[test]
-fn replies_to_traceroute_requests(rt: HostRuntime) -> Result<(), Fail> {
-    let config = read_config(rt.alloc(), CONFIGURATION)?;
+fn replies_to_traceroute_requests(rt: HostRuntime) {
+    let config = read_config(rt.alloc(), CONFIGURATION).expect(&rt, "configuration");
     assert!(rt;
         is_replied(
             &config,
@@ -219,7 +217,6 @@ fn replies_to_traceroute_requests(rt: HostRuntime) -> Result<(), Fail> {
             b"\x83\x00\x67\xd3\x00\x07\x00\x03\x00\x01\xff\x00\x00\x00\x01\x10\x00\x00\x00\x00\x00\x00\x00\x02"
         )
     );
-    Ok(())
 }
 
 /// Whether the datagram has no fault, and the problem isn't answered for this cause.
@@ -232,8 +229,8 @@ fn is_dropped(config: &Config, bytes: &[u8], problem: &Problem, cause: Cause) ->
 }
 
 #[test]
-fn drops_what_may_be_an_error_message(rt: HostRuntime) -> Result<(), Fail> {
-    let config = read_config(rt.alloc(), CONFIGURATION)?;
+fn drops_what_may_be_an_error_message(rt: HostRuntime) {
+    let config = read_config(rt.alloc(), CONFIGURATION).expect(&rt, "configuration");
     let scmp = with_bytes(FIRST, 4, &[202]);
     let error = with_bytes(scmp, PAYLOAD_AT, &[4, 0]);
     assert!(rt;
@@ -260,12 +257,11 @@ fn drops_what_may_be_an_error_message(rt: HostRuntime) -> Result<(), Fail> {
         is_dropped(&config, &options, &EXPIRED, Cause::NoAnswer),
         "a cut extension"
     );
-    Ok(())
 }
 
 #[test]
-fn drops_what_has_no_way_back(rt: HostRuntime) -> Result<(), Fail> {
-    let config = read_config(rt.alloc(), CONFIGURATION)?;
+fn drops_what_has_no_way_back(rt: HostRuntime) {
+    let config = read_config(rt.alloc(), CONFIGURATION).expect(&rt, "configuration");
     let first = with_bytes(FIRST, PATH_AT, &[0]);
     assert!(rt;
         is_dropped(&config, &first, &EXPIRED, Cause::NoWayBack),
@@ -280,7 +276,6 @@ fn drops_what_has_no_way_back(rt: HostRuntime) -> Result<(), Fail> {
         is_dropped(&config, &first, &request, Cause::NoWayBack),
         "a request"
     );
-    Ok(())
 }
 
 /// Two segments of two hops with all flags and reserved bits set, at the second segment's first hop.
@@ -331,8 +326,8 @@ fn has_no_way_back(answered: &Answered) -> bool {
 }
 
 #[test]
-fn answers_with_bytes_of_their_own(rt: HostRuntime) -> Result<(), Fail> {
-    let config = read_config(rt.alloc(), CONFIGURATION)?;
+fn answers_with_bytes_of_their_own(rt: HostRuntime) {
+    let config = read_config(rt.alloc(), CONFIGURATION).expect(&rt, "configuration");
     let source = Underlay {
         ip: Ip::V4([10, 0, 0, 2]),
         port: 30000,
@@ -342,17 +337,16 @@ fn answers_with_bytes_of_their_own(rt: HostRuntime) -> Result<(), Fail> {
         number: 1,
         source,
         now: 0,
-        bytes: Vec::from_slice(rt.alloc(), &TWO_SEGMENTS)?,
+        bytes: Vec::from_slice(rt.alloc(), &TWO_SEGMENTS).expect(&rt, "memory"),
     };
     assert!(rt; is_sound(arrival.bytes.as_slice()));
-    let answered = answer(rt.alloc(), &config, &arrival, &EXPIRED_THERE)?;
+    let answered = answer(rt.alloc(), &config, &arrival, &EXPIRED_THERE).expect(&rt, "memory");
     assert!(rt; is_back_inside(&answered, source), "within the AS");
     // from outside the same hop is the first of its segment
     let outside = Arrival { link: 1, ..arrival };
     assert!(rt; is_sound(outside.bytes.as_slice()));
-    let answered = answer(rt.alloc(), &config, &outside, &EXPIRED_THERE)?;
+    let answered = answer(rt.alloc(), &config, &outside, &EXPIRED_THERE).expect(&rt, "memory");
     assert!(rt; has_no_way_back(&answered), "from outside");
-    Ok(())
 }
 
 /// 9,216 bytes between IPv6 hosts over 64 hops, each with its number as its egress; its payload length is
@@ -388,8 +382,8 @@ fn is_longest_answer(out: &[u8; 1232], datagram: &[u8]) -> bool {
 }
 
 #[test]
-fn cuts_the_quote_to_the_longest_answer(rt: HostRuntime) -> Result<(), Fail> {
-    let config = read_config(rt.alloc(), CONFIGURATION)?;
+fn cuts_the_quote_to_the_longest_answer(rt: HostRuntime) {
+    let config = read_config(rt.alloc(), CONFIGURATION).expect(&rt, "configuration");
     let bytes = longest();
     assert!(rt; is_sound(&bytes));
     let mut out = [0x55; 1232];
@@ -401,5 +395,4 @@ fn cuts_the_quote_to_the_longest_answer(rt: HostRuntime) -> Result<(), Fail> {
     };
     assert!(rt; result == wanted);
     assert!(rt; is_longest_answer(&out, &bytes));
-    Ok(())
 }

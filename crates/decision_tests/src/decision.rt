@@ -102,8 +102,8 @@ fn is_told_late(routed: &Result<Routed, NoMemory>) -> bool {
 }
 
 #[test]
-fn routes_with_bytes_of_their_own(rt: HostRuntime) -> Result<(), Fail> {
-    let config = read_config(rt.alloc(), CONFIGURATION)?;
+fn routes_with_bytes_of_their_own(rt: HostRuntime) {
+    let config = read_config(rt.alloc(), CONFIGURATION).expect(&rt, "configuration");
     let arrival = Arrival {
         link: 1,
         number: 1,
@@ -112,7 +112,7 @@ fn routes_with_bytes_of_their_own(rt: HostRuntime) -> Result<(), Fail> {
             port: 40000,
         },
         now: IN_TIME,
-        bytes: Vec::from_slice(rt.alloc(), &FIRST)?,
+        bytes: Vec::from_slice(rt.alloc(), &FIRST).expect(&rt, "memory"),
     };
     assert!(rt;
         is_sent_on(&route(rt.alloc(), &config, &arrival)),
@@ -126,5 +126,4 @@ fn routes_with_bytes_of_their_own(rt: HostRuntime) -> Result<(), Fail> {
         is_told_late(&route(rt.alloc(), &config, &late)),
         "it is answered"
     );
-    Ok(())
 }

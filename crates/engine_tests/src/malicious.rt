@@ -126,11 +126,10 @@ fn good_cuts(alloc: Global, config: &Config, texts: &mut Texts) -> u32 {
 }
 
 #[test]
-fn answers_each_cut(rt: HostRuntime) -> Result<(), Fail> {
-    let config = read_config(rt.alloc(), CONFIGURATION)?;
+fn answers_each_cut(rt: HostRuntime) {
+    let config = read_config(rt.alloc(), CONFIGURATION).expect(&rt, "configuration");
     let mut texts = Texts::new(rt.alloc());
     assert_eq!(rt; good_cuts(rt.alloc(), &config, &mut texts), 92);
-    Ok(())
 }
 
 /// How many of the datagrams that differ in one byte give one line, which reads back where it is an
@@ -153,9 +152,8 @@ fn good_changes(alloc: Global, config: &Config, texts: &mut Texts) -> u32 {
 }
 
 #[test]
-fn answers_each_changed_byte(rt: HostRuntime) -> Result<(), Fail> {
-    let config = read_config(rt.alloc(), CONFIGURATION)?;
+fn answers_each_changed_byte(rt: HostRuntime) {
+    let config = read_config(rt.alloc(), CONFIGURATION).expect(&rt, "configuration");
     let mut texts = Texts::new(rt.alloc());
     assert_eq!(rt; good_changes(rt.alloc(), &config, &mut texts), 23460);
-    Ok(())
 }

@@ -76,9 +76,9 @@ fn gives(
 }
 
 #[test]
-fn answers_each_line(rt: HostRuntime) -> Result<(), Fail> {
+fn answers_each_line(rt: HostRuntime) {
     let alloc = rt.alloc();
-    let config = read_config(alloc, CONFIGURATION)?;
+    let config = read_config(alloc, CONFIGURATION).expect(&rt, "configuration");
     assert!(rt; gives(alloc, &config, "", "", Ok(())));
     assert!(rt; gives(alloc, &config, "\n", "drop 1\n", Ok(())));
     assert!(rt; gives(alloc, &config, "00AbCdEf", "drop 1\n", Ok(())));
@@ -91,13 +91,12 @@ fn answers_each_line(rt: HostRuntime) -> Result<(), Fail> {
             Ok(())
         )
     );
-    Ok(())
 }
 
 #[test]
-fn ends_at_a_line_that_is_no_hex(rt: HostRuntime) -> Result<(), Fail> {
+fn ends_at_a_line_that_is_no_hex(rt: HostRuntime) {
     let alloc = rt.alloc();
-    let config = read_config(alloc, CONFIGURATION)?;
+    let config = read_config(alloc, CONFIGURATION).expect(&rt, "configuration");
     assert!(rt;
         gives(
             alloc,
@@ -117,7 +116,6 @@ fn ends_at_a_line_that_is_no_hex(rt: HostRuntime) -> Result<(), Fail> {
             Err(LinesFault::Line(2))
         )
     );
-    Ok(())
 }
 
 /// Whether there was memory for the header with this many bytes `5a` after it, in hex.
@@ -132,9 +130,9 @@ fn push_long(text: &mut Vec<u8>, payload: usize) -> bool {
 
 /// A datagram of 9,216 bytes with 64 hops is answered in 1,232 bytes; one byte more is too long.
 #[test]
-fn answers_the_longest_datagram(rt: HostRuntime) -> Result<(), Fail> {
+fn answers_the_longest_datagram(rt: HostRuntime) {
     let alloc = rt.alloc();
-    let config = read_config(alloc, CONFIGURATION)?;
+    let config = read_config(alloc, CONFIGURATION).expect(&rt, "configuration");
     let mut text = Vec::new(alloc);
     let mut line = Vec::new(alloc);
     assert!(rt; push_long(&mut text, 8360));
@@ -143,7 +141,6 @@ fn answers_the_longest_datagram(rt: HostRuntime) -> Result<(), Fail> {
     assert!(rt; push_long(&mut text, 8361));
     assert!(rt; answers(alloc, &config, &ARRIVING, text.as_slice(), &mut line));
     assert!(rt; line.as_slice() == b"drop 11\n".as_slice(), "9,217 bytes");
-    Ok(())
 }
 
 /// A reader and a writer of a few bytes a call, which fails at one of its calls.
@@ -219,10 +216,10 @@ fn tells_of_its_writer(alloc: Global, config: &Config, left: u64) -> bool {
 }
 
 #[test]
-fn tells_a_device_that_fails(rt: HostRuntime) -> Result<(), Fail> {
-    let config = read_config(rt.alloc(), CONFIGURATION)?;
+fn tells_a_device_that_fails(rt: HostRuntime) {
+    let config = read_config(rt.alloc(), CONFIGURATION).expect(&rt, "configuration");
     for left in 0..8 {
-        let told = tells_of_its_reader(rt.alloc(), &config, left)?;
+        let told = tells_of_its_reader(rt.alloc(), &config, left).expect(&rt, "memory");
         assert!(rt; told, "at call {left} of the reader");
     }
     for left in 0..17 {
@@ -231,7 +228,6 @@ fn tells_a_device_that_fails(rt: HostRuntime) -> Result<(), Fail> {
             "at call {left} of the writer"
         );
     }
-    Ok(())
 }
 
 /// With each allocation refused in turn (`--fail-alloc`): the engine ends with `memory`, after a

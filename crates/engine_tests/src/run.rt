@@ -72,27 +72,26 @@ fn told(alloc: Global, input: &[u8]) -> Result<Vec<u8>, AllocError> {
 }
 
 #[test]
-fn commands_are_answered(rt: HostRuntime) -> Result<(), Fail> {
+fn commands_are_answered(rt: HostRuntime) {
     let alloc = rt.alloc();
-    assert!(rt; told(alloc, INPUT)?.as_slice() == OUTPUT);
-    let at_once = told(alloc, b"")?;
+    assert!(rt; told(alloc, INPUT).expect(&rt, "memory").as_slice() == OUTPUT);
+    let at_once = told(alloc, b"").expect(&rt, "memory");
     assert!(rt;
         at_once
             .as_slice()
             .starts_with(b"ready\nlink 0 sent 7\n".as_slice())
     );
-    let cut = told(alloc, b"close 1")?;
+    let cut = told(alloc, b"close 1").expect(&rt, "memory");
     assert!(rt;
         cut.as_slice()
             .starts_with(b"ready\nclosed 1\nlink 0 sent 7\n".as_slice())
     );
-    let no_text = told(alloc, b"close \xff1\n")?;
+    let no_text = told(alloc, b"close \xff1\n").expect(&rt, "memory");
     assert!(rt;
         no_text
             .as_slice()
             .starts_with(b"ready\nno command\nlink 0 sent 7\n".as_slice())
     );
-    Ok(())
 }
 
 /// Gives and takes one byte a call, and fails at one of its calls.
@@ -169,20 +168,19 @@ fn tells_of_its_writer(alloc: Global, left: u64) -> io::Result<bool> {
 }
 
 #[test]
-fn a_device_that_fails_is_told(rt: HostRuntime) -> Result<(), Fail> {
+fn a_device_that_fails_is_told(rt: HostRuntime) {
     for left in 0..12 {
         assert!(rt;
-            tells_of_its_reader(rt.alloc(), left)?,
+            tells_of_its_reader(rt.alloc(), left).expect(&rt, "memory"),
             "at call {left} of the reader"
         );
     }
     for left in 0..180 {
         assert!(rt;
-            tells_of_its_writer(rt.alloc(), left)?,
+            tells_of_its_writer(rt.alloc(), left).expect(&rt, "memory"),
             "at call {left} of the writer"
         );
     }
-    Ok(())
 }
 
 /// With each allocation refused in turn (`--fail-alloc`): the engine ends with `memory`, after a beginning of

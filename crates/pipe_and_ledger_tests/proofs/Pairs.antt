@@ -1,4 +1,5 @@
 -- Lists of two, for the examples of the tests.
+use Rattle.std.specs.Prelude.{IfOk, Ok, Option, Result, option_to_list}
 use Rattle.std.proofs.Common.{◌≡◌, ℕ, zero, suc, List, [], ◌∷◌, ◌++◌, length, Some, slice_get, sym, refl, ap, ◌∙◌, subst, length-append, arith}
 use Rattle.ruled_pipe.specs.declared.entry.Load.TheVariants.{Payload, Marked}
 use Rattle.ruled_pipe.specs.declared.entry.Mark.TheVariants.{Close, End}
@@ -11,7 +12,15 @@ use Rattle.pipe_and_ledger_tests.specs.Pipe.{IsExample}
 use Rattle.ruled_pipe.proofs.Drained.{all_taken, no_entry}
 use Rattle.atomic_table.specs.Seated.{TableId}
 
+module _ {A E : Type 0} where
+  -- of the value what is known of the result
+  pub of_ok : (P : A → Type 0) (r : Result A E) (x : A) → r ≡ Ok x → IfOk r P → P x
+  of_ok P r x is all = subst (λ (s : Result A E). IfOk s P) is all
+
 module _ {X : Type 0} where
+  pub popped : (old new : List X) (o : Option X) (x : X) → old ≡ new ++ option_to_list o → o ≡ Some x → old ≡ new ++ x ∷ []
+  popped old new o x is some = is ∙ ap (λ (p : Option X). new ++ option_to_list p) some
+
   -- the last two of a list of two
   pub last_two : (l m rest : List X) (a b : X) → length l ≡ 2 → l ≡ m ++ b ∷ [] → m ≡ rest ++ a ∷ [] → l ≡ a ∷ b ∷ []
   last_two l m rest a b two last before =

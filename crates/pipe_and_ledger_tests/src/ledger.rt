@@ -2,8 +2,9 @@ ghost use Rattle.std.specs.Prelude.{◌≡◌, ◌*◌, ◌≤◌};
 
 use packet_ledger::{Blank, Book, Ledger, Share};
 use process_packet::{Cause, Totals};
-use std::alloc::{AllocError, Global};
+use std::alloc::Global;
 use std::marker::Brand;
+use std::process::Abort;
 use std::sync::{Arc, Wait};
 use std::test::*;
 use std::thread;
@@ -18,29 +19,21 @@ const NOTHING: Totals = Totals {
 
 // One share counts three as received and is posted, the other two drops and is not. What the first
 // counts after its post, and the totals.
-fn two_shares<L: Ledger, R: Wait>(
-    rt: &R,
-    alloc: Global,
-    blank: Blank,
-) -> Result<Option<(Totals, Totals)>, AllocError>
+fn two_shares<L: Ledger, R: Abort + Wait>(rt: &R, alloc: Global, blank: Blank) -> (Totals, Totals)
     requires name { blank.table ≡ L.table }
     requires two { L.workers ≡ 2 }
 {
-    let (book, mut shares) = Book::<L>::new(alloc, blank, 2)?;
-    let Some(mut first) = shares.pop() else {
-        return Ok(None);
-    };
-    let Some(mut second) = shares.pop() else {
-        return Ok(None);
-    };
+    let (book, mut shares) = Book::<L>::new(alloc, blank, 2).expect(rt, "memory");
+    let mut first = shares.pop().expect(rt, "share");
+    let mut second = shares.pop().expect(rt, "share");
     receive(&mut first, 3);
     drop_one(&mut second, Cause::ProcessorFull);
     drop_one(&mut second, Cause::ProcessorFull);
     book.post(rt, &mut first);
     let left = *first.counts();
-    shares.push(first)?;
-    shares.push(second)?;
-    Ok(Some((left, book.close(rt, shares))))
+    shares.push(first).expect(rt, "memory");
+    shares.push(second).expect(rt, "memory");
+    (left, book.close(rt, shares))
 }
 
 // Counts a number of datagrams as received, where there is room.
@@ -59,16 +52,14 @@ fn drop_one<L: Ledger>(share: &mut Share<L>, cause: Cause) {
 }
 
 #[test]
-fn two_shares_closed(rt: HostRuntime) -> Result<(), Fail> {
-    let blank = Blank::new(rt.alloc())?;
-    let answer = two_shares::<Brand, _>(&rt, rt.alloc(), blank)?;
-    let (left, totals) = answer.expect(&rt, "two shares");
+fn two_shares_closed(rt: HostRuntime) {
+    let blank = Blank::new(rt.alloc()).expect(&rt, "memory");
+    let (left, totals) = two_shares::<Brand, _>(&rt, rt.alloc(), blank);
     assert!(rt; left == NOTHING);
     let mut wanted = NOTHING;
     wanted.received = 3;
     wanted.dropped[11] = 2;
     assert!(rt; totals == wanted);
-    Ok(())
 }
 
 // Counts one of five kinds, where there is room.
@@ -97,42 +88,31 @@ fn work<L: Ledger, R: Wait>(rt: &R, book: &Book<L>, mut share: Share<L>, rounds:
 }
 
 // What two threads count and post beside each other: the totals, and what the shares say they forwarded.
-fn two_threads<L, R>(
-    rt: R,
-    alloc: Global,
-    blank: Blank,
-) -> Result<Option<(Totals, u128, u128)>, AllocError>
+fn two_threads<L, R>(rt: R, alloc: Global, blank: Blank) -> (Totals, u128, u128)
 where
     L: Ledger + Send + Sync + 'static,
-    R: Threads + Wait + Copy + Send + 'static,
+    R: Abort + Threads + Wait + Copy + Send + 'static,
     requires name { blank.table ≡ L.table }
     requires two { L.workers ≡ 2 }
 {
-    let (book, mut shares) = Book::<L>::new(alloc, blank, 2)?;
-    let Some(first) = shares.pop() else {
-        return Ok(None);
-    };
-    let Some(second) = shares.pop() else {
-        return Ok(None);
-    };
-    let book = Arc::new(alloc, book)?;
-    let theirs = Arc::try_clone(&book)?;
-    let Ok(child) = thread::spawn(&rt, move || work(&rt, &*theirs, first, 4000)) else {
-        return Ok(None);
-    };
+    let (book, mut shares) = Book::<L>::new(alloc, blank, 2).expect(&rt, "memory");
+    let first = shares.pop().expect(&rt, "share");
+    let second = shares.pop().expect(&rt, "share");
+    let book = Arc::new(alloc, book).expect(&rt, "memory");
+    let theirs = Arc::try_clone(&book).expect(&rt, "memory");
+    let child = thread::spawn(&rt, move || work(&rt, &*theirs, first, 4000)).expect(&rt, "thread");
     let second = work(&rt, &*book, second, 800);
     let first = child.join(&rt);
     let forwarded = (first.forwarded(), second.forwarded());
-    shares.push(first)?;
-    shares.push(second)?;
-    Ok(Some((book.close(&rt, shares), forwarded.0, forwarded.1)))
+    shares.push(first).expect(&rt, "memory");
+    shares.push(second).expect(&rt, "memory");
+    (book.close(&rt, shares), forwarded.0, forwarded.1)
 }
 
 #[test]
-fn two_threads_closed(rt: HostRuntime) -> Result<(), Fail> {
-    let blank = Blank::new(rt.alloc())?;
-    let answer = two_threads::<Brand, _>(rt, rt.alloc(), blank)?;
-    let (totals, first, second) = answer.expect(&rt, "two shares");
+fn two_threads_closed(rt: HostRuntime) {
+    let blank = Blank::new(rt.alloc()).expect(&rt, "memory");
+    let (totals, first, second) = two_threads::<Brand, _>(rt, rt.alloc(), blank);
     let mut wanted = NOTHING;
     wanted.received = 960;
     wanted.sent = 960;
@@ -140,55 +120,45 @@ fn two_threads_closed(rt: HostRuntime) -> Result<(), Fail> {
     wanted.dropped[0] = 960;
     wanted.dropped[17] = 960;
     assert!(rt; totals == wanted);
-    assert_eq!(rt; (first, second), (1600, 320));
-    Ok(())
+    assert!(rt; first == 1600 && second == 320);
 }
 
 // A posted share says what it posted, and goes on from nothing.
-fn post_twice<L: Ledger, R: Wait>(
-    rt: &R,
-    alloc: Global,
-    blank: Blank,
-) -> Result<Option<(Totals, Totals)>, AllocError>
+fn post_twice<L: Ledger, R: Abort + Wait>(rt: &R, alloc: Global, blank: Blank) -> (Totals, Totals)
     requires name { blank.table ≡ L.table }
     requires one { L.workers ≡ 1 }
 {
-    let (book, mut shares) = Book::<L>::new(alloc, blank, 1)?;
-    let Some(mut share) = shares.pop() else {
-        return Ok(None);
-    };
+    let (book, mut shares) = Book::<L>::new(alloc, blank, 1).expect(rt, "memory");
+    let mut share = shares.pop().expect(rt, "share");
     receive(&mut share, 5);
     book.post(rt, &mut share);
     receive(&mut share, 2);
     book.post(rt, &mut share);
     receive(&mut share, 1);
     let posted = *share.posted();
-    shares.push(share)?;
-    Ok(Some((posted, book.close(rt, shares))))
+    shares.push(share).expect(rt, "memory");
+    (posted, book.close(rt, shares))
 }
 
 #[test]
-fn posted_twice(rt: HostRuntime) -> Result<(), Fail> {
-    let blank = Blank::new(rt.alloc())?;
-    let answer = post_twice::<Brand, _>(&rt, rt.alloc(), blank)?;
-    let (posted, totals) = answer.expect(&rt, "one share");
-    assert_eq!(rt; posted.received, 7);
-    assert_eq!(rt; totals.received, 8);
-    Ok(())
+fn posted_twice(rt: HostRuntime) {
+    let blank = Blank::new(rt.alloc()).expect(&rt, "memory");
+    let (posted, totals) = post_twice::<Brand, _>(&rt, rt.alloc(), blank);
+    assert!(rt; posted.received == 7);
+    assert!(rt; totals.received == 8);
 }
 
 // The totals of a book with no share.
-fn no_share<L: Ledger, R: Wait>(rt: &R, alloc: Global, blank: Blank) -> Result<Totals, AllocError>
+fn no_share<L: Ledger, R: Abort + Wait>(rt: &R, alloc: Global, blank: Blank) -> Totals
     requires name { blank.table ≡ L.table }
     requires none { L.workers ≡ 0 }
 {
-    let (book, shares) = Book::<L>::new(alloc, blank, 0)?;
-    Ok(book.close(rt, shares))
+    let (book, shares) = Book::<L>::new(alloc, blank, 0).expect(rt, "memory");
+    book.close(rt, shares)
 }
 
 #[test]
-fn nobody_counts(rt: HostRuntime) -> Result<(), Fail> {
-    let blank = Blank::new(rt.alloc())?;
-    assert!(rt; no_share::<Brand, _>(&rt, rt.alloc(), blank)? == NOTHING);
-    Ok(())
+fn nobody_counts(rt: HostRuntime) {
+    let blank = Blank::new(rt.alloc()).expect(&rt, "memory");
+    assert!(rt; no_share::<Brand, _>(&rt, rt.alloc(), blank) == NOTHING);
 }

@@ -1,4 +1,4 @@
-ghost use Rattle.std.specs.Prelude.{◌≡◌, ◌<◌, ◌≤◌, ◌∷◌, [], true, IfOk, IfSome, MatchBool};
+ghost use Rattle.std.specs.Prelude.{◌≡◌, ◌<◌, ◌≤◌, ◌∷◌, [], true, MatchBool};
 ghost use Rattle.ruled_pipe.specs.Producer.{entry, new_sender, offered, refused};
 ghost use Rattle.ruled_pipe.specs.Consumer.{looked, new_taker, took};
 ghost use Rattle.ruled_pipe.specs.Pipe.{IsEndOf};
@@ -7,11 +7,12 @@ ghost use Rattle.pipe_and_ledger_tests.specs.Pipe.{IsExample};
 
 use crate::steps::{accepts, closes, gives};
 use ruled_pipe::{Consumer, Entry, Full, Gathered, Load, Mark, Pipe, Producer};
-use std::alloc::{AllocError, Global};
+use std::alloc::Global;
+use std::process::Abort;
 use std::sync::Wait;
 use std::test::*;
 use std::thread;
-use std::thread::Threads;
+use std::thread::{JoinHandle, Threads};
 
 fn gives_close<R: Wait>(rt: &R, consumer: &mut Consumer<u32>, producer: usize) -> bool
     ensures { result ≡ true → consumer.new ≡ took consumer.old (entry producer (Load.Marked Mark.Close)) }
@@ -34,19 +35,19 @@ fn is_empty<R: Wait>(rt: &R, consumer: &mut Consumer<u32>) -> bool
 }
 
 // The ends of a new pipe for two producers.
-fn for_two(
+fn for_two<R: Abort>(
+    rt: &R,
     alloc: Global,
-) -> Result<Option<(Pipe<u32>, Producer<u32>, Producer<u32>, Consumer<u32>)>, AllocError>
-    ensures { IfOk result (λ o. IfSome o (λ r. (r.0.capacity ≡ 2) × (r.0.producers ≡ 2) × (r.1 ≡ new_sender r.0.pipe 0 2 2) × (r.2 ≡ new_sender r.0.pipe 1 2 2) × (r.3 ≡ new_taker r.0.pipe 2 2))) }
+) -> (Pipe<u32>, Producer<u32>, Producer<u32>, Consumer<u32>)
+    ensures shape { (result.0.capacity ≡ 2) × (result.0.producers ≡ 2) }
+    ensures first { result.1 ≡ new_sender result.0.pipe 0 2 2 }
+    ensures second { result.2 ≡ new_sender result.0.pipe 1 2 2 }
+    ensures consumer { result.3 ≡ new_taker result.0.pipe 2 2 }
 {
-    let (pipe, mut ends, consumer) = Pipe::<u32>::new(alloc, 2, 2)?;
-    let Some(second) = ends.pop() else {
-        return Ok(None);
-    };
-    let Some(first) = ends.pop() else {
-        return Ok(None);
-    };
-    Ok(Some((pipe, first, second, consumer)))
+    let (pipe, mut ends, consumer) = Pipe::<u32>::new(alloc, 2, 2).expect(rt, "memory");
+    let second = ends.pop().expect(rt, "producer");
+    let first = ends.pop().expect(rt, "producer");
+    (pipe, first, second, consumer)
 }
 
 // Three offers at a pipe for two.
@@ -83,46 +84,41 @@ fn close_and_take<R: Wait>(rt: &R, first: &mut Producer<u32>, consumer: &mut Con
     is_empty(rt, consumer)
 }
 
-fn gather_two(
+fn gather_two<R: Abort>(
+    rt: &R,
     alloc: Global,
     pipe: Pipe<u32>,
     first: Producer<u32>,
     second: Producer<u32>,
     consumer: Consumer<u32>,
-) -> Result<Gathered<u32>, AllocError>
+) -> Gathered<u32>
     requires two { pipe.producers ≡ 2 }
     requires first { IsEndOf pipe 0 first }
     requires second { IsEndOf pipe 1 second }
     requires consumer { (consumer.pipe ≡ pipe.pipe) × (consumer.producers ≡ pipe.producers) × (consumer.capacity ≡ pipe.capacity) }
-    ensures { IfOk result (λ g. (g.senders ≡ first ∷ second ∷ []) × (g.taker ≡ consumer)) }
+    ensures { (result.senders ≡ first ∷ second ∷ []) × (result.taker ≡ consumer) }
 {
-    let mut ends = Vec::new(alloc);
-    ends.push(first)?;
-    ends.push(second)?;
-    Ok(pipe.gather(ends, consumer))
+    let ends = Vec::from_array(alloc, [first, second]).expect(rt, "memory");
+    pipe.gather(ends, consumer)
 }
 
-// Two producers at a pipe for two, until an answer is another than it should be.
-fn example<R: Wait>(rt: &R, alloc: Global) -> Result<Option<Gathered<u32>>, AllocError>
-    ensures { IfOk result (λ o. IfSome o IsExample) }
+// Two producers at a pipe for two.
+fn example<R: Abort + Wait>(rt: &R, alloc: Global) -> Gathered<u32>
+    ensures { IsExample result }
 {
-    let Some((pipe, mut first, mut second, mut consumer)) = for_two(alloc)? else {
-        return Ok(None);
-    };
+    let (pipe, mut first, mut second, mut consumer) = for_two(rt, alloc);
     if !fill_up(rt, &mut first, &mut second) {
-        return Ok(None);
+        panic!(rt; "another answer while the pipe fills");
     }
     if !close_and_take(rt, &mut first, &mut consumer) {
-        return Ok(None);
+        panic!(rt; "another answer while it is emptied");
     }
-    let gathered = gather_two(alloc, pipe, first, second, consumer)?;
-    Ok(Some(gathered))
+    gather_two(rt, alloc, pipe, first, second, consumer)
 }
 
 #[test]
-fn two_producers_at_a_full_pipe(rt: HostRuntime) -> Result<(), Fail> {
-    assert!(rt; example(&rt, rt.alloc())?.is_some());
-    Ok(())
+fn two_producers_at_a_full_pipe(rt: HostRuntime) {
+    let _ = example(&rt, rt.alloc());
 }
 
 fn ends<R: Wait>(rt: &R, producer: &mut Producer<u32>) -> bool
@@ -174,25 +170,22 @@ fn end_both<R: Wait>(
     gives_end(rt, consumer, 1)
 }
 
-// A pipe that is settled, until an answer is another than it should be.
-fn settled_example<R: Wait>(rt: &R, alloc: Global) -> Result<Option<Gathered<u32>>, AllocError>
-    ensures { IfOk result (λ o. IfSome o (λ g. IsSettled g.senders g.taker.taken)) }
+// A pipe that is settled.
+fn settled_example<R: Abort + Wait>(rt: &R, alloc: Global) -> Gathered<u32>
+    ensures { IsSettled result.senders result.taker.taken }
 {
-    let Some((pipe, mut first, mut second, mut consumer)) = for_two(alloc)? else {
-        return Ok(None);
-    };
+    let (pipe, mut first, mut second, mut consumer) = for_two(rt, alloc);
     if !end_both(rt, &mut first, &mut second, &mut consumer) {
-        return Ok(None);
+        panic!(rt; "another answer");
     }
-    let gathered = gather_two(alloc, pipe, first, second, consumer)?;
+    let gathered = gather_two(rt, alloc, pipe, first, second, consumer);
     gathered.settled();
-    Ok(Some(gathered))
+    gathered
 }
 
 #[test]
-fn ended_and_taken(rt: HostRuntime) -> Result<(), Fail> {
-    assert!(rt; settled_example(&rt, rt.alloc())?.is_some());
-    Ok(())
+fn ended_and_taken(rt: HostRuntime) {
+    let _ = settled_example(&rt, rt.alloc());
 }
 
 // Whether an offer is refused, and gives back the bytes that were offered.
@@ -241,20 +234,40 @@ fn gives_first_end<R: Wait>(rt: &R, consumer: &mut Consumer<Vec<u8>>) -> bool {
     }
 }
 
+// A pipe for one producer.
+fn for_one<T: Drop, R: Abort>(
+    rt: &R,
+    alloc: Global,
+    capacity: usize,
+) -> (Pipe<T>, Producer<T>, Consumer<T>)
+    requires { (0 < capacity) × (capacity ≤ 65536) }
+{
+    let (pipe, mut ends, consumer) = Pipe::<T>::new(alloc, capacity, 1).expect(rt, "memory");
+    (pipe, ends.pop().expect(rt, "producer"), consumer)
+}
+
+fn bytes_of<R: Abort>(rt: &R, alloc: Global, bytes: &[u8]) -> Vec<u8> {
+    let mut item = Vec::new(alloc);
+    item.extend_from_slice(bytes).expect(rt, "memory");
+    item
+}
+
 #[test]
-fn a_refused_item_comes_back(rt: HostRuntime) -> Result<(), Fail> {
+fn a_refused_item_comes_back(rt: HostRuntime) {
     let alloc = rt.alloc();
-    let (_pipe, mut ends, mut consumer) = Pipe::<Vec<u8>>::new(alloc, 1, 1)?;
-    let mut producer = ends.pop().expect(&rt, "one producer");
-    assert!(rt; producer.offer(&rt, vec![in alloc; 1, 2, 3]?).is_ok());
-    assert!(rt; refuses(&rt, &mut producer, vec![in alloc; 4, 5]?, &[4, 5]));
+    let (_pipe, mut producer, mut consumer) = for_one::<Vec<u8>, _>(&rt, alloc, 1);
+    assert!(rt;
+        producer
+            .offer(&rt, bytes_of(&rt, alloc, &[1, 2, 3]))
+            .is_ok()
+    );
+    assert!(rt; refuses(&rt, &mut producer, bytes_of(&rt, alloc, &[4, 5]), &[4, 5]));
     assert!(rt; refuses_end(&rt, &mut producer));
     assert!(rt; gives_bytes(&rt, &mut consumer, &[1, 2, 3]));
     assert!(rt; producer.mark(&rt, Mark::End).is_ok());
     assert!(rt; gives_first_end(&rt, &mut consumer));
     // what is still held is dropped with the pipe
-    assert!(rt; producer.offer(&rt, vec![in alloc; 6]?).is_ok());
-    Ok(())
+    assert!(rt; producer.offer(&rt, bytes_of(&rt, alloc, &[6])).is_ok());
 }
 
 // Whether each take makes room for one offer.
@@ -272,44 +285,32 @@ fn takes_make_room<R: Wait>(
 }
 
 // Whether as many offers as the capacity are accepted and no more, and then each take makes room for one.
-fn fills_at<R: Wait>(rt: &R, alloc: Global, capacity: usize) -> Result<bool, Fail>
+fn fills_at<R: Abort + Wait>(rt: &R, alloc: Global, capacity: usize) -> bool
     requires { (0 < capacity) × (capacity ≤ 65536) }
 {
-    let (_pipe, mut ends, mut consumer) = Pipe::<u32>::new(alloc, capacity, 1)?;
-    let Some(mut producer) = ends.pop() else {
-        return Ok(false);
-    };
-    Ok(
-        all_fit(rt, &mut producer, capacity as u32)
-            && producer.offer(rt, 7).is_err()
-            && takes_make_room(rt, &mut producer, &mut consumer),
-    )
+    let (_pipe, mut producer, mut consumer) = for_one::<u32, R>(rt, alloc, capacity);
+    all_fit(rt, &mut producer, capacity as u32)
+        && producer.offer(rt, 7).is_err()
+        && takes_make_room(rt, &mut producer, &mut consumer)
 }
 
 #[test]
-fn fills(rt: HostRuntime) -> Result<(), Fail> {
+fn fills(rt: HostRuntime) {
     for capacity in [1, 2, 7, 65536] {
-        assert!(rt; fills_at(&rt, rt.alloc(), capacity)?);
+        assert!(rt; fills_at(&rt, rt.alloc(), capacity));
     }
-    Ok(())
 }
 
 // The same of two producers that take turns. With more than one producer no clause says that a push is
 // accepted below the capacity, nor with any that a take finds what is there.
-fn two_fill<R: Wait>(rt: &R, alloc: Global, capacity: usize) -> Result<bool, Fail>
+fn two_fill<R: Abort + Wait>(rt: &R, alloc: Global, capacity: usize) -> bool
     requires { (0 < capacity) × (capacity ≤ 65536) }
 {
-    let (_pipe, mut ends, mut consumer) = Pipe::<u32>::new(alloc, capacity, 2)?;
-    let Some(mut even) = ends.pop() else {
-        return Ok(false);
-    };
-    let Some(mut odd) = ends.pop() else {
-        return Ok(false);
-    };
-    Ok(
-        turns_fit(rt, &mut even, &mut odd, capacity)
-            && turns_make_room(rt, &mut even, &mut odd, &mut consumer),
-    )
+    let (_pipe, mut ends, mut consumer) = Pipe::<u32>::new(alloc, capacity, 2).expect(rt, "memory");
+    let mut even = ends.pop().expect(rt, "producer");
+    let mut odd = ends.pop().expect(rt, "producer");
+    turns_fit(rt, &mut even, &mut odd, capacity)
+        && turns_make_room(rt, &mut even, &mut odd, &mut consumer)
 }
 
 // An offer by the one or the other.
@@ -359,11 +360,10 @@ fn turns_make_room<R: Wait>(
 }
 
 #[test]
-fn two_producers_fill(rt: HostRuntime) -> Result<(), Fail> {
+fn two_producers_fill(rt: HostRuntime) {
     for capacity in [1, 2, 7, 1024] {
-        assert!(rt; two_fill(&rt, rt.alloc(), capacity)?);
+        assert!(rt; two_fill(&rt, rt.alloc(), capacity));
     }
-    Ok(())
 }
 
 // Offers the numbers below `count` in their order, each again after a refusal.
@@ -393,35 +393,39 @@ fn number_of(entry: Option<Entry<u32>>) -> Option<(usize, u32)> {
     }
 }
 
-#[test]
-fn three_producers(rt: HostRuntime) -> Result<(), Fail> {
-    let (_pipe, ends, mut consumer) = Pipe::<u32>::new(rt.alloc(), 4, 3)?;
-    let mut children = Vec::new(rt.alloc());
-    for end in ends {
-        children.push(thread::spawn(&rt, move || offer_all(&rt, end, 1000))?)?;
-    }
+// Whether three times a thousand numbers are taken, those of each producer in their order.
+fn takes_in_order<R: Wait>(rt: &R, consumer: &mut Consumer<u32>) -> bool {
     let mut next = [0u32; 3];
-    let mut taken = 0u32;
     for _ in rt.forever() {
-        if taken >= 3000 {
+        if next == [1000, 1000, 1000] {
             break;
         }
-        match number_of(consumer.take(&rt)) {
+        match number_of(consumer.take(rt)) {
             Some((from, x)) => {
-                assert!(rt; from < 3);
-                assert_eq!(rt; x, next[from]);
-                assert!(rt; next[from] < 1000);
+                if from >= 3 || x != next[from] || x >= 1000 {
+                    return false;
+                }
                 next[from] += 1;
-                taken += 1;
             }
             None => thread::yield_now(),
         }
     }
+    true
+}
+
+#[test]
+fn three_producers(rt: HostRuntime) {
+    let alloc = rt.alloc();
+    let (_pipe, ends, mut consumer) = Pipe::<u32>::new(alloc, 4, 3).expect(&rt, "memory");
+    let mut children = Vec::with_capacity(alloc, 3).expect(&rt, "memory");
+    for end in ends {
+        let child = thread::spawn(&rt, move || offer_all(&rt, end, 1000)).expect(&rt, "thread");
+        children.push(child).expect(&rt, "memory");
+    }
+    assert!(rt; takes_in_order(&rt, &mut consumer));
     for child in children {
         child.join(&rt);
     }
-    assert_eq!(rt; next, [1000, 1000, 1000]);
-    Ok(())
 }
 
 // Offers a number of items, and says whether none was refused.
@@ -434,23 +438,34 @@ fn all_fit<R: Wait>(rt: &R, producer: &mut Producer<u32>, count: u32) -> bool {
     true
 }
 
-#[test]
-fn never_full(rt: HostRuntime) -> Result<(), Fail> {
-    let (_pipe, ends, mut consumer) = Pipe::<u32>::new(rt.alloc(), 65536, 2)?;
-    let mut children = Vec::new(rt.alloc());
-    let mut filled = Vec::new(rt.alloc());
+// Each offers so many from this thread, and then so many from one of its own.
+fn offer_twice<R>(
+    rt: R,
+    alloc: Global,
+    ends: Vec<Producer<u32>>,
+    count: u32,
+) -> Vec<JoinHandle<bool>>
+where
+    R: Abort + Threads + Wait + Copy + Send + 'static,
+{
+    let mut children = Vec::with_capacity(alloc, 2).expect(&rt, "memory");
     for mut end in ends {
-        assert!(rt; all_fit(&rt, &mut end, 15_000));
-        filled.push(end)?;
+        assert!(rt; all_fit(&rt, &mut end, count));
+        let child = thread::spawn(&rt, move || all_fit(&rt, &mut end, count)).expect(&rt, "thread");
+        children.push(child).expect(&rt, "memory");
     }
-    for mut end in filled {
-        children.push(thread::spawn(&rt, move || all_fit(&rt, &mut end, 15_000))?)?;
-    }
+    children
+}
+
+#[test]
+fn never_full(rt: HostRuntime) {
+    let alloc = rt.alloc();
+    let (_pipe, ends, mut consumer) = Pipe::<u32>::new(alloc, 65536, 2).expect(&rt, "memory");
+    let children = offer_twice(rt, alloc, ends, 15_000);
     for _ in 0..30_000 {
         assert!(rt; consumer.take(&rt).is_some());
     }
     for child in children {
         assert!(rt; child.join(&rt));
     }
-    Ok(())
 }

@@ -46,20 +46,16 @@ fn sinks<R: Clock + Copy + Drop>(
 type Outcome = (Totals, [u64; 8], bool);
 
 // What came of a run over four links, whose link 1 gives packets for link 2 at these cues.
-fn led<R>(
-    rt: R,
-    config: Config,
-    cues: &'static [Cue],
-    orders: &'static [Order],
-) -> Result<Outcome, AllocError>
+fn led<R>(rt: R, config: Config, cues: &'static [Cue], orders: &'static [Order]) -> Outcome
 where
     R: AllocGlobal + Abort + Threads + Wait + Clock + Copy + Send + Drop + 'static,
 {
     let alloc = rt.alloc();
-    let words = Words::new(alloc)?;
-    let gate = CuedGate::new(Arc::try_clone(&words)?, cues);
-    let from = sources(alloc, &words, cues)?;
-    let to = sinks(rt, alloc, &words)?;
+    let words = Words::new(alloc).expect(&rt, "memory");
+    let own = Arc::try_clone(&words).expect(&rt, "memory");
+    let gate = CuedGate::new(own, cues);
+    let from = sources(alloc, &words, cues).expect(&rt, "memory");
+    let to = sinks(rt, alloc, &words).expect(&rt, "memory");
     let played = ran(rt, config, from, to, gate, Some(Lead { words, orders }));
     let numbers = match played.report.sinks.get(2) {
         Some(sink) => sink.numbers(),
@@ -67,13 +63,13 @@ where
     };
     let totals = played.report.totals;
     let good = played.as_told && sent_by(&played.report, &[0, 0, totals.sent, 0]);
-    Ok((totals, numbers, good))
+    (totals, numbers, good)
 }
 
 /// The sink holds packet 1, and 2 and 3 fill the link's pipe, when the closing mark is refused. Packet 4 is
 /// admitted once the mark is there.
 #[test]
-fn close_while_full(rt: HostRuntime) -> Result<(), Fail> {
+fn close_while_full(rt: HostRuntime) {
     const CUES: [Cue; 4] = [Low(0, 0, 0), Low(1, 1, 0), Low(2, 1, 0), Low(3, 3, 2)];
     const ORDERS: [Order; 6] = [
         Order::Asked(4),
@@ -83,16 +79,15 @@ fn close_while_full(rt: HostRuntime) -> Result<(), Fail> {
         Order::Close(2, Err(CloseFault::AlreadyClosed)),
         Order::Stage(2),
     ];
-    let outcome = led(rt, router(&rt, 1, 2), &CUES, &ORDERS)?;
+    let outcome = led(rt, router(&rt, 1, 2), &CUES, &ORDERS);
     let wanted = (totals(4, 3, CLOSED, 1), [1, 2, 3, 0, 0, 0, 0, 0], true);
     assert!(rt; outcome == wanted);
-    Ok(())
 }
 
 /// The low band's mark is refused, and the high band's is there all the same: the urgent packet, which is
 /// admitted then, is swept, while all those of the low band are sent.
 #[test]
-fn close_while_one_band_is_full(rt: HostRuntime) -> Result<(), Fail> {
+fn close_while_one_band_is_full(rt: HostRuntime) {
     const CUES: [Cue; 4] = [Low(0, 0, 0), Low(1, 1, 0), Low(2, 1, 0), High(3, 0, 1)];
     const ORDERS: [Order; 5] = [
         Order::Asked(4),
@@ -101,16 +96,15 @@ fn close_while_one_band_is_full(rt: HostRuntime) -> Result<(), Fail> {
         Order::CloseAtLast(2),
         Order::Close(2, Err(CloseFault::AlreadyClosed)),
     ];
-    let outcome = led(rt, two_band_router(&rt, 2), &CUES, &ORDERS)?;
+    let outcome = led(rt, two_band_router(&rt, 2), &CUES, &ORDERS);
     let wanted = (totals(4, 3, CLOSED, 1), [1, 2, 3, 0, 0, 0, 0, 0], true);
     assert!(rt; outcome == wanted);
-    Ok(())
 }
 
 /// A link is closed once, and a link that isn't there never. What comes for the closed one is swept, in both
 /// of its bands.
 #[test]
-fn a_closed_link_sends_nothing(rt: HostRuntime) -> Result<(), Fail> {
+fn a_closed_link_sends_nothing(rt: HostRuntime) {
     const CUES: [Cue; 3] = [Low(0, 0, 1), High(0, 0, 1), Low(0, 0, 1)];
     const ORDERS: [Order; 6] = [
         Order::Passed(3),
@@ -121,15 +115,14 @@ fn a_closed_link_sends_nothing(rt: HostRuntime) -> Result<(), Fail> {
         Order::Stage(1),
     ];
     for config in [router(&rt, 1, 64), two_band_router(&rt, 64)] {
-        let outcome = led(rt, config, &CUES, &ORDERS)?;
+        let outcome = led(rt, config, &CUES, &ORDERS);
         assert!(rt; outcome == (totals(3, 0, CLOSED, 3), [0; 8], true));
     }
-    Ok(())
 }
 
 /// While the sink holds packet 1 the others come to their pipes. The urgent one is the next that it is handed.
 #[test]
-fn the_high_band_goes_first(rt: HostRuntime) -> Result<(), Fail> {
+fn the_high_band_goes_first(rt: HostRuntime) {
     const CUES: [Cue; 5] = [
         Low(0, 0, 0),
         Low(1, 1, 0),
@@ -138,16 +131,15 @@ fn the_high_band_goes_first(rt: HostRuntime) -> Result<(), Fail> {
         Low(4, 1, 0),
     ];
     const ORDERS: [Order; 2] = [Order::Asked(5), Order::Stage(1)];
-    let outcome = led(rt, two_band_router(&rt, 64), &CUES, &ORDERS)?;
+    let outcome = led(rt, two_band_router(&rt, 64), &CUES, &ORDERS);
     let wanted = (totals(5, 5, CLOSED, 0), [1, 4, 2, 3, 5, 0, 0, 0], true);
     assert!(rt; outcome == wanted);
-    Ok(())
 }
 
 /// The sink holds packet 1, 2 and 3 fill the link's pipe, 4 is in the processor's hand, 5 and 6 fill its pipe,
 /// and 7 was refused there, when the router is told to end. All but 7 are sent.
 #[test]
-fn full_pipes_are_emptied_at_the_end(rt: HostRuntime) -> Result<(), Fail> {
+fn full_pipes_are_emptied_at_the_end(rt: HostRuntime) {
     const CUES: [Cue; 7] = [
         Low(0, 0, 0),
         Low(1, 1, 0),
@@ -158,12 +150,11 @@ fn full_pipes_are_emptied_at_the_end(rt: HostRuntime) -> Result<(), Fail> {
         Low(4, 0, 0),
     ];
     const ORDERS: [Order; 2] = [Order::Passed(7), Order::Stage(1)];
-    let outcome = led(rt, router(&rt, 1, 2), &CUES, &ORDERS)?;
+    let outcome = led(rt, router(&rt, 1, 2), &CUES, &ORDERS);
     let wanted = (
         totals(7, 6, FULL_PROCESSOR, 1),
         [1, 2, 3, 4, 5, 6, 0, 0],
         true,
     );
     assert!(rt; outcome == wanted);
-    Ok(())
 }

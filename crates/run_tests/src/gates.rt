@@ -58,18 +58,22 @@ fn new_meeting(alloc: Global) -> Result<Arc<Meeting, Global>, AllocError> {
 
 /// Two flows are decided by two processors, each of which sees that the other is at work.
 #[test]
-fn gate_two_processors(rt: HostRuntime) -> Result<(), Fail> {
+fn gate_two_processors(rt: HostRuntime) {
     let alloc = rt.alloc();
     let other = with_bytes(FIRST, 3, &[2]);
     let mut answers = Vec::new(alloc);
-    answers.push(datagram(alloc, &FIRST, NEAR, IN_TIME)?)?;
-    answers.push(datagram(alloc, &other, NEAR, IN_TIME)?)?;
-    let sources = four_sources(alloc, answers)?;
-    let sinks = list_sinks(alloc, 4, 0)?;
-    let meeting = new_meeting(alloc)?;
+    answers
+        .push(datagram(alloc, &FIRST, NEAR, IN_TIME).expect(&rt, "memory"))
+        .expect(&rt, "memory");
+    answers
+        .push(datagram(alloc, &other, NEAR, IN_TIME).expect(&rt, "memory"))
+        .expect(&rt, "memory");
+    let sources = four_sources(alloc, answers).expect(&rt, "memory");
+    let sinks = list_sinks(alloc, 4, 0).expect(&rt, "memory");
+    let meeting = new_meeting(alloc).expect(&rt, "memory");
     let gate = Meet {
         rt,
-        meeting: Arc::try_clone(&meeting)?,
+        meeting: Arc::try_clone(&meeting).expect(&rt, "memory"),
     };
     let config = router(&rt, 2, 64);
     let played = ran(rt, config, sources, sinks, gate, None);
@@ -79,5 +83,4 @@ fn gate_two_processors(rt: HostRuntime) -> Result<(), Fail> {
     assert!(rt; played.report.totals == wanted);
     assert!(rt; sent_by(&played.report, &[0, 0, 2, 0]));
     assert_eq!(rt; meeting.met.load(Ordering::SeqCst), 2);
-    Ok(())
 }

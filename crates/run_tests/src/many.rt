@@ -126,10 +126,12 @@ fn adds_up(totals: &Totals, sent: u128) -> bool {
 }
 
 #[test]
-fn capacity_one(rt: HostRuntime) -> Result<(), Fail> {
+fn capacity_one(rt: HostRuntime) {
     let alloc = rt.alloc();
-    let sources = list_sources(alloc, all_datagrams(alloc)?)?;
-    let sinks = list_sinks(alloc, 33, 0)?;
+    let sources = list_sources(alloc, all_datagrams(alloc).expect(&rt, "memory")).expect(
+        &rt, "memory",
+    );
+    let sinks = list_sinks(alloc, 33, 0).expect(&rt, "memory");
     let played = ran(rt, wide_router(&rt), sources, sinks, Open, None);
     let told = played.report.sinks.get(1).and_then(|sink| sink.told());
     let list = told.expect(&rt, "a list");
@@ -139,5 +141,4 @@ fn capacity_one(rt: HostRuntime) -> Result<(), Fail> {
     let mut counts = [0; 33];
     counts[1] = sent;
     assert!(rt; sent_by(&played.report, &counts));
-    Ok(())
 }

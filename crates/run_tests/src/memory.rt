@@ -15,13 +15,12 @@ use std::test::*;
 const SEGMENT_AT: usize = 42;
 
 #[test]
-fn ended_sources_count_nothing(rt: HostRuntime) -> Result<(), Fail> {
-    let sources = four_sources(rt.alloc(), Vec::new(rt.alloc()))?;
-    let sinks = list_sinks(rt.alloc(), 4, 0)?;
+fn ended_sources_count_nothing(rt: HostRuntime) {
+    let sources = four_sources(rt.alloc(), Vec::new(rt.alloc())).expect(&rt, "memory");
+    let sinks = list_sinks(rt.alloc(), 4, 0).expect(&rt, "memory");
     let played = ran(rt, router(&rt, 1, 4), sources, sinks, Open, None);
     assert!(rt; played.report.totals == NOTHING);
     assert!(rt; sent_by(&played.report, &[0; 4]));
-    Ok(())
 }
 
 // Whether the first datagram of link 1 was taken, as it leaves: one hop further, and its identifier chained.
@@ -36,9 +35,11 @@ fn is_first(sent: &Sent) -> bool {
 }
 
 #[test]
-fn the_first_datagram_crosses(rt: HostRuntime) -> Result<(), Fail> {
-    let sources = four_sources(rt.alloc(), firsts(rt.alloc(), 1)?)?;
-    let sinks = list_sinks(rt.alloc(), 4, 0)?;
+fn the_first_datagram_crosses(rt: HostRuntime) {
+    let sources = four_sources(rt.alloc(), firsts(rt.alloc(), 1).expect(&rt, "memory")).expect(
+        &rt, "memory",
+    );
+    let sinks = list_sinks(rt.alloc(), 4, 0).expect(&rt, "memory");
     let played = ran(rt, router(&rt, 1, 64), sources, sinks, Open, None);
     let mut wanted = NOTHING;
     wanted.received = 1;
@@ -50,26 +51,24 @@ fn the_first_datagram_crosses(rt: HostRuntime) -> Result<(), Fail> {
         Some([sent]) => assert!(rt; is_first(sent)),
         _ => assert!(rt; false),
     }
-    Ok(())
 }
 
 #[test]
-fn sources_that_always_fail_give_nothing(rt: HostRuntime) -> Result<(), Fail> {
+fn sources_that_always_fail_give_nothing(rt: HostRuntime) {
     let failing = [
         Failing::new(),
         Failing::new(),
         Failing::new(),
         Failing::new(),
     ];
-    let sources = Vec::from_array(rt.alloc(), failing)?;
-    let sinks = list_sinks(rt.alloc(), 4, 0)?;
+    let sources = Vec::from_array(rt.alloc(), failing).expect(&rt, "memory");
+    let sinks = list_sinks(rt.alloc(), 4, 0).expect(&rt, "memory");
     let played = ran(rt, router(&rt, 1, 4), sources, sinks, Open, None);
     assert!(rt; played.report.totals == NOTHING);
     assert!(rt; sent_by(&played.report, &[0; 4]));
     for source in &played.report.sources {
         assert!(rt; source.failures() > 0);
     }
-    Ok(())
 }
 
 // Two datagrams, and a failure.
@@ -82,22 +81,27 @@ fn before_a_failure(alloc: Global) -> Result<Vec<Next>, AllocError> {
 }
 
 #[test]
-fn a_failure_is_no_datagram(rt: HostRuntime) -> Result<(), Fail> {
-    let sources = four_sources(rt.alloc(), before_a_failure(rt.alloc())?)?;
-    let sinks = list_sinks(rt.alloc(), 4, 0)?;
+fn a_failure_is_no_datagram(rt: HostRuntime) {
+    let sources = four_sources(
+        rt.alloc(),
+        before_a_failure(rt.alloc()).expect(&rt, "memory"),
+    )
+    .expect(&rt, "memory");
+    let sinks = list_sinks(rt.alloc(), 4, 0).expect(&rt, "memory");
     let played = ran(rt, router(&rt, 1, 64), sources, sinks, Open, None);
     let mut wanted = NOTHING;
     wanted.received = 2;
     wanted.sent = 2;
     assert!(rt; played.report.totals == wanted);
     assert!(rt; sent_by(&played.report, &[0, 0, 2, 0]));
-    Ok(())
 }
 
 #[test]
-fn a_sink_that_always_refuses_is_counted(rt: HostRuntime) -> Result<(), Fail> {
-    let sources = four_sources(rt.alloc(), firsts(rt.alloc(), 20)?)?;
-    let sinks = list_sinks(rt.alloc(), 4, 20)?;
+fn a_sink_that_always_refuses_is_counted(rt: HostRuntime) {
+    let sources = four_sources(rt.alloc(), firsts(rt.alloc(), 20).expect(&rt, "memory")).expect(
+        &rt, "memory",
+    );
+    let sinks = list_sinks(rt.alloc(), 4, 20).expect(&rt, "memory");
     let played = ran(rt, router(&rt, 1, 64), sources, sinks, Open, None);
     let mut wanted = NOTHING;
     wanted.received = 20;
@@ -106,5 +110,4 @@ fn a_sink_that_always_refuses_is_counted(rt: HostRuntime) -> Result<(), Fail> {
     assert!(rt; sent_by(&played.report, &[0; 4]));
     let failures = played.report.sinks.get(2).map(|sink| sink.failures());
     assert_eq!(rt; failures, Some(20));
-    Ok(())
 }

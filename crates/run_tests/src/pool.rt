@@ -50,12 +50,12 @@ fn all_sent(count: u128) -> Totals {
 /// Neither the devices nor the router take memory after the start: the first growth past those of `start` may
 /// be refused, and all is sent.
 #[test]
-fn a_thousand_datagrams_take_no_memory(rt: HostRuntime) -> Result<(), Fail> {
+fn a_thousand_datagrams_take_no_memory(rt: HostRuntime) {
     const ORDERS: [Order; 1] = [Order::Handed(1000)];
     let alloc = rt.alloc();
-    let words = Words::new(alloc)?;
-    let sources = paced(alloc, &words, 4, 1000)?;
-    let sinks = counting(alloc, &words, 4)?;
+    let words = Words::new(alloc).expect(&rt, "memory");
+    let sources = paced(alloc, &words, 4, 1000).expect(&rt, "memory");
+    let sinks = counting(alloc, &words, 4).expect(&rt, "memory");
     let lead = Lead {
         words,
         orders: &ORDERS,
@@ -64,7 +64,6 @@ fn a_thousand_datagrams_take_no_memory(rt: HostRuntime) -> Result<(), Fail> {
     assert!(rt; played.as_told);
     assert!(rt; played.report.totals == all_sent(1000));
     assert!(rt; sent_by(&played.report, &[0, 0, 1000, 0]));
-    Ok(())
 }
 
 // What came of a start over these devices, and what came back of a refused one.
@@ -109,21 +108,22 @@ fn crossed_or_back(started: Started) -> bool {
 /// With a source too few, and with a sink too many, both lists come back, and then serve a router. With each
 /// growth of the start refused by hand they come back too, except one for a thread, which drops them.
 #[test]
-fn a_refused_start_gives_both_lists_back(rt: HostRuntime) -> Result<(), Fail> {
+fn a_refused_start_gives_both_lists_back(rt: HostRuntime) {
     let alloc = rt.alloc();
-    let words = Words::new(alloc)?;
-    let sources = paced(alloc, &words, 3, 1)?;
-    let sinks = counting(alloc, &words, 4)?;
+    let words = Words::new(alloc).expect(&rt, "memory");
+    let sources = paced(alloc, &words, 3, 1).expect(&rt, "memory");
+    let sinks = counting(alloc, &words, 4).expect(&rt, "memory");
     let back = miscounted(run(rt, router(&rt, 1, 64), sources, sinks, Open, None));
     let (mut sources, sinks) = back.expect(&rt, "both lists");
     assert!(rt; is_unasked(sources.as_slice(), sinks.as_slice(), (3, 4)));
-    sources.push(Paced::new(Arc::try_clone(&words)?, 0))?;
-    let sinks = counting(alloc, &words, 5)?;
+    sources
+        .push(Paced::new(Arc::try_clone(&words).expect(&rt, "memory"), 0))
+        .expect(&rt, "memory");
+    let sinks = counting(alloc, &words, 5).expect(&rt, "memory");
     let back = miscounted(run(rt, router(&rt, 1, 64), sources, sinks, Open, None));
     let (sources, mut sinks) = back.expect(&rt, "both lists");
     assert!(rt; is_unasked(sources.as_slice(), sinks.as_slice(), (4, 5)));
     let _ = sinks.pop();
     let started = run(rt, router(&rt, 1, 64), sources, sinks, Open, None);
     assert!(rt; crossed_or_back(started));
-    Ok(())
 }

@@ -1,6 +1,6 @@
 //! Small workers, in threads, to their ends.
 
-ghost use Rattle.std.specs.Prelude.{◌≡◌, ◌≤◌, [], IfOk, false, length, vec_capacity};
+ghost use Rattle.std.specs.Prelude.{◌≡◌, ◌≤◌, [], false, length, vec_capacity};
 
 use crossbeam_utils::sync::EventCount;
 use packet_ledger::{Blank, Book, Ledger, Share};
@@ -9,6 +9,7 @@ use ruled_pipe::{Load, Pipe};
 use stage_parts::{Event, Inlet, Outlet};
 use std::alloc::{AllocError, Global};
 use std::marker::Brand;
+use std::process::Abort;
 use std::sync::atomic::AtomicU64;
 use std::sync::{Arc, Wait};
 use std::test::*;
@@ -75,34 +76,34 @@ impl<L: Ledger, R: Wait> Work<L> for Countdown<L, R> {
 }
 
 // A number of workers, with shares taken off a list.
-fn team<L: Ledger, R: Wait + Copy>(
+fn team<L: Ledger, R: Abort + Wait + Copy>(
     rt: R,
     alloc: Global,
     orders: &Orders<L>,
     shares: &mut Vec<Share<L>>,
     count: usize,
-) -> Result<Team<L, Countdown<L, R>>, AllocError>
-    ensures { IfOk result (λ t. (t.room.items ≡ []) × (length t.workers.items ≤ vec_capacity t.room)) }
+) -> Team<L, Countdown<L, R>>
+    ensures { (result.room.items ≡ []) × (length result.workers.items ≤ vec_capacity result.room) }
 {
     let mut workers = Vec::new(alloc);
     let mut own = Vec::new(alloc);
     for _ in 0..count {
-        if let Some(share) = shares.pop() {
-            workers.push(Countdown {
-                rt,
-                left: 3000,
-                quiet: 25,
-                share,
-            })?;
-        }
-        own.push(orders.another()?)?;
+        let worker = Countdown {
+            rt,
+            left: 3000,
+            quiet: 25,
+            share: shares.pop().expect(&rt, "share"),
+        };
+        workers.push(worker).expect(&rt, "memory");
+        let orders = orders.another().expect(&rt, "memory");
+        own.push(orders).expect(&rt, "memory");
     }
-    let room = Vec::with_capacity(alloc, workers.len())?;
-    Ok(Team {
+    let room = Vec::with_capacity(alloc, workers.len()).expect(&rt, "memory");
+    Team {
         workers,
         orders: own,
         room,
-    })
+    }
 }
 
 // Whether a worker came to its end and posted all that it counted.
@@ -111,88 +112,87 @@ fn is_over<L: Ledger, R>(worker: &Countdown<L, R>) -> bool {
 }
 
 // How many workers came back, each over.
-fn joined<L, R>(
-    rt: &R,
-    alloc: Global,
-    handles: Vec<Handle<L, Countdown<L, R>>>,
-) -> Result<usize, AllocError>
+fn joined<L, R>(rt: &R, alloc: Global, handles: Vec<Handle<L, Countdown<L, R>>>) -> usize
 where
     L: Ledger,
-    R: Threads + Wait + Clock + Drop,
+    R: Abort + Threads + Wait + Clock + Drop,
 {
-    let room = Vec::with_capacity(alloc, handles.len())?;
+    let room = Vec::with_capacity(alloc, handles.len()).expect(rt, "memory");
     let back = join_all(rt, handles, room);
     for worker in back.iter() {
         if !is_over(worker) {
-            return Ok(0);
+            return 0;
         }
     }
-    Ok(back.len())
+    back.len()
+}
+
+// Orders for the threads of workers that count, and the shares of six.
+fn orders_for_six<L: Ledger, R: Abort>(
+    rt: &R,
+    alloc: Global,
+    blank: Blank,
+) -> (Orders<L>, Vec<Share<L>>)
+    requires name { blank.table ≡ L.table }
+    requires six { L.workers ≡ 6 }
+{
+    let (book, shares) = Book::<L>::new(alloc, blank, 6).expect(rt, "memory");
+    let word = Arc::new(alloc, AtomicU64::new(HOLD)).expect(rt, "memory");
+    let book = Arc::new(alloc, book).expect(rt, "memory");
+    (Orders::new(word, book), shares)
 }
 
 // Four teams, one of them empty: how many came back.
-fn four_teams<L, R>(
-    rt: R,
-    alloc: Global,
-    blank: Blank,
-) -> Result<(usize, usize, usize, usize), AllocError>
+fn four_teams<L, R>(rt: R, alloc: Global, blank: Blank) -> (usize, usize, usize, usize)
 where
     L: Ledger + Send + Sync + 'static,
-    R: Threads + Wait + Clock + Copy + Send + Drop + 'static,
+    R: Abort + Threads + Wait + Clock + Copy + Send + Drop + 'static,
     requires name { blank.table ≡ L.table }
     requires six { L.workers ≡ 6 }
 {
-    let (book, mut shares) = Book::<L>::new(alloc, blank, 6)?;
-    let word = Arc::new(alloc, AtomicU64::new(HOLD))?;
-    let book = Arc::new(alloc, book)?;
-    let orders = Orders::new(word, book);
-    let one = team(rt, alloc, &orders, &mut shares, 3)?;
-    let two = team(rt, alloc, &orders, &mut shares, 2)?;
-    let three = team(rt, alloc, &orders, &mut shares, 1)?;
-    let four = team(rt, alloc, &orders, &mut shares, 0)?;
-    let Ok((front, back)) = start_four(rt, &orders, (one, two), (three, four)) else {
-        return Ok((9, 9, 9, 9));
-    };
-    let one = joined(&rt, alloc, front.first)?;
-    let two = joined(&rt, alloc, front.second)?;
-    let three = joined(&rt, alloc, back.first)?;
-    let four = joined(&rt, alloc, back.second)?;
-    Ok((one, two, three, four))
+    let (orders, mut shares) = orders_for_six::<L, R>(&rt, alloc, blank);
+    let one = team(rt, alloc, &orders, &mut shares, 3);
+    let two = team(rt, alloc, &orders, &mut shares, 2);
+    let three = team(rt, alloc, &orders, &mut shares, 1);
+    let four = team(rt, alloc, &orders, &mut shares, 0);
+    let started = start_four(rt, &orders, (one, two), (three, four)).ok();
+    let (front, back) = started.expect(&rt, "threads");
+    (
+        joined(&rt, alloc, front.first),
+        joined(&rt, alloc, front.second),
+        joined(&rt, alloc, back.first),
+        joined(&rt, alloc, back.second),
+    )
 }
 
 #[test]
-fn workers_come_back(rt: HostRuntime) -> Result<(), Fail> {
-    let blank = Blank::new(rt.alloc())?;
-    let counts = four_teams::<Brand, _>(rt, rt.alloc(), blank)?;
-    assert_eq!(rt; counts, (3, 2, 1, 0));
-    Ok(())
+fn workers_come_back(rt: HostRuntime) {
+    let blank = Blank::new(rt.alloc()).expect(&rt, "memory");
+    let counts = four_teams::<Brand, _>(rt, rt.alloc(), blank);
+    assert!(rt; counts == (3, 2, 1, 0));
 }
 
 // A team with orders for fewer threads than it has workers is refused, and no thread is left.
-fn one_short<L, R>(rt: R, alloc: Global, blank: Blank) -> Result<bool, AllocError>
+fn one_short<L, R>(rt: R, alloc: Global, blank: Blank) -> bool
 where
     L: Ledger + Send + Sync + 'static,
-    R: Threads + Wait + Clock + Copy + Send + Drop + 'static,
+    R: Abort + Threads + Wait + Clock + Copy + Send + Drop + 'static,
     requires name { blank.table ≡ L.table }
     requires six { L.workers ≡ 6 }
 {
-    let (book, mut shares) = Book::<L>::new(alloc, blank, 6)?;
-    let word = Arc::new(alloc, AtomicU64::new(HOLD))?;
-    let book = Arc::new(alloc, book)?;
-    let orders = Orders::new(word, book);
-    let one = team(rt, alloc, &orders, &mut shares, 3)?;
-    let two = team(rt, alloc, &orders, &mut shares, 1)?;
-    let mut three = team(rt, alloc, &orders, &mut shares, 2)?;
-    let _ = three.orders.pop();
-    let four = team(rt, alloc, &orders, &mut shares, 0)?;
-    Ok(start_four(rt, &orders, (one, two), (three, four)).is_err())
+    let (orders, mut shares) = orders_for_six::<L, R>(&rt, alloc, blank);
+    let one = team(rt, alloc, &orders, &mut shares, 3);
+    let two = team(rt, alloc, &orders, &mut shares, 1);
+    let mut three = team(rt, alloc, &orders, &mut shares, 2);
+    drop(three.orders.pop());
+    let four = team(rt, alloc, &orders, &mut shares, 0);
+    start_four(rt, &orders, (one, two), (three, four)).is_err()
 }
 
 #[test]
-fn a_refused_thread_ends_all(rt: HostRuntime) -> Result<(), Fail> {
-    let blank = Blank::new(rt.alloc())?;
-    assert!(rt; one_short::<Brand, _>(rt, rt.alloc(), blank)?);
-    Ok(())
+fn a_refused_thread_ends_all(rt: HostRuntime) {
+    let blank = Blank::new(rt.alloc()).expect(&rt, "memory");
+    assert!(rt; one_short::<Brand, _>(rt, rt.alloc(), blank));
 }
 
 // It offers the numbers below a bound, one in eight turns, and then its end mark.
@@ -324,25 +324,24 @@ impl<L: Ledger, R: Wait> Work<L> for Drain<R> {
 }
 
 // One worker, and room for its handle.
-fn alone<L: Ledger, W: Work<L>>(
+fn alone<L: Ledger, W: Work<L> + Drop, R: Abort>(
+    rt: &R,
     alloc: Global,
     worker: W,
     orders: Orders<L>,
-) -> Result<Team<L, W>, AllocError>
-where
-    W: Drop,
-    ensures { IfOk result (λ t. (t.room.items ≡ []) × (length t.workers.items ≤ vec_capacity t.room)) }
+) -> Team<L, W>
+    ensures { (result.room.items ≡ []) × (length result.workers.items ≤ vec_capacity result.room) }
 {
     let mut workers = Vec::new(alloc);
-    workers.push(worker)?;
+    workers.push(worker).expect(rt, "memory");
     let mut each = Vec::new(alloc);
-    each.push(orders)?;
-    let room = Vec::with_capacity(alloc, workers.len())?;
-    Ok(Team {
+    each.push(orders).expect(rt, "memory");
+    let room = Vec::with_capacity(alloc, workers.len()).expect(rt, "memory");
+    Team {
         workers,
         orders: each,
         room,
-    })
+    }
 }
 
 // Two workers at the ends of a pipe. The one that offers notifies the event.
@@ -377,55 +376,55 @@ fn taken_by<L, R>(
     orders: &Orders<L>,
     first: Team<L, Feeder<R>>,
     second: Team<L, Drain<R>>,
-) -> Result<u64, AllocError>
+) -> u64
 where
     L: Ledger + Send + Sync + 'static,
-    R: Threads + Wait + Clock + Copy + Send + Drop + 'static,
+    R: Abort + Threads + Wait + Clock + Copy + Send + Drop + 'static,
     requires first { (first.room.items ≡ []) × (length first.workers.items ≤ vec_capacity first.room) }
     requires second { (second.room.items ≡ []) × (length second.workers.items ≤ vec_capacity second.room) }
 {
-    let Ok(both) = start_both(rt, orders, first, second) else {
-        return Ok(0);
-    };
+    let both = start_both(rt, orders, first, second).ok();
+    let both = both.expect(&rt, "threads");
     orders.run();
-    let room = Vec::with_capacity(alloc, both.first.len())?;
-    let _ = join_all(&rt, both.first, room);
-    let room = Vec::with_capacity(alloc, both.second.len())?;
+    let room = Vec::with_capacity(alloc, both.first.len()).expect(&rt, "memory");
+    drop(join_all(&rt, both.first, room));
+    let room = Vec::with_capacity(alloc, both.second.len()).expect(&rt, "memory");
     let mut back = join_all(&rt, both.second, room);
-    Ok(back.pop().map_or(0, |drain| drain.sum))
+    back.pop().expect(&rt, "worker").sum
 }
 
 // Orders for threads whose workers count nothing.
-fn orders_of<L: Ledger>(alloc: Global, blank: Blank) -> Result<Orders<L>, AllocError>
+fn orders_of<L: Ledger, R: Abort>(rt: &R, alloc: Global, blank: Blank) -> Orders<L>
     requires name { blank.table ≡ L.table }
     requires none { L.workers ≡ 0 }
 {
-    let (book, _) = Book::<L>::new(alloc, blank, 0)?;
-    let word = Arc::new(alloc, AtomicU64::new(HOLD))?;
-    Ok(Orders::new(word, Arc::new(alloc, book)?))
+    let (book, _) = Book::<L>::new(alloc, blank, 0).expect(rt, "memory");
+    let word = Arc::new(alloc, AtomicU64::new(HOLD)).expect(rt, "memory");
+    Orders::new(word, Arc::new(alloc, book).expect(rt, "memory"))
 }
 
 // What a worker that sleeps takes of a pipe into which another pushes now and then: the sum.
-fn fed<L, R>(rt: R, alloc: Global, blank: Blank) -> Result<u64, AllocError>
+fn fed<L, R>(rt: R, alloc: Global, blank: Blank) -> u64
 where
     L: Ledger + Send + Sync + 'static,
-    R: Threads + Wait + Clock + Copy + Send + Drop + 'static,
+    R: Abort + Threads + Wait + Clock + Copy + Send + Drop + 'static,
     requires name { blank.table ≡ L.table }
     requires none { L.workers ≡ 0 }
 {
-    let orders = orders_of::<L>(alloc, blank)?;
-    let event = Arc::new(alloc, EventCount::new())?;
-    let Some((feeder, drain)) = at_both_ends(rt, alloc, Arc::try_clone(&event)?)? else {
-        return Ok(0);
-    };
-    let first = alone(alloc, feeder, orders.another()?)?;
-    let second = alone(alloc, drain, orders.another_with(&event)?)?;
+    let orders = orders_of::<L, R>(&rt, alloc, blank);
+    let event = Arc::new(alloc, EventCount::new()).expect(&rt, "memory");
+    let other = Arc::try_clone(&event).expect(&rt, "memory");
+    let made = at_both_ends(rt, alloc, other).expect(&rt, "memory");
+    let (feeder, drain) = made.expect(&rt, "an end");
+    let plain = orders.another().expect(&rt, "memory");
+    let woken = orders.another_with(&event).expect(&rt, "memory");
+    let first = alone(&rt, alloc, feeder, plain);
+    let second = alone(&rt, alloc, drain, woken);
     taken_by(rt, alloc, &orders, first, second)
 }
 
 #[test]
-fn a_sleeper_is_woken(rt: HostRuntime) -> Result<(), Fail> {
-    let blank = Blank::new(rt.alloc())?;
-    assert_eq!(rt; fed::<Brand, _>(rt, rt.alloc(), blank)?, 820);
-    Ok(())
+fn a_sleeper_is_woken(rt: HostRuntime) {
+    let blank = Blank::new(rt.alloc()).expect(&rt, "memory");
+    assert!(rt; fed::<Brand, _>(rt, rt.alloc(), blank) == 820);
 }

@@ -7,6 +7,7 @@ use router_rules::Outgoing;
 use ruled_pipe::{Consumer, Load, Mark, Pipe, Producer};
 use stage_parts::{BUFFER_LEN, Inlet, ListSink, ListSource, Next, NextLen, Outlet, Sink, Source};
 use std::alloc::{AllocError, Global};
+use std::process::Abort;
 use std::sync::Wait;
 use std::test::*;
 
@@ -16,63 +17,59 @@ const NEAR: Underlay = Underlay {
 };
 
 // Whether the source gives a datagram of this length, with this first byte.
-fn gives(source: &mut ListSource, bytes: &mut Vec<u8>, want: usize, first: u8) -> bool {
-    if bytes.len() != BUFFER_LEN || source.failures() > 5 {
+fn gives(source: &mut ListSource, bytes: &mut [u8; BUFFER_LEN], want: usize, first: u8) -> bool {
+    if source.failures() > 5 {
         return false;
     }
-    match source.next_into(bytes.as_mut_slice()) {
+    match source.next_into(bytes) {
         NextLen::Datagram { len, from, now } => {
-            len == want
-                && from == NEAR
-                && now == 7
-                && bytes.len() == BUFFER_LEN
-                && bytes[0] == first
+            len == want && from == NEAR && now == 7 && bytes[0] == first
         }
         _ => false,
     }
 }
 
-fn answers(source: &mut ListSource, bytes: &mut Vec<u8>, want: NextLen) -> bool {
-    bytes.len() == BUFFER_LEN
-        && source.failures() < 5
-        && source.next_into(bytes.as_mut_slice()) == want
+fn answers(source: &mut ListSource, bytes: &mut [u8; BUFFER_LEN], want: NextLen) -> bool {
+    source.failures() < 5 && source.next_into(bytes) == want
+}
+
+// A number of the same bytes.
+fn datagram_of<R: Abort>(rt: &R, alloc: Global, byte: u8, len: usize) -> Next {
+    let mut bytes = Vec::new(alloc);
+    bytes.resize(len, byte).expect(rt, "memory");
+    Next::Datagram {
+        bytes,
+        from: NEAR,
+        now: 7,
+    }
 }
 
 // A datagram of 9,216 bytes, one that is too long, and the other answers.
-fn five_answers(alloc: Global) -> Result<Vec<Next>, AllocError> {
-    let mut answers = Vec::new(alloc);
-    let bytes = vec![in alloc; 5; LONGEST_DATAGRAM]?;
-    answers.push(Next::Datagram {
-        bytes,
-        from: NEAR,
-        now: 7,
-    })?;
-    answers.push(Next::Quiet)?;
-    answers.push(Next::Failed)?;
-    let bytes = vec![in alloc; 6; 9300]?;
-    answers.push(Next::Datagram {
-        bytes,
-        from: NEAR,
-        now: 7,
-    })?;
-    Ok(answers)
+fn answers_of_all_kinds<R: Abort>(rt: &R, alloc: Global) -> Vec<Next> {
+    let answers = [
+        datagram_of(rt, alloc, 5, LONGEST_DATAGRAM),
+        Next::Quiet,
+        Next::Failed,
+        datagram_of(rt, alloc, 6, 9300),
+    ];
+    Vec::from_array(alloc, answers).expect(rt, "memory")
 }
 
-fn reads_all(alloc: Global) -> Result<bool, AllocError> {
-    let mut source = ListSource::new(five_answers(alloc)?);
-    let mut bytes = vec![in alloc; 0; BUFFER_LEN]?;
+fn reads_all<R: Abort>(rt: &R, alloc: Global) -> bool {
+    let mut source = ListSource::new(answers_of_all_kinds(rt, alloc));
+    let mut bytes = [0u8; BUFFER_LEN];
     let one = gives(&mut source, &mut bytes, LONGEST_DATAGRAM, 5);
     let two = answers(&mut source, &mut bytes, NextLen::Quiet);
     let three = answers(&mut source, &mut bytes, NextLen::Failed);
     let four = gives(&mut source, &mut bytes, BUFFER_LEN, 6);
     let five = answers(&mut source, &mut bytes, NextLen::End);
     let six = answers(&mut source, &mut bytes, NextLen::End);
-    Ok(one && two && three && four && five && six && source.failures() == 1)
+    one && two && three && four && five && six && source.failures() == 1
 }
 
 #[test]
 fn a_list_is_read_in_order(rt: HostRuntime) {
-    assert_eq!(rt; reads_all(rt.alloc()), Ok(true));
+    assert!(rt; reads_all(&rt, rt.alloc()));
 }
 
 fn offers<R: Wait>(rt: &R, outlet: &mut Outlet<u32>, item: u32) -> bool {
@@ -125,7 +122,7 @@ fn end_of_a_pipe<R: Wait>(rt: &R, alloc: Global) -> Result<bool, AllocError> {
 
 #[test]
 fn an_end_mark_is_pushed_once(rt: HostRuntime) {
-    assert_eq!(rt; end_of_a_pipe(&rt, rt.alloc()), Ok(true));
+    assert!(rt; end_of_a_pipe(&rt, rt.alloc()).expect(&rt, "memory"));
 }
 
 // Whether the sink takes a packet of this number.
@@ -155,21 +152,16 @@ fn tells(sink: &ListSink, numbers: &[u64], took: &[bool]) -> bool {
     true
 }
 
-fn fails_at_two(alloc: Global) -> Result<bool, AllocError> {
-    let fails = vec![in alloc; 2_u64]?;
+fn fails_at_two<R: Abort>(rt: &R, alloc: Global) -> bool {
+    let fails = Vec::from_array(alloc, [2_u64]).expect(rt, "memory");
     let mut sink = ListSink::new(alloc, fails);
     let one = takes_packet(&mut sink, 7);
     let two = !takes_packet(&mut sink, 8);
     let three = takes_packet(&mut sink, 9);
-    Ok(
-        one && two
-            && three
-            && sink.failures() == 1
-            && tells(&sink, &[7, 8, 9], &[true, false, true]),
-    )
+    one && two && three && sink.failures() == 1 && tells(&sink, &[7, 8, 9], &[true, false, true])
 }
 
 #[test]
 fn a_list_is_kept_and_fails_where_it_is_told(rt: HostRuntime) {
-    assert_eq!(rt; fails_at_two(rt.alloc()), Ok(true));
+    assert!(rt; fails_at_two(&rt, rt.alloc()));
 }

@@ -85,22 +85,20 @@ fn stand_in_order(config: &Config) -> bool {
 }
 
 #[test]
-fn numbers_links_by_their_interfaces(rt: HostRuntime) -> Result<(), Fail> {
-    let config = config(rt.alloc(), Bands::One)?;
+fn numbers_links_by_their_interfaces(rt: HostRuntime) {
+    let config = config(rt.alloc(), Bands::One).expect(&rt, "memory");
     assert!(rt; stand_in_order(&config));
-    Ok(())
 }
 
 #[test]
-fn tells_links_of_two_bands(rt: HostRuntime) -> Result<(), Fail> {
+fn tells_links_of_two_bands(rt: HostRuntime) {
     for internal in [Bands::One, Bands::Two] {
-        let config = config(rt.alloc(), internal)?;
+        let config = config(rt.alloc(), internal).expect(&rt, "memory");
         let bands = [internal == Bands::Two, true, false, false, false];
         for (index, two) in (0..).zip(bands) {
-            assert_eq!(rt; has_two_bands(&config, index), two, "{index}");
+            assert!(rt; has_two_bands(&config, index) == two, "{index}");
         }
     }
-    Ok(())
 }
 
 /// Whether the tables tell this place, interface and bands of one link.
@@ -124,11 +122,10 @@ fn are_told(ports: &Ports) -> bool {
 }
 
 #[test]
-fn looks_links_up(rt: HostRuntime) -> Result<(), Fail> {
-    let shared = Shared::new(config(rt.alloc(), Bands::One)?);
+fn looks_links_up(rt: HostRuntime) {
+    let shared = Shared::new(config(rt.alloc(), Bands::One).expect(&rt, "memory"));
     assert!(rt; are_told(&shared.ports));
     assert!(rt; shared.config.links.len() == 3);
-    Ok(())
 }
 
 /// A header that its addresses fill, of the urgent traffic class.
@@ -136,8 +133,8 @@ const URGENT: [u8; 36] = *b"\x0b\x80\x00\x01\x11\x09\x00\x08\x01\x00\x00\x00\
     \x00\x01\xff\x00\x00\x00\x01\x12\x00\x01\xff\x00\x00\x00\x01\x11\x0a\x02\x00\x07\x0a\x01\x00\x05";
 
 #[test]
-fn tells_what_a_receiver_refuses(rt: HostRuntime) -> Result<(), Fail> {
-    let mut config = config(rt.alloc(), Bands::One)?;
+fn tells_what_a_receiver_refuses(rt: HostRuntime) {
+    let mut config = config(rt.alloc(), Bands::One).expect(&rt, "memory");
     config.processors = 2;
     config.seed = 1;
     assert!(rt; inspect(&URGENT) == None);
@@ -145,36 +142,23 @@ fn tells_what_a_receiver_refuses(rt: HostRuntime) -> Result<(), Fail> {
     assert!(rt; inspect(&URGENT[..35]) == Some(Cause::Short));
     assert!(rt; processor_or_fault(&config, &URGENT[..35]) == Err(Cause::Short));
     assert!(rt; inspect(&[0; TOO_LONG]) == Some(Cause::TooLong));
-    assert_eq!(rt; (is_urgent(&URGENT), is_urgent(&[0; 36])), (true, false));
-    Ok(())
+    assert!(rt; is_urgent(&URGENT) && !is_urgent(&[0; 36]));
 }
 
 #[test]
-fn finds_workers_and_pipes(rt: HostRuntime) -> Result<(), Fail> {
-    let config = config(rt.alloc(), Bands::One)?;
-    assert_eq!(rt; (slow_seat(&config), seat_count(&config)), (5, 10));
-    assert_eq!(rt; link_pipe(&config, true, 3), 13);
+fn finds_workers_and_pipes(rt: HostRuntime) {
+    let config = config(rt.alloc(), Bands::One).expect(&rt, "memory");
+    assert!(rt; (slow_seat(&config), seat_count(&config)) == (5, 10));
+    assert!(rt; link_pipe(&config, true, 3) == 13);
     let forwarder = WorkerIndex::named(&config, Worker::Forwarder(7));
     assert!(rt; (forwarder, forwarder.seat(&config)) == (WorkerIndex::Forwarder(2), 8));
-    assert_eq!(rt;
-        (forwarder.is_there(&config), forwarder.is(WorkerIndex::Slow)),
-        (true, false)
-    );
+    assert!(rt; forwarder.is_there(&config) && !forwarder.is(WorkerIndex::Slow));
     let high = QueueIndex::named(&config, Queue::High(2));
-    assert_eq!(rt; (high.is_there(&config), high.place(&config)), (true, 9));
+    assert!(rt; high.is_there(&config) && high.place(&config) == 9);
     assert!(rt; (high.consumer(), high.is_out()) == (WorkerIndex::Forwarder(1), true));
-    assert_eq!(rt;
-        (WorkerIndex::Slow.feeds(high), forwarder.feeds(high)),
-        (true, false)
-    );
-    assert_eq!(rt;
-        (
-            WorkerIndex::Slow.producer(&config),
-            WorkerIndex::Controller.producer(&config),
-            forwarder.producer(&config)
-        ),
-        (Some(1), Some(2), None)
-    );
-    assert_eq!(rt; high.producers(&config), 3);
-    Ok(())
+    assert!(rt; WorkerIndex::Slow.feeds(high) && !forwarder.feeds(high));
+    assert!(rt; WorkerIndex::Slow.producer(&config) == Some(1));
+    assert!(rt; WorkerIndex::Controller.producer(&config) == Some(2));
+    assert!(rt; forwarder.producer(&config) == None);
+    assert!(rt; high.producers(&config) == 3);
 }

@@ -116,18 +116,19 @@ const ROWS: [(&str, &str, &str); 24] = [
 ];
 
 #[test]
-fn a_fault_is_told_in_words(rt: HostRuntime) -> Result<(), Fail> {
+fn a_fault_is_told_in_words(rt: HostRuntime) {
     let alloc = rt.alloc();
-    assert!(rt; fault_words(alloc, TEXT)?.is_none());
+    assert!(rt; fault_words(alloc, TEXT).expect(&rt, "memory").is_none());
     for (sound, faulty, words) in ROWS {
         assert!(rt; TEXT.contains(sound), "{sound}");
-        let text = TEXT.replacen(alloc, sound, faulty, 1)?;
-        let told = fault_words(alloc, text.as_str())?.expect(&rt, "words");
+        let text = TEXT.replacen(alloc, sound, faulty, 1).expect(&rt, "memory");
+        let told = fault_words(alloc, text.as_str())
+            .expect(&rt, "memory")
+            .expect(&rt, "words");
         if !words.is_empty() {
             assert_eq!(rt; told.as_str(), words);
         } else {
             assert!(rt; told.as_str().starts_with("line 2: "), "{told}");
         }
     }
-    Ok(())
 }

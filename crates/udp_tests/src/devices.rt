@@ -3,6 +3,8 @@
 use process_packet::{Ip, Underlay};
 use router_rules::Outgoing;
 use stage_parts::{BUFFER_LEN, NextLen, Sink, Source};
+use std::net::Net;
+use std::process::Abort;
 use std::test::*;
 use std::time::Clock;
 use udp_devices::{Ends, UdpSink, UdpSource, open_link};
@@ -69,25 +71,23 @@ fn is_quiet<R: Clock + Drop>(source: &mut UdpSource<R>) -> bool {
 }
 
 /// Whether datagrams of this length cross from one socket to another of the same kind.
-fn crosses(rt: &HostRuntime, ends: Ends) -> Result<bool, Fail> {
-    let (reader, mut sink) = open_link(rt, ends)?;
-    let (mut source, _) = open_link(rt, ends)?;
-    let (Some(from), Some(at)) = (reader.address(), source.address()) else {
-        return Ok(false);
-    };
+fn crosses<R: Abort + Net + Clock + Copy + Drop>(rt: &R, ends: Ends) -> bool {
+    let (reader, mut sink) = open_link(rt, ends).expect(rt, "socket");
+    let (mut source, _) = open_link(rt, ends).expect(rt, "socket");
+    let from = reader.address().expect(rt, "address");
+    let at = source.address().expect(rt, "address");
     let bytes = [7u8; 9300];
     let mut good = is_quiet(&mut source);
     for (sent, read) in [(0, 0), (1, 1), (9216, 9216), (9217, 9217), (9300, 9217)] {
         good = good && takes(&mut sink, Some(at), &bytes[..sent]) && gives(&mut source, from, read);
     }
-    Ok(good && is_quiet(&mut source) && sink.failures() == 0 && source.failures() == 0)
+    good && is_quiet(&mut source) && sink.failures() == 0 && source.failures() == 0
 }
 
 #[test]
-fn datagrams_cross(rt: HostRuntime) -> Result<(), Fail> {
-    assert!(rt; crosses(&rt, HERE)?);
-    assert!(rt; crosses(&rt, HERE_BY_6)?);
-    Ok(())
+fn datagrams_cross(rt: HostRuntime) {
+    assert!(rt; crosses(&rt, HERE));
+    assert!(rt; crosses(&rt, HERE_BY_6));
 }
 
 /// An address of documentation, which no machine has.
@@ -104,72 +104,59 @@ fn goes_nowhere(sink: &mut UdpSink, to: Option<Underlay>) -> bool {
 
 /// Whether nothing leaves for another IP version, or where neither the datagram nor the link names an
 /// address, or for more bytes than a datagram has.
-fn fails_well(rt: &HostRuntime) -> Result<bool, Fail> {
-    let (_, mut sink) = open_link(rt, HERE)?;
-    let (_, mut sink_by_6) = open_link(rt, HERE_BY_6)?;
+fn fails_well<R: Abort + Net + Clock + Copy + Drop>(rt: &R) -> bool {
+    let (_, mut sink) = open_link(rt, HERE).expect(rt, "socket");
+    let (_, mut sink_by_6) = open_link(rt, HERE_BY_6).expect(rt, "socket");
     let too_long = [0u8; 65508];
-    Ok(
-        goes_nowhere(&mut sink, None)
-            && goes_nowhere(&mut sink, Some(HERE_BY_6.local))
-            && goes_nowhere(&mut sink_by_6, Some(ELSEWHERE))
-            && sink.failures() < 5
-            && sink.send(&leaving(Some(ELSEWHERE)), &too_long).is_err()
-            && sink.failures() == 3,
-    )
+    goes_nowhere(&mut sink, None)
+        && goes_nowhere(&mut sink, Some(HERE_BY_6.local))
+        && goes_nowhere(&mut sink_by_6, Some(ELSEWHERE))
+        && sink.failures() < 5
+        && sink.send(&leaving(Some(ELSEWHERE)), &too_long).is_err()
+        && sink.failures() == 3
 }
 
 #[test]
-fn what_has_no_way_fails(rt: HostRuntime) -> Result<(), Fail> {
-    assert!(rt; fails_well(&rt)?);
-    Ok(())
+fn what_has_no_way_fails(rt: HostRuntime) {
+    assert!(rt; fails_well(&rt));
 }
 
 /// Whether there is no socket at an address that is taken, nor at one of another machine.
-fn is_refused(rt: &HostRuntime) -> Result<bool, Fail> {
-    let (source, _sink) = open_link(rt, HERE)?;
-    let Some(taken) = source.address() else {
-        return Ok(false);
-    };
+fn is_refused<R: Abort + Net + Clock + Copy + Drop>(rt: &R) -> bool {
+    let (source, _sink) = open_link(rt, HERE).expect(rt, "socket");
     let twice = Ends {
-        local: taken,
+        local: source.address().expect(rt, "address"),
         remote: None,
     };
     let elsewhere = Ends {
         local: ELSEWHERE,
         remote: None,
     };
-    Ok(open_link(rt, twice).is_err() && open_link(rt, elsewhere).is_err())
+    open_link(rt, twice).is_err() && open_link(rt, elsewhere).is_err()
 }
 
 #[test]
-fn addresses_may_be_had_by_others(rt: HostRuntime) -> Result<(), Fail> {
-    assert!(rt; is_refused(&rt)?);
-    Ok(())
+fn addresses_may_be_had_by_others(rt: HostRuntime) {
+    assert!(rt; is_refused(&rt));
 }
 
 /// Whether what leaves by a link to another AS goes to its other end, and nothing comes back from there
 /// where nobody listens.
-fn goes_to_the_other_end(rt: &HostRuntime) -> Result<bool, Fail> {
-    let (mut far, _) = open_link(rt, HERE)?;
-    let Some(remote) = far.address() else {
-        return Ok(false);
-    };
+fn goes_to_the_other_end<R: Abort + Net + Clock + Copy + Drop>(rt: &R) -> bool {
+    let (mut far, _) = open_link(rt, HERE).expect(rt, "socket");
     let ends = Ends {
         local: HERE.local,
-        remote: Some(remote),
+        remote: Some(far.address().expect(rt, "address")),
     };
-    let (mut near, mut sink) = open_link(rt, ends)?;
-    let Some(from) = near.address() else {
-        return Ok(false);
-    };
+    let (mut near, mut sink) = open_link(rt, ends).expect(rt, "socket");
+    let from = near.address().expect(rt, "address");
     let crossed = takes(&mut sink, None, &[7, 7, 7]) && gives(&mut far, from, 3);
-    let _ = far;
+    drop(far);
     let dead = takes(&mut sink, None, b"abc") && is_quiet(&mut near) && takes(&mut sink, None, b"");
-    Ok(crossed && dead && sink.failures() == 0 && near.failures() == 0)
+    crossed && dead && sink.failures() == 0 && near.failures() == 0
 }
 
 #[test]
-fn a_link_has_one_other_end(rt: HostRuntime) -> Result<(), Fail> {
-    assert!(rt; goes_to_the_other_end(&rt)?);
-    Ok(())
+fn a_link_has_one_other_end(rt: HostRuntime) {
+    assert!(rt; goes_to_the_other_end(&rt));
 }

@@ -128,20 +128,19 @@ impl Read for Lead {
     }
 }
 /// What crossed or came back, and what the router wrote.
-fn run_one<R>(rt: R, datagram: [u8; 92], is_answered: bool) -> Result<(Vec<u8>, Vec<u8>), Fail>
+fn run_one<R>(rt: R, datagram: [u8; 92], is_answered: bool) -> (Vec<u8>, Vec<u8>)
 where
     R: Abort + AllocGlobal + Net + Threads + Wait + Clock + Copy + Send + Drop + 'static,
 {
     let alloc = rt.alloc();
-    let config = read_config(alloc, CONFIGURATION)?;
-    let lead = Lead::new(&rt, datagram, is_answered)?;
-    let mut reader = BufReader::new(alloc, lead)?;
+    let config = read_config(alloc, CONFIGURATION).expect(&rt, "configuration");
+    let lead = Lead::new(&rt, datagram, is_answered).expect(&rt, "sockets");
+    let mut reader = BufReader::new(alloc, lead).expect(&rt, "memory");
     let mut writer = Vec::new(alloc);
-    assert_eq!(rt;
-        run_router(rt, alloc, config, &mut reader, &mut writer),
-        Ok(())
-    );
-    Ok((reader.get_ref().came.clone()?, writer))
+    let result = run_router(rt, alloc, config, &mut reader, &mut writer);
+    result.expect(&rt, "a router that runs");
+    let came = reader.get_ref().came.clone().expect(&rt, "memory");
+    (came, writer)
 }
 
 /// Whether it is the datagram as it leaves: one hop further, its identifier chained, and else as it was.
@@ -172,34 +171,42 @@ const ANSWERED: &[u8] =
 
 /// A datagram crosses the router, and one whose MAC is wrong is answered to its sender.
 #[test]
-fn udp_loopback(rt: HostRuntime) -> Result<(), Fail> {
-    let sent = fresh(&rt)?;
-    let (came, text) = run_one(rt, sent, false)?;
+fn udp_loopback(rt: HostRuntime) {
+    let sent = fresh(&rt).expect(&rt, "clock");
+    let (came, text) = run_one(rt, sent, false);
     assert!(rt; left_well(came.as_slice(), &sent));
     assert!(rt; text.as_slice() == CROSSED);
     let forged = with_bytes(sent, MAC_AT, &[sent[MAC_AT] ^ 1]);
-    let (came, text) = run_one(rt, forged, true)?;
+    let (came, text) = run_one(rt, forged, true);
     assert!(rt; answered_well(came.as_slice(), &forged));
     assert!(rt; text.as_slice() == ANSWERED);
-    Ok(())
 }
 
 /// Where an address is taken, the fault names its link, and nothing is written.
 #[test]
-fn a_taken_address_is_told(rt: HostRuntime) -> Result<(), Fail> {
+fn a_taken_address_is_told(rt: HostRuntime) {
     let alloc = rt.alloc();
-    let taken = UdpSocket::bind(&rt, "127.0.0.1:41102")?;
+    let taken = UdpSocket::bind(&rt, "127.0.0.1:41102").expect(&rt, "socket");
     for (config, link) in [
-        (CONFIGURATION.replace(alloc, "41002", "41102")?, 2),
-        (CONFIGURATION.replace(alloc, "41000", "41102")?, 0),
+        (
+            CONFIGURATION
+                .replace(alloc, "41002", "41102")
+                .expect(&rt, "memory"),
+            2,
+        ),
+        (
+            CONFIGURATION
+                .replace(alloc, "41000", "41102")
+                .expect(&rt, "memory"),
+            0,
+        ),
     ] {
-        let config = read_config(alloc, config.as_str())?;
+        let config = read_config(alloc, config.as_str()).expect(&rt, "configuration");
         let mut reader = b"end\n".as_slice();
         let mut writer = Vec::new(alloc);
         let result = run_router(rt, alloc, config, &mut reader, &mut writer);
-        assert_eq!(rt; result, Err(RunFault::Socket(link)));
+        assert!(rt; result == Err(RunFault::Socket(link)));
         assert!(rt; writer.is_empty());
     }
-    let _ = taken;
-    Ok(())
+    drop(taken);
 }
