@@ -51,7 +51,7 @@ fn numbers_each_cause_and_tells_its_drops(rt: HostRuntime) {
             118,
         ],
     };
-    assert_eq!(rt; causes_in_order(&totals), 18);
+    assert!(rt; causes_in_order(&totals) == 18);
 }
 
 /// The request that is in the bytes after the header of an SCMP message.

@@ -129,7 +129,7 @@ fn good_cuts(alloc: Global, config: &Config, texts: &mut Texts) -> u32 {
 fn answers_each_cut(rt: HostRuntime) {
     let config = read_config(rt.alloc(), CONFIGURATION).expect(&rt, "configuration");
     let mut texts = Texts::new(rt.alloc());
-    assert_eq!(rt; good_cuts(rt.alloc(), &config, &mut texts), 92);
+    assert!(rt; good_cuts(rt.alloc(), &config, &mut texts) == 92);
 }
 
 /// How many of the datagrams that differ in one byte give one line, which reads back where it is an
@@ -155,5 +155,5 @@ fn good_changes(alloc: Global, config: &Config, texts: &mut Texts) -> u32 {
 fn answers_each_changed_byte(rt: HostRuntime) {
     let config = read_config(rt.alloc(), CONFIGURATION).expect(&rt, "configuration");
     let mut texts = Texts::new(rt.alloc());
-    assert_eq!(rt; good_changes(rt.alloc(), &config, &mut texts), 23460);
+    assert!(rt; good_changes(rt.alloc(), &config, &mut texts) == 23460);
 }

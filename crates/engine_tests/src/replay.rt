@@ -78,6 +78,14 @@ fn replays_the_worked_schedules(rt: HostRuntime) {
 const NOTHING: &str = "link 0 sent -\nlink 1 sent -\nlink 2 sent -\nlink 3 sent -\n\
     received 0\nsent 0\nanswered 0\nwaiting 0\n";
 
+/// Whether a replay in which nothing arrives writes these notes, and then its report.
+fn is_noted(rt: &(impl AllocGlobal + Abort), banded: bool, lines: &str, notes: &str) -> bool {
+    let mut reader = lines.as_bytes();
+    let mut writer = Vec::new(rt.alloc());
+    let result = replay_lines(rt.alloc(), usual(rt, banded), &mut reader, &mut writer);
+    result == Ok(()) && writer.as_slice().strip_prefix(notes.as_bytes()) == Some(NOTHING.as_bytes())
+}
+
 /// Each kind of line, where nothing arrives: the lines whose steps aren't possible are noted.
 #[test]
 fn reads_each_kind_of_line(rt: HostRuntime) {
@@ -107,15 +115,7 @@ fn reads_each_kind_of_line(rt: HostRuntime) {
             "not now 2\nnot now 4\nnot now 6\nnot now 8\nnot now 9\nnot now 11\nnot now 15\n",
         ),
     ] {
-        let mut reader = lines.as_bytes();
-        let mut writer = Vec::new(alloc);
-        let result = replay_lines(alloc, usual(&rt, banded), &mut reader, &mut writer);
-        assert_eq!(rt; result, Ok(()), "at {lines:?}");
-        let report = writer
-            .as_slice()
-            .strip_prefix(notes.as_bytes())
-            .expect(&rt, lines);
-        assert_eq!(rt; report, NOTHING.as_bytes(), "at {lines:?}");
+        assert!(rt; is_noted(&rt, banded, lines, notes), "at {lines:?}");
     }
 }
 
@@ -128,10 +128,10 @@ fn reads_each_kind_of_arrival(rt: HostRuntime) {
         .as_slice();
     let mut writer = Vec::new(alloc);
     let result = replay_lines(alloc, usual(&rt, false), &mut reader, &mut writer);
-    assert_eq!(rt; result, Ok(()));
+    assert!(rt; result == Ok(()));
     let want = b"not now 7\nlink 0 sent -\nlink 1 sent -\nlink 2 sent -\nlink 3 sent -\n\
         received 3\nsent 0\nanswered 0\nwaiting 0\ndropped 1 2\ndropped 2 1\n";
-    assert_eq!(rt; writer.as_slice(), want.as_slice());
+    assert!(rt; writer.as_slice() == want.as_slice());
 }
 
 /// What no line of a replay is, each after its first letter, so that a line may be empty.
@@ -206,23 +206,25 @@ const OTHER_LINES: &str = "|\n\
     |sweep s\n\
     |arrive 1 - 0 00";
 
+/// Whether the line ends a replay after one that is noted.
+fn ends_the_steps(rt: &(impl AllocGlobal + Abort), line: &str) -> bool {
+    let mut input = Vec::from_slice(rt.alloc(), b"receive 1\n").expect(rt, "input");
+    input.extend_from_slice(line.as_bytes()).expect(rt, "input");
+    input
+        .extend_from_slice(b"\nreceive 1\n")
+        .expect(rt, "input");
+    let mut reader = input.as_slice();
+    let mut writer = Vec::new(rt.alloc());
+    let result = replay_lines(rt.alloc(), usual(rt, false), &mut reader, &mut writer);
+    result == Err(LinesFault::Line(2)) && writer.as_slice() == b"not now 1\n".as_slice()
+}
+
 /// What no replay line is ends the replay there, after the notes of the lines before it.
 #[test]
 fn refuses_other_lines(rt: HostRuntime) {
-    let alloc = rt.alloc();
     for other in OTHER_LINES.split('\n') {
         let line = other.strip_prefix('|').expect(&rt, other);
-        let mut input = Vec::new(alloc);
-        for part in ["receive 1\n", line, "\nreceive 1\n"] {
-            input
-                .extend_from_slice(part.as_bytes())
-                .expect(&rt, "input");
-        }
-        let mut reader = input.as_slice();
-        let mut writer = Vec::new(alloc);
-        let result = replay_lines(alloc, usual(&rt, false), &mut reader, &mut writer);
-        assert_eq!(rt; result, Err(LinesFault::Line(2)), "at {line:?}");
-        assert_eq!(rt; writer.as_slice(), b"not now 1\n".as_slice(), "at {line:?}");
+        assert!(rt; ends_the_steps(&rt, line), "at {line:?}");
     }
 }
 
@@ -266,17 +268,21 @@ fn refuses_other_arrivals(rt: HostRuntime) {
     }
 }
 
+/// How a replay ends whose reader fails at this call, and how much it writes. It reads "receive 1", an end,
+/// "receive 2", an end, here backwards.
+fn of_its_reader(rt: &(impl AllocGlobal + Abort), left: u64) -> (Result<(), LinesFault>, usize) {
+    let bytes = Vec::from_slice(rt.alloc(), b"\n2 eviecer\n1 eviecer").expect(rt, "bytes");
+    let reader = io::BufReader::new(rt.alloc(), FailsAt { left, bytes });
+    let mut reader = reader.expect(rt, "reader");
+    let mut writer = Vec::new(rt.alloc());
+    let result = replay_lines(rt.alloc(), usual(rt, false), &mut reader, &mut writer);
+    (result, writer.len())
+}
+
 #[test]
-fn tells_a_device_that_fails_in_a_replay(rt: HostRuntime) {
-    let alloc = rt.alloc();
-    // Backwards: "receive 1", an end, "receive 2", an end.
-    let input = b"\n2 eviecer\n1 eviecer".as_slice();
+fn tells_a_reader_that_fails_in_a_replay(rt: HostRuntime) {
     for left in 0..22 {
-        let bytes = Vec::from_slice(alloc, input).expect(&rt, "bytes");
-        let mut reader = io::BufReader::new(alloc, FailsAt { left, bytes }).expect(&rt, "reader");
-        let mut writer = Vec::new(alloc);
-        let result = replay_lines(alloc, usual(&rt, false), &mut reader, &mut writer);
-        let (want, len) = if left < 10 {
+        let wanted = if left < 10 {
             (Err(LinesFault::Input), 0)
         } else if left < 20 {
             (Err(LinesFault::Input), 10)
@@ -285,22 +291,28 @@ fn tells_a_device_that_fails_in_a_replay(rt: HostRuntime) {
         } else {
             (Ok(()), 20 + NOTHING.len())
         };
-        assert_eq!(rt; result, want, "at call {left} of the reader");
-        assert_eq!(rt; writer.len(), len, "at call {left} of the reader");
+        assert!(rt; of_its_reader(&rt, left) == wanted, "at call {left}");
     }
+}
+
+/// How a replay ends whose writer fails at this call.
+fn of_its_writer(rt: &(impl AllocGlobal + Abort), left: u64) -> Result<(), LinesFault> {
+    let bytes = Vec::new(rt.alloc());
+    let mut reader = b"receive 1\n".as_slice();
+    let mut writer = FailsAt { left, bytes };
+    replay_lines(rt.alloc(), usual(rt, false), &mut reader, &mut writer)
+}
+
+#[test]
+fn tells_a_writer_that_fails_in_a_replay(rt: HostRuntime) {
     let whole = 11 + NOTHING.len() as u64 + 1;
-    for left in 0..whole + 1 {
-        let mut reader = b"receive 1\n".as_slice();
-        let bytes = Vec::new(alloc);
-        let mut writer = FailsAt { left, bytes };
-        let result = replay_lines(alloc, usual(&rt, false), &mut reader, &mut writer);
-        let want = if left < whole {
-            Err(LinesFault::Output)
-        } else {
-            Ok(())
-        };
-        assert_eq!(rt; result, want, "at call {left} of the writer");
+    for left in 0..whole {
+        assert!(rt;
+            of_its_writer(&rt, left) == Err(LinesFault::Output),
+            "at call {left}"
+        );
     }
+    assert!(rt; of_its_writer(&rt, whole) == Ok(()));
 }
 
 /// With each allocation refused in turn (`--fail-alloc`): the engine ends with `memory`, after a
@@ -314,7 +326,7 @@ fn replays_without_memory(rt: HostRuntime) {
     let config = match read_config(alloc, text.as_str()) {
         Ok(config) => config,
         Err(fault) => {
-            assert_eq!(rt; fault, ConfigFault::Memory);
+            assert!(rt; fault == ConfigFault::Memory);
             return;
         }
     };
@@ -325,7 +337,7 @@ fn replays_without_memory(rt: HostRuntime) {
     match result {
         Ok(()) => assert!(rt; held.starts_with(b"not now 2\nlink 0 sent -\nlink 1 sent -\n")),
         Err(fault) => {
-            assert_eq!(rt; fault, LinesFault::Memory);
+            assert!(rt; fault == LinesFault::Memory);
             assert!(rt; held.starts_with(b".") || held.starts_with(b"not now 2\n."));
         }
     }

@@ -153,5 +153,5 @@ fn answers_the_worked_examples(rt: HostRuntime) {
         text: Vec::new(alloc),
         line: Vec::new(alloc),
     };
-    assert_eq!(rt; other_rows(alloc, &config, &mut vectors), (50, 0));
+    assert!(rt; other_rows(alloc, &config, &mut vectors) == (50, 0));
 }

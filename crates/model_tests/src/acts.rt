@@ -3,7 +3,6 @@ use pipe_model::{Outgoing, Place, Queue, Step, StepFault, Worker, World};
 use process_packet::{Bands, Cause};
 use sample_packets::{FIRST, IN_TIME};
 use std::alloc::Global;
-use std::test::*;
 
 const RECEIVER: Worker = Worker::Receiver(1);
 
@@ -164,9 +163,7 @@ fn are_at(world: &World, first: Place, second: Place) -> bool {
 
 #[test]
 fn steps_in_turn(rt: HostRuntime) {
-    let Ok(mut world) = pipeline(rt.alloc(), Bands::Two, LEAVES, EXPIRED) else {
-        return assert!(rt; false, "there is memory");
-    };
+    let mut world = pipeline(rt.alloc(), Bands::Two, LEAVES, EXPIRED).expect(&rt, "memory");
     let turns = [
         TO_ITS_PROCESSOR.as_slice(),
         SENT.as_slice(),
@@ -175,20 +172,18 @@ fn steps_in_turn(rt: HostRuntime) {
         NOT_THERE.as_slice(),
     ];
     for acts in turns {
-        assert!(rt; are_made(&mut world, rt.alloc(), acts));
+        assert!(&rt; are_made(&mut world, rt.alloc(), acts));
     }
-    assert!(rt; is_first_sent(&world));
-    assert!(rt; are_at(&world, Place::Sent, Place::Dropped(Cause::SendFailed)));
+    assert!(&rt; is_first_sent(&world));
+    assert!(&rt; are_at(&world, Place::Sent, Place::Dropped(Cause::SendFailed)));
 }
 
 #[test]
 fn dropped_on_arrival(rt: HostRuntime) {
     let cut = (IN_TIME, &FIRST[..11]);
-    let Ok(mut world) = pipeline(rt.alloc(), Bands::One, cut, LEAVES) else {
-        return assert!(rt; false, "there is memory");
-    };
-    assert!(rt; are_made(&mut world, rt.alloc(), &DROPPED));
-    assert!(rt;
+    let mut world = pipeline(rt.alloc(), Bands::One, cut, LEAVES).expect(&rt, "memory");
+    assert!(&rt; are_made(&mut world, rt.alloc(), &DROPPED));
+    assert!(&rt;
         are_at(
             &world,
             Place::Dropped(Cause::Short),
@@ -199,12 +194,10 @@ fn dropped_on_arrival(rt: HostRuntime) {
 
 #[test]
 fn dropped_later(rt: HostRuntime) {
-    let Ok(mut world) = pipeline(rt.alloc(), Bands::One, LEAVES, LEAVES) else {
-        return assert!(rt; false, "there is memory");
-    };
-    assert!(rt; are_made(&mut world, rt.alloc(), &REFUSED));
-    assert!(rt; are_made(&mut world, rt.alloc(), &WITHOUT_MEMORY));
-    assert!(rt;
+    let mut world = pipeline(rt.alloc(), Bands::One, LEAVES, LEAVES).expect(&rt, "memory");
+    assert!(&rt; are_made(&mut world, rt.alloc(), &REFUSED));
+    assert!(&rt; are_made(&mut world, rt.alloc(), &WITHOUT_MEMORY));
+    assert!(&rt;
         are_at(
             &world,
             Place::Dropped(Cause::NoMemory),

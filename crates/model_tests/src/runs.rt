@@ -2,7 +2,7 @@ use crate::samples::{Coming, EXPIRED, LEAVES, is_what_leaves, pipeline};
 use pipe_model::{NoMemoryAt, Outgoing, Place, Queue, Step, StepFault, Worker, World};
 use process_packet::{Bands, Cause, NoMemory, Totals};
 use std::alloc::Global;
-use std::test::*;
+use std::process::Abort;
 
 /// Each packet on its way from link 1 to link 2, one after the other.
 const WAY: [Step; 14] = [
@@ -45,14 +45,56 @@ fn totals(received: u128, sent: u128) -> Totals {
     }
 }
 
+/// Whether the first packet is at a place, and nothing else has come.
+fn is_alone_at(world: &World, place: Place) -> bool {
+    world.place(1, 1) == Some(place)
+        && world.place(1, 2) == None
+        && world.totals() == totals(1, 0)
+        && world.waiting() == 1
+        && world.sent(2).is_empty()
+}
+
+/// Whether the second packet has come after the first.
+fn has_second(world: &World) -> bool {
+    world.place(1, 2) == Some(Place::Hand(Worker::Receiver(1)))
+        && world.totals() == totals(2, 0)
+        && world.waiting() == 2
+}
+
+/// Whether the first packet was sent, by link 2, and nothing else left.
+fn is_first_sent(world: &World) -> bool {
+    let [(outgoing, bytes)] = world.sent(2) else {
+        return false;
+    };
+    *outgoing == leaves(1)
+        && is_what_leaves(bytes.as_slice())
+        && world.place(1, 1) == Some(Place::Sent)
+        && world.sent(1).is_empty()
+        && world.sent(9).is_empty()
+}
+
+/// Makes the first steps of the way, each of which brings the first packet to the next place.
+fn go_along(rt: &(impl AllocGlobal + Abort), world: &mut World, places: &[Place]) {
+    for (step, place) in WAY.iter().zip(places.iter()) {
+        assert!(rt; world.step(rt.alloc(), *step) == Ok(()));
+        assert!(rt; is_alone_at(world, *place));
+    }
+}
+
+/// Receives the second packet, and then sends the first.
+fn send_first(rt: &(impl AllocGlobal + Abort), world: &mut World) {
+    assert!(rt; world.step(rt.alloc(), Step::Receive(1)) == Ok(()));
+    assert!(rt; has_second(world));
+    assert!(rt; world.step(rt.alloc(), Step::Send(2, true)) == Ok(()));
+    assert!(rt; is_first_sent(world));
+    assert!(rt; world.totals() == totals(2, 1) && world.waiting() == 1);
+}
+
 #[test]
 fn two_packets_at_each_moment(rt: HostRuntime) {
     pipe_model::arrivals_stay();
-    let Ok(mut world) = before(rt.alloc(), LEAVES) else {
-        return assert!(rt; false, "there is memory");
-    };
-    assert!(rt; world.place(1, 1) == None);
-    assert!(rt; world.totals() == totals(0, 0));
+    let mut world = before(rt.alloc(), LEAVES).expect(&rt, "memory");
+    assert!(&rt; world.place(1, 1) == None && world.totals() == totals(0, 0));
     let places = [
         Place::Hand(Worker::Receiver(1)),
         Place::Pipe(Worker::Processor(0)),
@@ -61,56 +103,41 @@ fn two_packets_at_each_moment(rt: HostRuntime) {
         Place::Pipe(Worker::Forwarder(2)),
         Place::Hand(Worker::Forwarder(2)),
     ];
-    for (step, place) in WAY.iter().zip(places.iter()) {
-        assert!(rt; world.step(rt.alloc(), *step) == Ok(()));
-        assert!(rt; world.place(1, 1) == Some(*place));
-        assert!(rt; world.place(1, 2) == None);
-        assert!(rt; world.totals() == totals(1, 0));
-        assert!(rt; world.waiting() == 1);
-        assert!(rt; world.sent(2).is_empty());
-    }
-    assert!(rt; world.step(rt.alloc(), Step::Receive(1)) == Ok(()));
-    assert!(rt; world.place(1, 2) == Some(Place::Hand(Worker::Receiver(1))));
-    assert!(rt; world.totals() == totals(2, 0));
-    assert!(rt; world.waiting() == 2);
-    assert!(rt; world.step(rt.alloc(), Step::Send(2, true)) == Ok(()));
-    assert!(rt; world.place(1, 1) == Some(Place::Sent));
-    assert!(rt; world.totals() == totals(2, 1));
-    assert!(rt; world.waiting() == 1);
-    let sent = world.sent(2);
-    assert!(rt; sent.len() == 1);
-    assert!(rt; sent[0].0 == leaves(1));
-    assert!(rt; is_what_leaves(sent[0].1.as_slice()));
-    assert!(rt; world.sent(1).is_empty());
-    assert!(rt; world.sent(9).is_empty());
+    go_along(&rt, &mut world, &places);
+    send_first(&rt, &mut world);
+}
+
+/// Whether the second packet's datagram was not sent, and is counted so.
+fn is_second_dropped(world: &World) -> bool {
+    let totals = world.totals();
+    world.place(1, 2) == Some(Place::Dropped(Cause::SendFailed))
+        && world.place(2, 1) == None
+        && totals.dropped_for(Cause::SendFailed) == 1
+        && (totals.received, totals.sent) == (2, 1)
 }
 
 #[test]
 fn a_list_of_steps(rt: HostRuntime) {
-    let Ok(mut world) = before(rt.alloc(), LEAVES) else {
-        return assert!(rt; false, "there is memory");
-    };
-    let Ok(skipped) = world.run(rt.alloc(), &WAY) else {
-        return assert!(rt; false, "there is memory");
-    };
-    assert!(rt; skipped.is_empty());
-    assert!(rt; world.place(1, 1) == Some(Place::Sent));
-    assert!(rt; world.place(1, 2) == Some(Place::Dropped(Cause::SendFailed)));
-    assert!(rt; world.place(2, 1) == None);
-    assert!(rt; world.waiting() == 0);
-    let totals = world.totals();
-    assert!(rt; totals.received == 2);
-    assert!(rt; totals.sent == 1);
-    assert!(rt; totals.dropped_for(Cause::SendFailed) == 1);
-    assert!(rt; world.sent(2).len() == 1);
-    assert!(rt; world.config().processors == 2);
+    let mut world = before(rt.alloc(), LEAVES).expect(&rt, "memory");
+    let skipped = world.run(rt.alloc(), &WAY).expect(&rt, "memory");
+    assert!(&rt; skipped.is_empty());
+    assert!(&rt; is_first_sent(&world));
+    assert!(&rt; is_second_dropped(&world));
+    assert!(&rt; world.waiting() == 0);
+    assert!(&rt; world.config().processors == 2);
+}
+
+/// Whether the first packet waits for its processor, and the second was dropped at the full pipe.
+fn is_second_refused(world: &World) -> bool {
+    world.place(1, 1) == Some(Place::Pipe(Worker::Processor(0)))
+        && world.place(1, 2) == Some(Place::Dropped(Cause::ProcessorFull))
+        && world.totals().dropped_for(Cause::ProcessorFull) == 1
+        && world.waiting() == 1
 }
 
 #[test]
 fn steps_that_are_not_possible(rt: HostRuntime) {
-    let Ok(mut world) = before(rt.alloc(), LEAVES) else {
-        return assert!(rt; false, "there is memory");
-    };
+    let mut world = before(rt.alloc(), LEAVES).expect(&rt, "memory");
     let steps = [
         Step::Send(2, true),
         Step::Receive(1),
@@ -123,14 +150,9 @@ fn steps_that_are_not_possible(rt: HostRuntime) {
         Step::Refuse(Worker::Receiver(1)),
         Step::Receive(1),
     ];
-    let Ok(skipped) = world.run(rt.alloc(), &steps) else {
-        return assert!(rt; false, "there is memory");
-    };
-    assert!(rt; skipped.as_slice() == [0usize, 2, 3, 5, 7, 9].as_slice());
-    assert!(rt; world.place(1, 1) == Some(Place::Pipe(Worker::Processor(0))));
-    assert!(rt; world.place(1, 2) == Some(Place::Dropped(Cause::ProcessorFull)));
-    assert!(rt; world.totals().dropped_for(Cause::ProcessorFull) == 1);
-    assert!(rt; world.waiting() == 1);
+    let skipped = world.run(rt.alloc(), &steps).expect(&rt, "memory");
+    assert!(&rt; skipped.as_slice() == [0usize, 2, 3, 5, 7, 9].as_slice());
+    assert!(&rt; is_second_refused(&world));
     world.headline();
 }
 
@@ -186,34 +208,39 @@ fn tell_the_same(one: &World, other: &World) -> bool {
     one.totals() == other.totals() && one.waiting() == other.waiting()
 }
 
+/// Makes the steps before the one that found no memory in another pipeline, which then tells the same.
+fn check_stopped(rt: &(impl AllocGlobal + Abort), world: &World, made: &[Step]) {
+    let mut other = before(rt.alloc(), EXPIRED).expect(rt, "one allocation was refused");
+    for step in made {
+        assert!(rt; other.step(rt.alloc(), *step) != Err(StepFault::NoMemory));
+    }
+    assert!(rt; tell_the_same(world, &other));
+}
+
+/// Runs to the end, once more from the step that found no memory.
+fn run_to_the_end(rt: &(impl AllocGlobal + Abort), world: &mut World, steps: &[Step]) {
+    match world.run(rt.alloc(), steps) {
+        Ok(skipped) => {
+            assert!(rt; skipped.as_slice() == [0usize, 8, 10, 12, 19, 22].as_slice());
+        }
+        Err(NoMemoryAt(at)) => {
+            let (made, left) = steps.split_at(at);
+            check_stopped(rt, world, made);
+            assert!(rt; world.run(rt.alloc(), left).is_ok());
+        }
+    }
+}
+
 /// With any one allocation refused (`--fail-alloc`): the pipeline is where the steps before it led,
 /// and goes on from there.
 #[test]
 fn goes_on_without_memory(rt: HostRuntime) {
-    let alloc = rt.alloc();
-    let first = match before(alloc, EXPIRED) {
-        Err(NoMemory) => before(alloc, EXPIRED),
-        built => built,
+    let mut world = match before(rt.alloc(), EXPIRED) {
+        Err(NoMemory) => before(rt.alloc(), EXPIRED).expect(&rt, "one allocation was refused"),
+        Ok(world) => world,
     };
-    let Ok(mut world) = first else {
-        return assert!(rt; false, "one allocation was refused");
-    };
-    let run = world.run(alloc, &TO_THE_END);
-    if let Err(NoMemoryAt(at)) = run {
-        let Ok(mut stepped) = before(alloc, EXPIRED) else {
-            return assert!(rt; false, "one allocation was refused");
-        };
-        let (before, after) = TO_THE_END.split_at(at);
-        for step in before {
-            assert!(rt; stepped.step(alloc, *step) != Err(StepFault::NoMemory));
-        }
-        assert!(rt; tell_the_same(&world, &stepped));
-        assert!(rt; world.run(alloc, after).is_ok());
-    } else {
-        let skipped = run.expect(&rt, "steps");
-        assert_eq!(rt; skipped.as_slice(), [0usize, 8, 10, 12, 19, 22].as_slice());
-    }
-    assert!(rt; world.place(1, 1) == Some(Place::Sent));
-    assert!(rt; world.place(1, 2) == Some(Place::Dropped(Cause::Closed)));
-    assert!(rt; world.waiting() == 0);
+    run_to_the_end(&rt, &mut world, &TO_THE_END);
+    assert!(&rt; world.place(1, 1) == Some(Place::Sent));
+    assert!(&rt; world.place(1, 2) == Some(Place::Dropped(Cause::Closed)));
+    assert!(&rt; world.waiting() == 0);
 }

@@ -18,7 +18,7 @@ fn encrypts_the_examples_of_the_standard(rt: HostRuntime) {
     for (key, block, want) in examples {
         let cipher = Aes128::new(&key.to_be_bytes());
         let got = u128::from_be_bytes(cipher.encrypt(&block.to_be_bytes()));
-        assert_eq!(rt; got, want, "under the key {key:032x}");
+        assert!(rt; got == want, "under the key {key:032x}");
     }
 }
 

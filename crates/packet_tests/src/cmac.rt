@@ -22,7 +22,7 @@ fn tags_the_examples_of_the_standard(rt: HostRuntime) {
     let cmac = Cmac::new(&KEY.to_be_bytes());
     for (message, want) in examples {
         let got = u128::from_be_bytes(cmac.tag(message));
-        assert_eq!(rt; got, want, "at {} bytes", message.len());
+        assert!(rt; got == want, "at {} bytes", message.len());
     }
 }
 
@@ -42,9 +42,8 @@ fn tags_one_block_in_six_bytes(rt: HostRuntime) {
     ];
     let cmac = Cmac::new(&KEY.to_be_bytes());
     for (block, want) in examples {
-        assert_eq!(rt;
-            cmac.tag6_block(&block.to_be_bytes()),
-            want,
+        assert!(rt;
+            cmac.tag6_block(&block.to_be_bytes()) == want,
             "of the block {block:032x}"
         );
     }

@@ -5,9 +5,9 @@ use field_rows::{array_at, put, put_u8, put_u16, put_u32, put_u48, u16_at, u32_a
 #[test]
 fn reads_at_a_place(rt: HostRuntime) {
     let bytes = [0x00, 0x01, 0xff, 0x00, 0x00, 0x00, 0x01, 0x12, 0x0a];
-    assert_eq!(rt; u16_at(&bytes, 0), 0x0001);
-    assert_eq!(rt; u32_at(&bytes, 5), 0x0001_120a);
-    assert_eq!(rt; u48_at(&bytes, 2), 0xff00_0000_0112);
+    assert!(rt; u16_at(&bytes, 0) == 0x0001);
+    assert!(rt; u32_at(&bytes, 5) == 0x0001_120a);
+    assert!(rt; u48_at(&bytes, 2) == 0xff00_0000_0112);
     assert!(rt; array_at::<3>(&bytes, 6) == [0x01, 0x12, 0x0a]);
     assert!(rt; array_at::<0>(&bytes, 9) == []);
 }

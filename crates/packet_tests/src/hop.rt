@@ -37,8 +37,8 @@ fn compares_all_six_bytes(rt: HostRuntime) {
         other[place] ^= 1;
         assert!(rt; !verify(&cmac, &info(), &hop(0x3f, other)), "byte {place}");
     }
-    assert_eq!(rt; chain(0x1234, &mac), 0x1c52);
-    assert_eq!(rt; chain(0x1c52, &mac), 0x1234);
+    assert!(rt; chain(0x1234, &mac) == 0x1c52);
+    assert!(rt; chain(0x1c52, &mac) == 0x1234);
 }
 
 #[test]

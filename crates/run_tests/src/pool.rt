@@ -3,7 +3,7 @@
 use crate::cues::{Order, Words};
 use crate::devices::{Counting, Paced};
 use crate::play::{Lead, Played, ran, run};
-use crate::reports::sent_by;
+use crate::reports::tells;
 use crate::routers::router;
 use process_packet::Totals;
 use router_run::StartFault;
@@ -62,8 +62,7 @@ fn a_thousand_datagrams_take_no_memory(rt: HostRuntime) {
     };
     let played = ran(rt, router(&rt, 1, 64), sources, sinks, Open, Some(lead));
     assert!(rt; played.as_told);
-    assert!(rt; played.report.totals == all_sent(1000));
-    assert!(rt; sent_by(&played.report, &[0, 0, 1000, 0]));
+    assert!(rt; tells(&played.report, &all_sent(1000), &[0, 0, 1000, 0]));
 }
 
 // What came of a start over these devices, and what came back of a refused one.
@@ -95,9 +94,7 @@ fn miscounted(started: Started) -> Option<(Vec<Paced>, Vec<Counting>)> {
 // Whether all crossed, or both lists came back since no memory was left.
 fn crossed_or_back(started: Started) -> bool {
     match started {
-        Ok(played) => {
-            played.report.totals == all_sent(1) && sent_by(&played.report, &[0, 0, 1, 0])
-        }
+        Ok(played) => tells(&played.report, &all_sent(1), &[0, 0, 1, 0]),
         Err(StartFault::NoMemory { sources, sinks }) => {
             is_unasked(sources.as_slice(), sinks.as_slice(), (4, 4))
         }

@@ -14,3 +14,13 @@ pub fn sent_by<S, K>(report: &Report<S, K>, counts: &[u128]) -> bool
         && report.sources.len() == counts.len()
         && report.sinks.len() == counts.len()
 }
+
+/// Whether a run counted this, and the links' sinks took so many.
+#[cfg(test)]
+pub fn tells<S, K>(
+    report: &Report<S, K>,
+    totals: &process_packet::Totals,
+    counts: &[u128],
+) -> bool {
+    report.totals == *totals && sent_by(report, counts)
+}

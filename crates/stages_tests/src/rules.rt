@@ -90,14 +90,20 @@ fn numbers_links_by_their_interfaces(rt: HostRuntime) {
     assert!(rt; stand_in_order(&config));
 }
 
+/// Whether the internal network has these bands, link 2 has two, and the others have one.
+fn are_banded(config: &Config, internal: Bands) -> bool {
+    has_two_bands(config, 0) == (internal == Bands::Two)
+        && has_two_bands(config, 1)
+        && !has_two_bands(config, 2)
+        && !has_two_bands(config, 3)
+        && !has_two_bands(config, 4)
+}
+
 #[test]
 fn tells_links_of_two_bands(rt: HostRuntime) {
     for internal in [Bands::One, Bands::Two] {
         let config = config(rt.alloc(), internal).expect(&rt, "memory");
-        let bands = [internal == Bands::Two, true, false, false, false];
-        for (index, two) in (0..).zip(bands) {
-            assert!(rt; has_two_bands(&config, index) == two, "{index}");
-        }
+        assert!(rt; are_banded(&config, internal));
     }
 }
 
@@ -132,33 +138,54 @@ fn looks_links_up(rt: HostRuntime) {
 const URGENT: [u8; 36] = *b"\x0b\x80\x00\x01\x11\x09\x00\x08\x01\x00\x00\x00\
     \x00\x01\xff\x00\x00\x00\x01\x12\x00\x01\xff\x00\x00\x00\x01\x11\x0a\x02\x00\x07\x0a\x01\x00\x05";
 
+/// Whether a receiver of this router refuses what it has to, and finds the processor of what it takes.
+fn is_inspected(config: &Config) -> bool {
+    inspect(&URGENT) == None
+        && processor_or_fault(config, &URGENT) == Ok(1)
+        && inspect(&URGENT[..35]) == Some(Cause::Short)
+        && processor_or_fault(config, &URGENT[..35]) == Err(Cause::Short)
+        && inspect(&[0; TOO_LONG]) == Some(Cause::TooLong)
+}
+
 #[test]
 fn tells_what_a_receiver_refuses(rt: HostRuntime) {
     let mut config = config(rt.alloc(), Bands::One).expect(&rt, "memory");
     config.processors = 2;
     config.seed = 1;
-    assert!(rt; inspect(&URGENT) == None);
-    assert!(rt; processor_or_fault(&config, &URGENT) == Ok(1));
-    assert!(rt; inspect(&URGENT[..35]) == Some(Cause::Short));
-    assert!(rt; processor_or_fault(&config, &URGENT[..35]) == Err(Cause::Short));
-    assert!(rt; inspect(&[0; TOO_LONG]) == Some(Cause::TooLong));
+    assert!(rt; is_inspected(&config));
     assert!(rt; is_urgent(&URGENT) && !is_urgent(&[0; 36]));
+}
+
+/// Whether a forwarder is where it has to be among the workers.
+fn is_found(config: &Config, forwarder: WorkerIndex) -> bool {
+    (forwarder, forwarder.seat(config)) == (WorkerIndex::Forwarder(2), 8)
+        && forwarder.is_there(config)
+        && !forwarder.is(WorkerIndex::Slow)
+        && forwarder.producer(config) == None
+}
+
+/// Whether a high band's pipe is where it has to be, and is fed by those that have to.
+fn is_fed(config: &Config, high: QueueIndex) -> bool {
+    high.is_there(config)
+        && high.place(config) == 9
+        && (high.consumer(), high.is_out()) == (WorkerIndex::Forwarder(1), true)
+        && WorkerIndex::Slow.feeds(high)
+        && !WorkerIndex::Forwarder(2).feeds(high)
+        && high.producers(config) == 3
+}
+
+/// Whether the other numbers are right.
+fn are_numbered(config: &Config) -> bool {
+    (slow_seat(config), seat_count(config)) == (5, 10)
+        && link_pipe(config, true, 3) == 13
+        && WorkerIndex::Slow.producer(config) == Some(1)
+        && WorkerIndex::Controller.producer(config) == Some(2)
 }
 
 #[test]
 fn finds_workers_and_pipes(rt: HostRuntime) {
     let config = config(rt.alloc(), Bands::One).expect(&rt, "memory");
-    assert!(rt; (slow_seat(&config), seat_count(&config)) == (5, 10));
-    assert!(rt; link_pipe(&config, true, 3) == 13);
-    let forwarder = WorkerIndex::named(&config, Worker::Forwarder(7));
-    assert!(rt; (forwarder, forwarder.seat(&config)) == (WorkerIndex::Forwarder(2), 8));
-    assert!(rt; forwarder.is_there(&config) && !forwarder.is(WorkerIndex::Slow));
-    let high = QueueIndex::named(&config, Queue::High(2));
-    assert!(rt; high.is_there(&config) && high.place(&config) == 9);
-    assert!(rt; (high.consumer(), high.is_out()) == (WorkerIndex::Forwarder(1), true));
-    assert!(rt; WorkerIndex::Slow.feeds(high) && !forwarder.feeds(high));
-    assert!(rt; WorkerIndex::Slow.producer(&config) == Some(1));
-    assert!(rt; WorkerIndex::Controller.producer(&config) == Some(2));
-    assert!(rt; forwarder.producer(&config) == None);
-    assert!(rt; high.producers(&config) == 3);
+    assert!(rt; are_numbered(&config));
+    assert!(rt; is_found(&config, WorkerIndex::named(&config, Worker::Forwarder(7))));
+    assert!(rt; is_fed(&config, QueueIndex::named(&config, Queue::High(2))));
 }

@@ -74,6 +74,25 @@ impl<N: Router, R: Wait + Copy> Workers<N, R> {
     }
 }
 
+fn share_of_receiver<N: Router, R: Wait + Copy>(worker: Receiver<N, R, ListSource>) -> Share<N> {
+    worker.into_parts().3
+}
+
+fn share_of_processor<N: Router, R: Wait + Copy>(worker: Processor<N, R, Open>) -> Share<N> {
+    worker.into_parts().4
+}
+
+fn share_of_slow_path<N: Router, R: Wait + Copy>(worker: SlowPath<N, R>) -> Share<N> {
+    worker.into_parts().3
+}
+
+fn sink_and_share<N: Router, R: Wait + Copy>(
+    worker: Forwarder<N, R, ListSink>,
+) -> (ListSink, Share<N>) {
+    let (sink, _, _, _, share) = worker.into_parts();
+    (sink, share)
+}
+
 // What is left of the workers: the sink and their counts.
 fn parts_of<N: Router, R: Abort + Wait + Copy>(
     rt: &R,
@@ -82,18 +101,10 @@ fn parts_of<N: Router, R: Abort + Wait + Copy>(
 ) -> (ListSink, Vec<Share<N>>)
     ensures { length result.1.items ≡ 4 }
 {
-    let Workers {
-        rt: _,
-        receiver,
-        processor,
-        slow_path,
-        forwarder,
-        controller: _,
-    } = workers;
-    let a = receiver.into_parts().3;
-    let b = processor.into_parts().4;
-    let c = slow_path.into_parts().3;
-    let (sink, _, _, _, d) = forwarder.into_parts();
+    let a = share_of_receiver(workers.receiver);
+    let b = share_of_processor(workers.processor);
+    let c = share_of_slow_path(workers.slow_path);
+    let (sink, d) = sink_and_share(workers.forwarder);
     let shares = Vec::from_array(alloc, [a, b, c, d]).expect(rt, "memory");
     (sink, shares)
 }

@@ -1,49 +1,33 @@
 //! Words of the command line, and what they ask for.
 use command_words::{Order, WordsFault, read_words};
+use std::process::Abort;
+
+/// The words of a line.
+fn words_of(rt: &(impl AllocGlobal + Abort), line: &str) -> Vec<String> {
+    let mut words = Vec::new(rt.alloc());
+    for word in line.split_whitespace() {
+        let word = String::from_str(rt.alloc(), word).expect(rt, "word");
+        words.push(word).expect(rt, "words");
+    }
+    words
+}
 
 #[test]
-fn reads_words(rt: HostRuntime) {
-    let alloc = rt.alloc();
-    for (line, want) in [
-        ("route --config c --link 2 --now 0", Some((2, 0))),
+fn reads_routes(rt: HostRuntime) {
+    for (line, wanted) in [
+        ("route --config c --link 2 --now 0", (2, 0)),
         (
             "route --now=1099511627775 --link=65535 --config=c",
-            Some((65535, 1099511627775)),
+            (65535, 1099511627775),
         ),
-        ("route --config c --link 0 --now 1", Some((0, 1))),
-        ("replay --config c", Some((0, 7))),
-        ("replay --config=c", Some((0, 7))),
+        ("route --config c --link 0 --now 1", (0, 1)),
         (
             "route --config c --link 0 --now 1 --from 10.0.0.3:1",
-            Some((0, 1)),
+            (0, 1),
         ),
-        ("route --config c --link 0 --now 1 --from 10.0.0.3", None),
-        ("route --config c --link 0 --now 1 --from 10.0.0.03:1", None),
-        ("route --config c --link 01 --now 1", None),
-        ("route --config c --link +1 --now 1", None),
-        ("route --config c --link 65536 --now 1", None),
-        ("route --config c --link 1 --now 1099511627776", None),
-        ("route --config c --link 1 --now 1 --now 1", None),
-        ("route --config c --link 1", None),
-        ("route --config c --link one --now 1", None),
-        ("replay", None),
-        ("replay --config c --link 1", None),
-        ("run --config c", Some((0, 8))),
-        ("run --config=c", Some((0, 8))),
-        ("check --config c", Some((0, 9))),
-        ("run", None),
-        ("check", None),
-        ("run --config c --config c", None),
-        ("run --config c --now 1", None),
-        ("check --config c end", None),
-        ("", None),
     ] {
-        let mut words = Vec::new(alloc);
-        for word in line.split_whitespace() {
-            let word = String::from_str(alloc, word).expect(&rt, "word");
-            words.push(word).expect(&rt, "words");
-        }
-        match read_words(alloc, words.as_slice()) {
+        let words = words_of(&rt, line);
+        match read_words(rt.alloc(), words.as_slice()) {
             Ok(
                 Order::Route {
                     config,
@@ -52,26 +36,60 @@ fn reads_words(rt: HostRuntime) {
                     ..
                 },
             ) => {
-                assert_eq!(rt; Some((link, now)), want, "at {line:?}");
-                assert_eq!(rt; config, "c", "at {line:?}");
+                assert!(&rt; (link, now) == wanted && config == "c", "{line}");
             }
-            Ok(Order::Replay { config }) => {
-                assert_eq!(rt; want, Some((0, 7)), "at {line:?}");
-                assert_eq!(rt; config, "c", "at {line:?}");
-            }
-            Ok(Order::Run { config }) => {
-                assert_eq!(rt; want, Some((0, 8)), "at {line:?}");
-                assert_eq!(rt; config, "c", "at {line:?}");
-            }
-            Ok(Order::Check { config }) => {
-                assert_eq!(rt; want, Some((0, 9)), "at {line:?}");
-                assert_eq!(rt; config, "c", "at {line:?}");
-            }
-            Err(WordsFault::Told(error)) => {
-                assert_eq!(rt; None, want, "at {line:?}");
-                assert!(rt; error.use_stderr(), "at {line:?}");
-            }
-            Err(WordsFault::Memory) => assert!(rt; false, "at {line:?}"),
+            _ => panic!(&rt; "{line}"),
+        }
+    }
+}
+
+/// The orders that only name a configuration.
+const SINGLE: &str = "replay --config c
+replay --config=c
+run --config c
+run --config=c
+check --config c";
+
+#[test]
+fn reads_single_orders(rt: HostRuntime) {
+    for line in SINGLE.lines() {
+        let words = words_of(&rt, line);
+        let (order, config) = match read_words(rt.alloc(), words.as_slice()) {
+            Ok(Order::Replay { config }) => ("replay", config),
+            Ok(Order::Run { config }) => ("run", config),
+            Ok(Order::Check { config }) => ("check", config),
+            _ => panic!(&rt; "{line}"),
+        };
+        assert!(&rt; line.starts_with(order) && config == "c", "{line}");
+    }
+}
+
+/// No words, and what is no order.
+const FAULTY: &str = "
+route --config c --link 0 --now 1 --from 10.0.0.3
+route --config c --link 0 --now 1 --from 10.0.0.03:1
+route --config c --link 01 --now 1
+route --config c --link +1 --now 1
+route --config c --link 65536 --now 1
+route --config c --link 1 --now 1099511627776
+route --config c --link 1 --now 1 --now 1
+route --config c --link 1
+route --config c --link one --now 1
+replay
+replay --config c --link 1
+run
+check
+run --config c --config c
+run --config c --now 1
+check --config c end";
+
+#[test]
+fn refuses_other_words(rt: HostRuntime) {
+    for line in FAULTY.lines() {
+        let words = words_of(&rt, line);
+        match read_words(rt.alloc(), words.as_slice()) {
+            Err(WordsFault::Told(error)) => assert!(&rt; error.use_stderr(), "{line}"),
+            _ => panic!(&rt; "{line}"),
         }
     }
 }
