@@ -1,8 +1,17 @@
-//! Tests of the engines of the router's commands, over readers and writers in memory. They are kept apart from
-//! these crates, each of which would be proved a second time for its tests.
+//! Tests of the engines of the router's commands, over readers and writers in memory, and of what they stand
+//! on: the decision and its answers, and what reads texts. They are kept apart from these crates, each of which
+//! would be proved a second time for its tests.
 #![tactic(auto)]
 
+#[cfg(test)]
+mod answers;
 mod calls;
+#[cfg(test)]
+mod config;
+#[cfg(test)]
+mod decision;
+#[cfg(test)]
+mod links;
 #[cfg(test)]
 mod malicious;
 #[cfg(test)]
@@ -15,6 +24,12 @@ mod rows;
 mod run;
 #[cfg(test)]
 mod schedules;
+#[cfg(test)]
+mod sound;
+#[cfg(test)]
+mod words;
+#[cfg(test)]
+mod words_of_faults;
 #[cfg(test)]
 mod worked;
 
