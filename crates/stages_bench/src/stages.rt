@@ -1,15 +1,12 @@
 //! Three workers: what comes by link 1 leaves by link 2.
 
-ghost use Rattle.std.specs.Prelude.{◌≡◌, ◌<◌, [], Some, All, false, length, IfOk};
+ghost use Rattle.std.specs.Prelude.{◌≡◌, Some, IfOk};
 ghost use Rattle.std.specs.Arc.{arc_value};
-ghost use Rattle.packet_ledger.specs.Share.{new_share};
 ghost use Rattle.router_rules.specs.Links.{link_count};
-ghost use Rattle.stage_parts.specs.Outlets.{AreFresh};
-ghost use Rattle.sample_stages.specs.Ends.{IsFresh, IsUntaken};
 
 use crate::devices::{Flows, Sums};
-use crate::ends::{ForwarderEnds, ProcessorEnds, ReceiverEnds, new_ends};
-use packet_ledger::{Blank, Book, Share};
+use crate::ends::{BANDS, new_ends};
+use packet_ledger::{Blank, Book};
 use router_rules::Shared;
 use router_stages::{Band, Forwarder, Processor, Receiver};
 use sample_stages::{Open, next_share};
@@ -68,87 +65,33 @@ fn sum_of<N: Router, R: Wait + Copy>(forwarder: Forwarder<N, R, Sums>) -> u64 {
     sink.sum()
 }
 
-/// A value to share, or the plain error in place of one that gives the value back.
-fn new_arc<T: Drop>(alloc: Global, value: T) -> Result<Arc<T, Global>, AllocError> {
-    Ok(Arc::new(alloc, value)?)
+/// What the workers share, an owner for each.
+#[derive(Drop)]
+struct Common {
+    receiver: Arc<Shared, Global>,
+    stop: Arc<AtomicU64, Global>,
+    processor: Arc<Shared, Global>,
+    gate: Arc<Open, Global>,
+    forwarder: Arc<Shared, Global>,
 }
 
-fn receiver<N: Router, R: Wait + Copy>(
-    rt: R,
-    alloc: Global,
-    shared: &Arc<Shared, Global>,
-    ends: ReceiverEnds<N>,
-    share: Share<N>,
-) -> Result<Receiver<N, R, Flows>, AllocError>
-    requires config { N.config ≡ Some (arc_value shared.now).config }
-    requires small { (link_count (arc_value shared.now).config ≡ 4) × ((arc_value shared.now).config.processors ≡ 1) }
-    requires free { ends.free.looks ≡ [] }
-    requires processors { (length ends.processors.items ≡ 1) × AreFresh ends.processors.items }
-    requires share { share ≡ new_share }
+fn common_of(alloc: Global, shared: &Arc<Shared, Global>) -> Result<Common, AllocError>
+    ensures receiver { IfOk result (λ c. arc_value c.receiver ≡ arc_value shared.now) }
+    ensures processor { IfOk result (λ c. arc_value c.processor ≡ arc_value shared.now) }
+    ensures forwarder { IfOk result (λ c. arc_value c.forwarder ≡ arc_value shared.now) }
 {
-    let stop = new_arc(alloc, AtomicU64::new(0));
-    let (shared, stop) = both(Arc::try_clone(shared), stop)?;
-    let ReceiverEnds {
-        first,
-        free,
-        processors,
-    } = ends;
-    Ok(Receiver::new(
-        rt,
-        shared,
+    let stop = Arc::new(alloc, AtomicU64::new(0))?;
+    let gate = Arc::new(alloc, Open)?;
+    let receiver = Arc::try_clone(shared)?;
+    let processor = Arc::try_clone(shared)?;
+    let forwarder = Arc::try_clone(shared)?;
+    Ok(Common {
+        receiver,
         stop,
-        1,
-        Flows::new(),
-        first,
-        free,
-        processors,
-        share,
-    ))
-}
-
-fn processor<N: Router, R: Wait + Copy>(
-    rt: R,
-    alloc: Global,
-    shared: &Arc<Shared, Global>,
-    ends: ProcessorEnds<N>,
-    share: Share<N>,
-) -> Result<Processor<N, R, Open>, AllocError>
-    requires config { N.config ≡ Some (arc_value shared.now).config }
-    requires small { link_count (arc_value shared.now).config ≡ 4 }
-    requires packets { IsUntaken 1 ends.packets }
-    requires links { (length ends.links.items ≡ 8) × AreFresh ends.links.items }
-    requires slow { IsFresh ends.slow }
-    requires free { length ends.free.items ≡ 4 }
-    requires share { share ≡ new_share }
-{
-    let (shared, gate) = both(Arc::try_clone(shared), new_arc(alloc, Open))?;
-    let ProcessorEnds {
-        packets,
-        links,
-        slow,
-        free,
-    } = ends;
-    let from = Inlet::of(packets, 1);
-    Ok(Processor::new(rt, shared, 0, gate, from, links, slow, free, share))
-}
-
-fn forwarder<N: Router, R: Wait + Copy>(
-    rt: R,
-    shared: &Arc<Shared, Global>,
-    ends: ForwarderEnds<N>,
-    share: Share<N>,
-) -> Result<Forwarder<N, R, Sums>, AllocError>
-    requires config { N.config ≡ Some (arc_value shared.now).config }
-    requires small { link_count (arc_value shared.now).config ≡ 4 }
-    requires bands { IsUntaken 1 ends.low × IsUntaken 1 ends.high }
-    requires free { length ends.free.items ≡ 4 }
-    requires share { share ≡ new_share }
-{
-    let shared = Arc::try_clone(shared)?;
-    let ForwarderEnds { low, high, free } = ends;
-    let low = Band::of(low, 1);
-    let high = Band::of(high, 1);
-    Ok(Forwarder::new(rt, shared, 2, low, high, Sums::new(), free, share))
+        processor,
+        gate,
+        forwarder,
+    })
 }
 
 /// The workers of a router of four links, joined by pipes.
@@ -164,11 +107,39 @@ pub fn stages_of<N: Router, R: Wait + Copy>(
     requires small { (link_count (arc_value shared.now).config ≡ 4) × ((arc_value shared.now).config.processors ≡ 1) }
 {
     let (_, mut shares) = Book::<N>::new(alloc, blank, 3)?;
-    let ends = new_ends::<N, R>(&rt, alloc)?;
-    let receiver = receiver(rt, alloc, shared, ends.receiver, next_share(&mut shares));
-    let processor = processor(rt, alloc, shared, ends.processor, next_share(&mut shares));
-    let forwarder = forwarder(rt, shared, ends.forwarder, next_share(&mut shares));
-    let (receiver, (processor, forwarder)) = both(receiver, both(processor, forwarder))?;
+    let (common, ends) = both(common_of(alloc, shared), new_ends::<N, R>(&rt, alloc))?;
+    let receiver = Receiver::new(
+        rt,
+        common.receiver,
+        common.stop,
+        1,
+        Flows::new(),
+        ends.first,
+        ends.free,
+        ends.processors,
+        next_share(&mut shares),
+    );
+    let processor = Processor::new(
+        rt,
+        common.processor,
+        0,
+        common.gate,
+        Inlet::of(ends.packets, 1),
+        ends.links,
+        ends.slow,
+        ends.dropped,
+        next_share(&mut shares),
+    );
+    let forwarder = Forwarder::new(
+        rt,
+        common.forwarder,
+        2,
+        Band::of(ends.low, BANDS),
+        Band::of(ends.high, 1),
+        Sums::new(),
+        ends.sent,
+        next_share(&mut shares),
+    );
     Ok(Stages {
         receiver,
         processor,
