@@ -1,22 +1,16 @@
--- Offers and buffers that go back.
-use Rattle.std.proofs.Common.{◌≡◌, inl, inr, ℕ, ◌+◌, ◌*◌, ◌<◌, Bool, true, false, cond, ◌&&◌, List, [], ◌∷◌, length, slice_index_or, ap, subst, ◌∙◌, arith}
+-- Offers to the links' pipes.
+use Rattle.std.proofs.Common.{◌≡◌, inr, ℕ, ◌+◌, ◌*◌, ◌<◌, Bool, true, false, cond, ◌&&◌, List, ap, subst, ◌∙◌, arith}
 use Rattle.packet_ledger.specs.Share.{Held, counting, with_fate}
 use Rattle.pipeline_laws.specs.Item.{Outgoing}
 use Rattle.process_packet.specs.declared.cause.Cause.TheVariants as cause
 use Rattle.process_packet.specs.declared.config.Config.{Config}
 use Rattle.router_rules.specs.Links.{has_two_bands, link_count}
 use Rattle.router_rules.specs.Rules.{is_urgent, kinds}
-use Rattle.ruled_pipe.specs.declared.entry.Load.TheVariants.{Payload}
-use Rattle.ruled_pipe.specs.Producer.{Sender, entry, offered, refused}
-use Rattle.stage_laws.proofs.Works.{set_length}
+use Rattle.ruled_pipe.specs.Producer.{Sender}
 use Rattle.stage_parts.specs.Outlet.{Offering}
 use Rattle.stage_parts.specs.Outlets.{KeptAt}
-use Rattle.router_stages.specs.Exits.{GaveBack, SentAs, pipe_for}
-
-pub back_long : (k : ℕ) (old new : List (Sender (Unit {0}))) → k < length old → GaveBack k old new → length new ≡ length old
-back_long k [] new lt g = absurd (omega arith)
-back_long k (s ∷ old) new lt (inl g) = ap length (g s) ∙ set_length (s ∷ old) k (offered (slice_index_or (s ∷ old) k s) (entry (slice_index_or (s ∷ old) k s).number (Payload tt)))
-back_long k (s ∷ old) new lt (inr g) = ap length (g s) ∙ set_length (s ∷ old) k (refused (slice_index_or (s ∷ old) k s) (entry (slice_index_or (s ∷ old) k s).number (Payload tt)))
+use Rattle.stage_parts.specs.GivingBack.{GaveBack}
+use Rattle.router_stages.specs.Exits.{SentAs, pipe_for}
 
 two_below : (l n : ℕ) (b : Bool) → l < n → 2 * l + cond b 1 0 < 2 * n
 two_below l n true lt = omega arith

@@ -1,9 +1,4 @@
-pub mod PoolLemmas
-pub mod Passing
-pub mod RoomLemmas
-pub mod ReceivingLemmas
 pub mod ExitsLemmas
 pub mod UsedLemmas
 pub mod WorkingLemmas
-pub mod ForwardingLemmas
 pub mod AnsweringLemmas

@@ -15,9 +15,9 @@ use Rattle.router_rules.specs.Rules.{kinds, replied}
 use Rattle.stage_laws.specs.Answers.{answer_to}
 use Rattle.stage_parts.specs.Outlets.{AreOpen, Trying, senders}
 use Rattle.router_stages.specs.Exits.{Leaving, DroppedAs, SentAs, is_used, with_links, with_share}
-use Rattle.router_stages.specs.Receiving.{ending}
-use Rattle.router_stages.specs.declared.turn.Turn.{Turn}
-use Rattle.router_stages.specs.declared.turn.Turn.TheVariants.{Did, Quiet}
+use Rattle.stage_parts.specs.Turning.{ending}
+use Rattle.stage_parts.specs.declared.turn.Turn.{Turn}
+use Rattle.stage_parts.specs.declared.turn.Turn.TheVariants.{Did, Quiet}
 
 -- what it took, and its ends of the links' pipes and counts
 pub record Answering : Type 0 where

@@ -8,7 +8,7 @@ use Rattle.process_packet.specs.declared.config.Config.{Config}
 use Rattle.router_rules.specs.Links.{has_two_bands}
 use Rattle.router_rules.specs.Rules.{is_urgent, kinds}
 use Rattle.ruled_pipe.specs.Producer.{Sender}
-use Rattle.stage_laws.specs.Works.{SentOn, TurnedAway}
+use Rattle.stage_parts.specs.GivingBack.{GaveBack}
 use Rattle.stage_parts.specs.Outlet.{Offering}
 use Rattle.stage_parts.specs.Outlets.{GaveAt, KeptAt, TriedAt}
 
@@ -24,10 +24,6 @@ with_links links s = record { config = s.config; links = links; free = s.free; s
 
 abbrev pub with_share : Held → Leaving → Leaving
 with_share share s = record { config = s.config; links = s.links; free = s.free; share = share }
-
--- a buffer was offered to the free ones of a link: accepted, or refused and let go
-abbrev pub GaveBack : ℕ → List (Sender (Unit {0})) → List (Sender (Unit {0})) → Type 0
-GaveBack link old new = SentOn link tt old new ⊎ TurnedAway link tt old new
 
 -- the place of the pipe for what leaves: two of each link, the high band's after the low one's
 abbrev pub pipe_for : Config → Outgoing kinds → ℕ

@@ -1,7 +1,7 @@
-pub mod Pool
-pub mod Intake
-pub mod Receiving
+pub use Rattle.receiver_stage.specs.Pool
+pub use Rattle.receiver_stage.specs.Intake
+pub use Rattle.receiver_stage.specs.Receiving
+pub use Rattle.forwarder_stage.specs.Forwarding
 pub mod Exits
 pub mod Working
-pub mod Forwarding
 pub mod Answering

@@ -20,9 +20,9 @@ use Rattle.stage_parts.specs.Items.{asking}
 use Rattle.stage_parts.specs.Outlet.{Offering, Tried, gave, kept}
 use Rattle.stage_parts.specs.Outlets.{AreOpen, Trying, senders}
 use Rattle.router_stages.specs.Exits.{Leaving, DroppedAs, SentAs, is_used, with_links, with_share}
-use Rattle.router_stages.specs.Receiving.{ending}
-use Rattle.router_stages.specs.declared.turn.Turn.{Turn}
-use Rattle.router_stages.specs.declared.turn.Turn.TheVariants.{Did, Quiet}
+use Rattle.stage_parts.specs.Turning.{ending}
+use Rattle.stage_parts.specs.declared.turn.Turn.{Turn}
+use Rattle.stage_parts.specs.declared.turn.Turn.TheVariants.{Did, Quiet}
 
 -- what it is asked about, what it asks, its number, what it took, what it has in hand, its end of the slow path's pipe, and
 -- its ends of the links' pipes and counts

@@ -3,7 +3,7 @@
 ghost use Rattle.std.specs.Prelude.{◌≡◌, false, ◌+◌, ◌*◌, ◌<◌, MatchBool, length, ◌&&◌};
 ghost use Rattle.packet_ledger.specs.Share.{HasRoom, IsPosted, MayRaise};
 ghost use Rattle.router_rules.specs.Links.{has_two_bands, link_count};
-ghost use Rattle.router_stages.specs.Exits.{DroppedAs, GaveBack, SentAs, TriedLink, is_used, pipe_for, with_links, with_share};
+ghost use Rattle.router_stages.specs.Exits.{DroppedAs, SentAs, TriedLink, is_used, pipe_for, with_links, with_share};
 ghost use Rattle.router_stages.specs.Working.{AskedAs, PassedOn};
 ghost use Rattle.stage_parts.specs.Items.{StandsIn};
 ghost use Rattle.stage_parts.specs.Outlets.{AreOpen, Trying};
@@ -13,7 +13,7 @@ use process_packet::{Cause, Decision};
 use router_rules::{Shared, rules_are_lawful};
 use ruled_pipe::{Full, Producer};
 use stage_parts::{
-    Buffer, EgressPacket, Outlet, Packet, Router, SlowPathRequest, end_at, offer_at,
+    Buffer, EgressPacket, Outlet, Packet, Router, SlowPathRequest, end_at, give_back, offer_at,
 };
 use std::alloc::Global;
 use std::marker::Model;
@@ -40,19 +40,6 @@ impl<N: Router, R> Model for Exits<N, R> {
     ghost view = { λ e. record { config = (arc_value e.shared).config; links = e.links.items; free = e.free.items; share = e.share } };
 
     ghost invariant = { λ e. (N.config ≡ Some (arc_value e.shared).config) × (length e.links.items ≡ 2 * link_count (arc_value e.shared).config) × (length e.free.items ≡ link_count (arc_value e.shared).config) };
-}
-
-// Offers a buffer to the free ones of a link. One that is refused is let go.
-pub(crate) fn give_back<R: Wait>(
-    rt: &R,
-    free: &mut Vec<Producer<Buffer>>,
-    link: u16,
-    buffer: Buffer,
-)
-    requires { link < length free.old.items }
-    ensures { GaveBack link free.old.items free.new.items }
-{
-    let _ = free[usize::from(link)].offer(rt, buffer);
 }
 
 // The place of the pipe for what leaves.

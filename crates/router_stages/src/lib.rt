@@ -1,20 +1,13 @@
-//! The workers of the running router, each a value that is driven by `turn`.
+//! The workers of the running router, each a value that is driven by `turn`: the processor and the slow
+//! path, beside the receiver and the forwarder, which stand on none of what these share.
 #![tactic(auto)]
 
-mod band;
-mod delivery;
 mod exits;
-mod forwarder;
-mod intake;
-mod pool;
 mod processor;
-mod receiver;
 mod slow_path;
-mod turn;
 
-pub use band::Band;
-pub use forwarder::Forwarder;
+pub use forwarder_stage::{Band, Forwarder};
 pub use processor::Processor;
-pub use receiver::{Receiver, STOP};
+pub use receiver_stage::{Receiver, STOP};
 pub use slow_path::SlowPath;
-pub use turn::Turn;
+pub use stage_parts::Turn;

@@ -4,17 +4,18 @@ ghost use Rattle.std.specs.Prelude.{◌≡◌, ◌&&◌, ◌*◌, ◌∷◌, tru
 ghost use Rattle.std.specs.Arc.{arc_value};
 ghost use Rattle.packet_ledger.specs.Share.{HasRoom, IsPosted, new_share};
 ghost use Rattle.router_laws.specs.Keeping.{IsWorking};
-ghost use Rattle.router_stages.specs.Receiving.{ending};
+ghost use Rattle.stage_parts.specs.Turning.{ending};
 ghost use Rattle.router_stages.specs.Working.{AwaitsPush, EndsWorking, IsDone, Worked, WorksFor, first_leaving, first_working, posted};
 ghost use Rattle.router_rules.specs.Links.{link_count};
 ghost use Rattle.stage_parts.specs.Outlets.{AreFresh, senders};
 
 use crate::exits::Exits;
-use crate::turn::Turn;
 use packet_ledger::{Book, Share};
 use router_rules::{Shared, Worker};
 use ruled_pipe::{Load, Producer};
-use stage_parts::{Buffer, EgressPacket, Gate, Inlet, Outlet, Packet, Router, SlowPathRequest};
+use stage_parts::{
+    Buffer, EgressPacket, Gate, Inlet, Outlet, Packet, Router, SlowPathRequest, Turn,
+};
 use std::alloc::Global;
 use std::marker::Model;
 use std::sync::{Arc, Wait};

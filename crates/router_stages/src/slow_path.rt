@@ -11,11 +11,10 @@ ghost use Rattle.router_stages.specs.Working.{first_leaving};
 ghost use Rattle.stage_parts.specs.Outlets.{AreFresh, AreOpen, senders};
 
 use crate::exits::Exits;
-use crate::turn::Turn;
 use packet_ledger::{Book, Share};
 use router_rules::Shared;
 use ruled_pipe::{Load, Producer};
-use stage_parts::{Buffer, EgressPacket, Inlet, Outlet, Router, SlowPathRequest, Withheld};
+use stage_parts::{Buffer, EgressPacket, Inlet, Outlet, Router, SlowPathRequest, Turn, Withheld};
 use std::alloc::Global;
 use std::marker::Model;
 use std::sync::{Arc, Wait};

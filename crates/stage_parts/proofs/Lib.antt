@@ -2,3 +2,5 @@ pub mod Marks
 pub mod Telling
 pub mod Sending
 pub mod EndLemmas
+pub mod RoomLemmas
+pub mod BackLemmas

@@ -6,3 +6,5 @@ pub mod Told
 pub mod ListSink
 pub mod Replying
 pub mod Outlets
+pub mod GivingBack
+pub mod Turning

@@ -21,8 +21,8 @@ use Rattle.router_stages.specs.Answering as answering
 use Rattle.router_stages.specs.Exits.{Leaving, DroppedAs, SentAs, is_used, pipe_for, with_links}
 use Rattle.router_stages.specs.Working.{Working, After, AskedAs, EndsWorking, PassedOn, Takes, Worked, WorksFor, WorksOn, out, with_taker}
 use Rattle.router_stages.specs.Working as working
-use Rattle.router_stages.specs.declared.turn.Turn.{Turn}
-use Rattle.router_stages.specs.declared.turn.Turn.TheVariants.{Did, Quiet, Ended}
+use Rattle.stage_parts.specs.declared.turn.Turn.{Turn}
+use Rattle.stage_parts.specs.declared.turn.Turn.TheVariants.{Did, Quiet, Ended}
 use Rattle.router_stages.proofs.UsedLemmas.{used_low, used_high}
 use Rattle.worker_threads.specs.Same.{AreSameEnds, IsSameEnd, IsSameTaker, end_self, ends_self, ends_then, taker_self}
 use Rattle.worker_threads.specs.Workers.{IsSameProcessor, ProcessorEnded, IsSameSlowPath, SlowPathEnded, processor_self, processor_then}

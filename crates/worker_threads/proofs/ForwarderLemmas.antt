@@ -5,8 +5,8 @@ use Rattle.router_rules.specs.Rules.{kinds}
 use Rattle.ruled_pipe.specs.Consumer.{Taker}
 use Rattle.stage_parts.specs.Told.{Told}
 use Rattle.router_stages.specs.Forwarding.{Band, Delivered, Delivery, Forwarded, Forwarding, Forwards, HasEnded, Met, PassedMet, TookOf, is_two, looks_first, posted}
-use Rattle.router_stages.specs.declared.turn.Turn.{Turn}
-use Rattle.router_stages.specs.declared.turn.Turn.TheVariants.{Did, Quiet, Ended}
+use Rattle.stage_parts.specs.declared.turn.Turn.{Turn}
+use Rattle.stage_parts.specs.declared.turn.Turn.TheVariants.{Did, Quiet, Ended}
 use Rattle.worker_threads.specs.Same.{IsSameTaker, taker_self}
 use Rattle.worker_threads.specs.Workers.{IsSameForwarder, forwarder_self}
 

@@ -7,8 +7,8 @@ use Rattle.router_laws.specs.Heard.{Heard, Gave, WasQuiet, HadFailed, WasAtEnd, 
 use Rattle.router_rules.specs.Rules.{kinds}
 use Rattle.router_stages.specs.Intake.{Intake, EndedAs, place}
 use Rattle.router_stages.specs.Receiving.{Receiving, Idles, Heeds, Received, Waited, posted}
-use Rattle.router_stages.specs.declared.turn.Turn.{Turn}
-use Rattle.router_stages.specs.declared.turn.Turn.TheVariants.{Did, Quiet, Ended}
+use Rattle.stage_parts.specs.declared.turn.Turn.{Turn}
+use Rattle.stage_parts.specs.declared.turn.Turn.TheVariants.{Did, Quiet, Ended}
 use Rattle.worker_threads.specs.Same.{AreSameEnds, ends_self}
 use Rattle.worker_threads.specs.Workers.{IsSameReceiver, ReceiverEnded}
 use Rattle.worker_threads.proofs.SameLemmas.{ends_as, gave_same, kept_same, tried_same, all_there}

@@ -1,7 +1,7 @@
 //! What the loop of a thread asks of a worker, whichever it is.
 
 ghost use Rattle.std.specs.Prelude.{◌≡◌, true};
-ghost use Rattle.router_stages.specs.declared.turn.Turn.{Turn};
+ghost use Rattle.stage_parts.specs.declared.turn.Turn.{Turn};
 
 use packet_ledger::{Book, Ledger};
 use router_stages::Turn;

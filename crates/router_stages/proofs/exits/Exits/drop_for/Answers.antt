@@ -2,7 +2,7 @@ use Rattle.std.proofs.Common.{◌<◌, ◌∙◌, length, subst, sym, arith}
 use Rattle.std.specs.Arc.{arc_value}
 use Rattle.router_rules.specs.Links.{link_count}
 use Rattle.router_stages.specs.Exits.{Leaving}
-use Rattle.router_stages.proofs.ExitsLemmas.{back_long}
+use Rattle.stage_parts.proofs.BackLemmas.{back_long}
 use Rattle.router_stages.proofs.exits.Exits.drop_for.Goals as goal
 
 pub invariant_of-self : goal.invariant_of-self

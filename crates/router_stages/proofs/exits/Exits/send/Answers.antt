@@ -9,7 +9,8 @@ use Rattle.stage_parts.specs.Items.{StandsIn}
 use Rattle.stage_parts.specs.Outlets.{GaveAt}
 use Rattle.stage_parts.proofs.EndLemmas.{gave_long, kept_long}
 use Rattle.router_stages.specs.Exits.{Leaving, SentAs, pipe_for}
-use Rattle.router_stages.proofs.ExitsLemmas.{back_long, pipe_below, sent_not}
+use Rattle.stage_parts.proofs.BackLemmas.{back_long}
+use Rattle.router_stages.proofs.ExitsLemmas.{pipe_below, sent_not}
 use Rattle.router_stages.proofs.exits.Exits.send.Goals as goal
 
 pub fate-requires : goal.fate-requires

@@ -3,7 +3,7 @@ use Rattle.pipeline_laws.specs.Item.{Arrival}
 use Rattle.router_rules.specs.Rules.{kinds}
 use Rattle.packet_ledger.specs.Share.{HasRoom}
 use Rattle.router_stages.specs.Working.{KeepsWorking, Working}
-use Rattle.router_stages.proofs.RoomLemmas.{may_raise}
+use Rattle.stage_parts.proofs.RoomLemmas.{may_raise}
 use Rattle.router_stages.proofs.WorkingLemmas.{keeps_passed}
 use Rattle.router_stages.proofs.processor.Processor.work.Goals as goal
 

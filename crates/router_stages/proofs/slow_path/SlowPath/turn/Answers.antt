@@ -7,7 +7,7 @@ use Rattle.ruled_pipe.specs.Producer.{entry}
 use Rattle.ruled_pipe.specs.declared.entry.Load.{Load}
 use Rattle.router_stages.specs.Answering.{Answering, KeepsAnswering}
 use Rattle.router_stages.proofs.AnsweringLemmas.{keeps_replied}
-use Rattle.router_stages.proofs.RoomLemmas.{may_raise}
+use Rattle.stage_parts.proofs.RoomLemmas.{may_raise}
 use Rattle.router_stages.proofs.slow_path.SlowPath.turn.Goals as goal
 
 pub reply-requires-clause-room : goal.reply-requires-clause-room

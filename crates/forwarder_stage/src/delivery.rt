@@ -1,0 +1,145 @@
+//! What a forwarder does with what it took.
+
+ghost use Rattle.std.specs.Prelude.{◌≡◌, ◌-◌, ◌^◌, ◌<◌, MatchBool, is_ok};
+ghost use Rattle.packet_ledger.specs.Share.{HasRoom, IsPosted, MayRaise};
+ghost use Rattle.router_laws.specs.Shares.{raise};
+ghost use Rattle.router_rules.specs.Links.{has_two_bands};
+ghost use Rattle.forwarder_stage.specs.Forwarding.{Delivered, HandedOn, PassedMet, Swept, count_of, with_share};
+
+use packet_ledger::{Book, Share};
+use process_packet::Cause;
+use router_rules::Shared;
+use ruled_pipe::Producer;
+use stage_parts::{Buffer, EgressPacket, Router, Sink, give_back};
+use std::alloc::Global;
+use std::marker::Model;
+use std::sync::{Arc, Wait};
+
+/// A link's sink, the ends of the links' pipes of free buffers, and the counts.
+#[derive(Drop)]
+pub struct Delivery<N: Router, R, K: Sink> {
+    pub(crate) rt: R,
+    pub(crate) shared: Arc<Shared, Global>,
+    pub(crate) sink: K,
+    pub(crate) free: Vec<Producer<Buffer>>,
+    pub(crate) share: Share<N>,
+}
+
+impl<N: Router, R, K: Sink> Model for Delivery<N, R, K> {
+    ghost use Rattle.std.specs.Prelude.{◌≡◌, length, Some};
+    ghost use Rattle.std.specs.Arc.{arc_value};
+    ghost use Rattle.router_rules.specs.Links.{link_count};
+    ghost use Rattle.forwarder_stage.specs.Forwarding.{Delivery as Seen};
+
+    ghost Value = { Seen K };
+
+    ghost view = { λ d. record { config = (arc_value d.shared).config; sink = d.sink; free = d.free.items; share = d.share } };
+
+    ghost invariant = { λ d. (N.config ≡ Some (arc_value d.shared).config) × (length d.free.items ≡ link_count (arc_value d.shared).config) };
+}
+
+// Counts what was handed to a sink.
+fn count<N: Router>(share: &mut Share<N>, took: bool, answer: bool)
+    requires { MayRaise share.old.counts }
+    ensures { share.new ≡ raise (count_of took answer) share.old }
+{
+    if !took {
+        share.fate(Cause::SendFailed);
+    } else if answer {
+        share.answered();
+    } else {
+        share.sent();
+    }
+}
+
+impl<N: Router, R: Wait + Copy, K: Sink> Delivery<N, R, K> {
+    /// Whether each of its counts can still be raised.
+    pub fn has_room(&self) -> bool
+        ensures { MatchBool result (HasRoom self.now.share.counts) (HasRoom self.now.share.counts → ⊥) }
+    {
+        self.share.has_room()
+    }
+
+    /// How often the sink failed.
+    pub fn failures(&self) -> u64
+        ensures { result ≡ K.failed self.now.sink }
+    {
+        self.sink.failures()
+    }
+
+    /// Whether the link of a number has two bands.
+    pub fn has_two_bands(&self, link: u16) -> bool
+        ensures { result ≡ has_two_bands self.now.config link }
+    {
+        self.shared.ports.two_bands(link)
+    }
+
+    /// Hands a packet to the sink, or sweeps it where its pipe was closed.
+    pub fn deliver(&mut self, shut: bool, egress_packet: EgressPacket<N>)
+        requires sink { K.failed self.old.sink < 2 ^ 64 - 1 }
+        requires room { MayRaise self.old.share.counts }
+        ensures { Delivered K.told K.failed shut egress_packet self.old self.new }
+    {
+        if shut {
+            self.sweep(egress_packet)
+        } else {
+            self.hand_on(egress_packet)
+        }
+    }
+
+    /// Passes on what was met in a pipe that is shut, or not.
+    pub fn pass(&mut self, shut: bool, met: Option<EgressPacket<N>>)
+        requires sink { K.failed self.old.sink < 2 ^ 64 - 1 }
+        requires room { MayRaise self.old.share.counts }
+        ensures { PassedMet K.told K.failed shut met self.old self.new }
+    {
+        if let Some(egress_packet) = met {
+            self.deliver(shut, egress_packet);
+        }
+    }
+
+    fn hand_on(&mut self, egress_packet: EgressPacket<N>)
+        requires sink { K.failed self.old.sink < 2 ^ 64 - 1 }
+        requires room { MayRaise self.old.share.counts }
+        ensures { HandedOn K.told K.failed egress_packet self.old self.new }
+    {
+        let link = egress_packet.arrived();
+        let took = self
+            .sink
+            .send(&egress_packet.named(), egress_packet.bytes())
+            .is_ok();
+        count(&mut self.share, took, egress_packet.is_answer());
+        give_back(&self.rt, &mut self.free, link, egress_packet.into_buffer());
+    }
+
+    fn sweep(&mut self, egress_packet: EgressPacket<N>)
+        requires { MayRaise self.old.share.counts }
+        ensures { Swept egress_packet self.old self.new }
+    {
+        let link = egress_packet.arrived();
+        self.share.fate(Cause::Closed);
+        give_back(&self.rt, &mut self.free, link, egress_packet.into_buffer());
+    }
+
+    /// Posts the counts.
+    pub fn post(&mut self, book: &Book<N>)
+        ensures share { IsPosted self.old.share self.new.share }
+        ensures same { self.new ≡ with_share self.new.share self.old }
+    {
+        book.post(&self.rt, &mut self.share);
+    }
+
+    /// The sink, the ends of the pipes of free buffers, and the counts.
+    pub fn into_parts(self) -> (K, Vec<Producer<Buffer>>, Share<N>)
+        ensures { (result.0 ≡ self.sink) × (result.1.items ≡ self.free) × (result.2 ≡ self.share) }
+    {
+        let Delivery {
+            rt: _,
+            shared: _,
+            sink,
+            free,
+            share,
+        } = self;
+        (sink, free, share)
+    }
+}

@@ -1,0 +1,173 @@
+//! A forwarder.
+
+ghost use Rattle.std.specs.Prelude.{◌≡◌, ◌+◌, [], false, MatchBool, Some, length};
+ghost use Rattle.std.specs.Arc.{arc_value};
+ghost use Rattle.packet_ledger.specs.Share.{HasRoom, IsPosted, new_share};
+ghost use Rattle.router_laws.specs.Heard.{ToldNothing};
+ghost use Rattle.router_laws.specs.Keeping.{IsForwarding};
+ghost use Rattle.router_rules.specs.Links.{link_count};
+ghost use Rattle.forwarder_stage.specs.Forwarding.{AwaitsPush, Forwarded, HasEnded, first_delivery, first_forwarding, posted};
+ghost use Rattle.stage_parts.specs.Told.{told_of};
+
+use crate::band::Band;
+use crate::delivery::Delivery;
+use packet_ledger::{Book, Share};
+use router_rules::Shared;
+use ruled_pipe::{Consumer, Producer};
+use stage_parts::{Buffer, EgressPacket, Router, Sink, Turn};
+use std::alloc::Global;
+use std::marker::Model;
+use std::sync::{Arc, Wait};
+
+/// Takes what leaves from the pipes of its link, the high band's first, and hands it to the link's sink.
+/// What comes after a closing mark in a pipe is swept.
+#[derive(Drop)]
+pub struct Forwarder<N: Router, R, K: Sink> {
+    rt: R,
+    link: u16,
+    low: Band<N>,
+    high: Band<N>,
+    // How often the sink had failed before.
+    began: u64,
+    delivery: Delivery<N, R, K>,
+}
+
+impl<N: Router, R, K: Sink> Model for Forwarder<N, R, K> {
+    ghost use Rattle.forwarder_stage.specs.Forwarding.{Forwarding, KeepsForwarding};
+
+    ghost Value = { Forwarding K };
+
+    ghost view = { λ f. record { link = f.link; low = f.low; high = f.high; began = f.began; side = f.delivery } };
+
+    ghost invariant = { λ f. KeepsForwarding K.told K.failed f.low f.high f.began f.delivery };
+}
+
+impl<N: Router, R: Wait + Copy, K: Sink> Forwarder<N, R, K> {
+    /// The forwarder of the link with a number, over a sink that was handed nothing yet. Buffers go back
+    /// by one pipe a link. Of a link with one band the high band's pipe isn't used.
+    pub fn new(
+        rt: R,
+        shared: Arc<Shared, Global>,
+        link: u16,
+        low: Band<N>,
+        high: Band<N>,
+        sink: K,
+        free: Vec<Producer<Buffer>>,
+        share: Share<N>,
+    ) -> Forwarder<N, R, K>
+        requires config { N.config ≡ Some (arc_value shared).config }
+        requires low { (low.taker.taken ≡ []) × (low.shut ≡ false) }
+        requires high { (high.taker.taken ≡ []) × (high.shut ≡ false) }
+        requires free { length free.items ≡ link_count (arc_value shared).config }
+        requires share { share ≡ new_share }
+        requires untold { ToldNothing (K.told sink) }
+        ensures { result ≡ first_forwarding link low high (K.failed sink) (first_delivery (arc_value shared).config sink free.items) }
+    {
+        let began = sink.failures();
+        let delivery = Delivery {
+            rt,
+            shared,
+            sink,
+            free,
+            share,
+        };
+        Forwarder {
+            rt,
+            link,
+            low,
+            high,
+            began,
+            delivery,
+        }
+    }
+
+    /// Whether each of its counts can still be raised.
+    pub fn has_room(&self) -> bool
+        ensures { MatchBool result (HasRoom self.now.side.share.counts) (HasRoom self.now.side.share.counts → ⊥) }
+    {
+        self.delivery.has_room()
+    }
+
+    // Whether each end mark of its pipes was taken.
+    fn is_over(&self) -> bool
+        ensures { MatchBool result (HasEnded self.now) (HasEnded self.now → ⊥) }
+    {
+        if !self.low.is_over() {
+            return false;
+        }
+        if !self.delivery.has_two_bands(self.link) {
+            return true;
+        }
+        self.high.is_over()
+    }
+
+    /// Whether its next turn can only do something once there is a push into its pipes: an end mark is
+    /// still to come, and the sink can be asked.
+    pub fn awaits_push(&self) -> bool
+        ensures { MatchBool result (AwaitsPush K.failed self.now) (AwaitsPush K.failed self.now → ⊥) }
+    {
+        if self.is_over() {
+            return false;
+        }
+        self.delivery.failures() != u64::MAX
+    }
+
+    /// Takes one entry of the high band's pipe, or, where that was seen empty, of the low one's. A sink
+    /// whose count of failures is at the largest number isn't asked.
+    pub fn turn(&mut self) -> Turn
+        requires { HasRoom self.old.side.share.counts }
+        ensures { Forwarded K.told K.failed result self.old self.new }
+    {
+        if self.is_over() {
+            return Turn::Ended;
+        }
+        if self.delivery.failures() == u64::MAX {
+            return Turn::Quiet;
+        }
+        let two_bands = self.delivery.has_two_bands(self.link);
+        if let Some(met) = self.high.take_if(&self.rt, two_bands) {
+            self.delivery.pass(self.high.is_shut(), met);
+            return Turn::Did;
+        }
+        match self.low.take(&self.rt) {
+            None => Turn::Quiet,
+            Some(met) => {
+                self.delivery.pass(self.low.is_shut(), met);
+                Turn::Did
+            }
+        }
+    }
+
+    /// Posts its counts into the book, where there is room.
+    pub fn post(&mut self, book: &Book<N>)
+        ensures share { IsPosted self.old.side.share self.new.side.share }
+        ensures same { self.new ≡ posted self.new.side.share self.old }
+    {
+        self.delivery.post(book);
+    }
+
+    /// Its sink, its ends of pipes and its counts, which tell what it did.
+    pub fn into_parts(
+        self,
+    ) -> (
+        K,
+        Consumer<EgressPacket<N>>,
+        Consumer<EgressPacket<N>>,
+        Vec<Producer<Buffer>>,
+        Share<N>,
+    )
+        ensures parts { (result.0 ≡ self.side.sink) × (result.1 ≡ self.low.taker) × (result.2 ≡ self.high.taker) × (result.3.items ≡ self.side.free) × (result.4 ≡ self.side.share) }
+        ensures law { IsForwarding told_of self.low.taker self.high.taker self.low.shut self.high.shut (K.told self.side.sink) self.began (K.failed self.side.sink) self.side.share }
+    {
+        let Forwarder {
+            rt: _,
+            link: _,
+            low,
+            high,
+            began: _,
+            delivery,
+        } = self;
+        let (sink, free, share) = delivery.into_parts();
+        (sink, low.into_consumer(), high.into_consumer(), free, share)
+    }
+}

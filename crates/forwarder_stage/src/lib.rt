@@ -1,0 +1,9 @@
+//! The forwarder, a value that is driven by `turn`.
+#![tactic(auto)]
+
+mod band;
+mod delivery;
+mod forwarder;
+
+pub use band::Band;
+pub use forwarder::Forwarder;

@@ -1,0 +1,3 @@
+pub mod PoolLemmas
+pub mod Passing
+pub mod ReceivingLemmas

@@ -1,0 +1,121 @@
+//! What a receiver does with a datagram.
+
+ghost use Rattle.std.specs.Prelude.{◌≡◌, ◌+◌, ◌-◌, ◌^◌, ◌<◌, ◌≤◌, length, take, true, MatchBool};
+ghost use Rattle.packet_ledger.specs.Share.{HasRoom, IsPosted, MayRaise};
+ghost use Rattle.router_laws.specs.Heard.{arrival};
+ghost use Rattle.receiver_stage.specs.Intake.{PassedIn};
+ghost use Rattle.receiver_stage.specs.Receiving.{with_processors, with_share};
+ghost use Rattle.stage_laws.specs.Forwards.{AddsTo};
+ghost use Rattle.stage_parts.specs.Heard.{failures_of, fits, heard};
+ghost use Rattle.stage_parts.specs.Outlets.{AreOpen, Trying};
+
+use crate::pool::Pool;
+use packet_ledger::{Book, Share};
+use process_packet::{Cause, Underlay};
+use router_rules::{Shared, processor_or_fault};
+use ruled_pipe::Consumer;
+use stage_parts::{Buffer, NextLen, Outlet, Packet, Router, Source, end_all, offer_at};
+use std::alloc::Global;
+use std::marker::Model;
+use std::sync::{Arc, Wait};
+
+/// A receiver's side of its link: its buffers, its ends of the processors' pipes, and its counts.
+#[derive(Drop)]
+pub struct Intake<N: Router, R> {
+    pub(crate) rt: R,
+    pub(crate) shared: Arc<Shared, Global>,
+    pub(crate) link: u16,
+    pub(crate) interface: u16,
+    pub(crate) pool: Pool<R>,
+    pub(crate) processors: Vec<Outlet<Packet<N>>>,
+    pub(crate) share: Share<N>,
+}
+
+impl<N: Router, R> Model for Intake<N, R> {
+    ghost use Rattle.std.specs.Prelude.{◌≡◌, length, Some};
+    ghost use Rattle.std.specs.Arc.{arc_value};
+    ghost use Rattle.receiver_stage.specs.Intake.{Taking};
+    ghost use Rattle.stage_parts.specs.Items.{StandsIn};
+
+    ghost Value = { Taking };
+
+    ghost view = { λ i. record { room = i.pool.room; side = record { config = (arc_value i.shared).config; link = i.link; interface = i.interface; stock = i.pool.stock; processors = i.processors.items; share = i.share } } };
+
+    ghost invariant = { λ i. (N.config ≡ Some (arc_value i.shared).config) × StandsIn N.config i.link i.interface × (length i.processors.items ≡ (arc_value i.shared).config.processors) };
+}
+
+impl<N: Router, R: Wait + Copy> Intake<N, R> {
+    /// Passes the first bytes of what was read on as the datagram of a number.
+    pub fn pass_in(&mut self, number: u64, from: Underlay, now: u64, len: usize)
+        requires len { len ≤ 9217 }
+        requires room { MayRaise self.old.side.share.counts }
+        requires unended { AreOpen self.old.side.processors }
+        ensures some { 0 < length self.old.side.processors }
+        ensures passed { PassedIn (arrival self.old.side.link self.old.side.interface number from now (take len self.old.room)) self.old.side self.new.side }
+    {
+        self.share.received(1);
+        let at = match processor_or_fault(&self.shared.config, self.pool.front(len)) {
+            Ok(at) => at,
+            Err(why) => return self.share.fate(why),
+        };
+        let Some(buffer) = self.pool.another() else {
+            return self.share.fate(Cause::NoBuffer);
+        };
+        let read = self.pool.exchange(buffer);
+        let packet = Packet::new(self.link, self.interface, number, from, now, len, read);
+        if let Err(packet) = offer_at(&self.rt, &mut self.processors, at, packet) {
+            self.pool.keep(packet.into_buffer());
+            self.share.fate(Cause::ProcessorFull);
+        }
+    }
+
+    /// Whether each of its counts can still be raised.
+    pub fn has_room(&self) -> bool
+        ensures { MatchBool result (HasRoom self.now.side.share.counts) (HasRoom self.now.side.share.counts → ⊥) }
+    {
+        self.share.has_room()
+    }
+
+    /// Reads the source's next answer.
+    pub fn read<S: Source>(&mut self, source: &mut S) -> NextLen
+        requires { S.failed source.old < 2 ^ 64 - 1 }
+        ensures side { self.new.side ≡ self.old.side }
+        ensures fits { fits result }
+        ensures failed { S.failed source.new ≡ S.failed source.old + failures_of result }
+        ensures told { AddsTo (S.told source.old) (heard self.new.room result) (S.told source.new) }
+    {
+        self.pool.read(source)
+    }
+
+    /// Tries the end marks that are owed, and says whether all are there.
+    pub fn end(&mut self) -> bool
+        ensures tried { Trying (λ j. true) self.old.side.processors self.new.side.processors result }
+        ensures same { self.new.side ≡ with_processors self.new.side.processors self.old.side }
+    {
+        end_all(&self.rt, &mut self.processors)
+    }
+
+    /// Posts its counts.
+    pub fn post(&mut self, book: &Book<N>)
+        ensures share { IsPosted self.old.side.share self.new.side.share }
+        ensures same { self.new.side ≡ with_share self.new.side.share self.old.side }
+    {
+        book.post(&self.rt, &mut self.share);
+    }
+
+    /// Its ends of pipes, and its counts.
+    pub fn into_parts(self) -> (Vec<Outlet<Packet<N>>>, Consumer<Buffer>, Share<N>)
+        ensures { (result.0.items ≡ self.side.processors) × (result.1 ≡ self.side.stock.free) × (result.2 ≡ self.side.share) }
+    {
+        let Intake {
+            rt: _,
+            shared: _,
+            link: _,
+            interface: _,
+            pool,
+            processors,
+            share,
+        } = self;
+        (processors, pool.into_free(), share)
+    }
+}

@@ -1,0 +1,175 @@
+//! A receiver.
+
+ghost use Rattle.std.specs.Prelude.{◌≡◌, ◌<◌, true, MatchBool, Some, [], length};
+ghost use Rattle.std.specs.Arc.{arc_value};
+ghost use Rattle.packet_ledger.specs.Share.{HasRoom, IsPosted, new_share};
+ghost use Rattle.router_laws.specs.Heard.{ToldNothing};
+ghost use Rattle.router_laws.specs.Keeping.{IsReceiving};
+ghost use Rattle.router_rules.specs.Links.{link_count};
+ghost use Rattle.receiver_stage.specs.Receiving.{EndsQuietly, Received, Waited, first_receiving, posted};
+ghost use Rattle.stage_parts.specs.Outlets.{AreFresh, senders};
+
+use crate::intake::Intake;
+use crate::pool::Pool;
+use packet_ledger::{Book, Share};
+use router_rules::{Shared, links_stand_in_order};
+use ruled_pipe::Consumer;
+use stage_parts::{Buffer, NextLen, Outlet, Packet, Router, Source, Turn};
+use std::alloc::Global;
+use std::marker::Model;
+use std::sync::atomic::{AtomicU64, Ordering};
+use std::sync::{Arc, Wait};
+
+/// The word of the stop flag that is shared with the receivers, once they are to end. Any other word
+/// lets them go on.
+pub const STOP: u64 = 1;
+
+// It ends after this number, so that no queue ever accepts 2^62 pushes.
+const LAST_NUMBER: u64 = 1 << 56;
+
+/// Takes datagrams from the source of a link, numbers them from 1 on, and passes them on to the
+/// processors of their flows.
+#[derive(Drop)]
+pub struct Receiver<N: Router, R, S: Source> {
+    stop: Arc<AtomicU64, Global>,
+    number: u64,
+    source: S,
+    intake: Intake<N, R>,
+    ended: bool,
+}
+
+impl<N: Router, R, S: Source> Model for Receiver<N, R, S> {
+    ghost use Rattle.receiver_stage.specs.Receiving.{KeepsReceiving, Receiving};
+
+    ghost Value = { Receiving S };
+
+    ghost view = { λ r. record { number = r.number; source = r.source; ended = r.ended; side = r.intake.side } };
+
+    ghost invariant = { λ r. KeepsReceiving (S.told r.source) r.number r.ended r.intake.side };
+}
+
+impl<N: Router, R: Wait + Copy, S: Source> Receiver<N, R, S> {
+    /// The receiver of the link with a number, over a source that gave nothing yet. It reads into a first
+    /// buffer, takes others from the pipe of the link's free ones, and offers to one pipe a processor.
+    pub fn new(
+        rt: R,
+        shared: Arc<Shared, Global>,
+        stop: Arc<AtomicU64, Global>,
+        link: u16,
+        source: S,
+        first: Buffer,
+        free: Consumer<Buffer>,
+        processors: Vec<Outlet<Packet<N>>>,
+        share: Share<N>,
+    ) -> Receiver<N, R, S>
+        requires config { N.config ≡ Some (arc_value shared).config }
+        requires link { link < link_count (arc_value shared).config }
+        requires processors { (length processors.items ≡ (arc_value shared).config.processors) × AreFresh processors.items }
+        requires free { free.looks ≡ [] }
+        requires share { share ≡ new_share }
+        requires untold { ToldNothing (S.told source) }
+        ensures { result ≡ first_receiving (arc_value shared).config link source free processors.items }
+    {
+        links_stand_in_order();
+        let interface = shared.ports.interface(link);
+        let pool = Pool::new(rt, first, free);
+        let intake = Intake {
+            rt,
+            shared,
+            link,
+            interface,
+            pool,
+            processors,
+            share,
+        };
+        Receiver {
+            stop,
+            number: 0,
+            source,
+            intake,
+            ended: false,
+        }
+    }
+
+    /// Whether each of its counts can still be raised.
+    pub fn has_room(&self) -> bool
+        ensures { MatchBool result (HasRoom self.now.side.share.counts) (HasRoom self.now.side.share.counts → ⊥) }
+    {
+        self.intake.has_room()
+    }
+
+    /// Asks the source once, and passes on what it gives. A source whose count of failures is at the
+    /// largest number isn't asked. After its end it tries the end marks that it owes.
+    pub fn turn(&mut self) -> Turn
+        requires { HasRoom self.old.side.share.counts }
+        ensures { Received S.told S.failed result self.old self.new }
+    {
+        if self.ended {
+            return if self.intake.end() {
+                Turn::Ended
+            } else {
+                Turn::Quiet
+            };
+        }
+        if self.source.failures() == u64::MAX {
+            return Turn::Quiet;
+        }
+        let stopping = self.stop.load(Ordering::SeqCst) == STOP;
+        match self.intake.read(&mut self.source) {
+            NextLen::Datagram { len, from, now } => {
+                self.number += 1;
+                self.intake.pass_in(self.number, from, now, len);
+                self.ended = self.number == LAST_NUMBER;
+                Turn::Did
+            }
+            NextLen::Quiet => {
+                self.ended = stopping;
+                if stopping { Turn::Did } else { Turn::Quiet }
+            }
+            NextLen::Failed => {
+                self.ended = stopping;
+                if stopping { Turn::Did } else { Turn::Quiet }
+            }
+            NextLen::End => {
+                self.ended = true;
+                Turn::Did
+            }
+        }
+    }
+
+    /// Waits as its source does, before its end, and says whether it waited.
+    pub fn wait(&mut self) -> bool
+        ensures same { Waited S.told S.failed self.old self.new }
+        ensures waits { result ≡ true → S.waits self.old.source ≡ true }
+    {
+        if self.ended {
+            return false;
+        }
+        self.source.wait()
+    }
+
+    /// Posts its counts into the book, where there is room.
+    pub fn post(&mut self, book: &Book<N>)
+        ensures share { IsPosted self.old.side.share self.new.side.share }
+        ensures same { self.new ≡ posted self.new.side.share self.old }
+    {
+        self.intake.post(book);
+    }
+
+    /// Its source, its ends of pipes and its counts, which tell what it did.
+    pub fn into_parts(self) -> (S, Vec<Outlet<Packet<N>>>, Consumer<Buffer>, Share<N>)
+        ensures parts { (result.0 ≡ self.source) × (result.1.items ≡ self.side.processors) × (result.2 ≡ self.side.stock.free) × (result.3 ≡ self.side.share) }
+        ensures law { IsReceiving self.side.config self.side.link self.side.interface self.number (S.told self.source) self.side.stock.free.looks (senders self.side.processors) self.side.share }
+        ensures quiet { self.ended ≡ true → EndsQuietly self.number (S.told self.source) }
+    {
+        let Receiver {
+            stop: _,
+            number: _,
+            source,
+            intake,
+            ended: _,
+        } = self;
+        let (processors, free, share) = intake.into_parts();
+        (source, processors, free, share)
+    }
+}
