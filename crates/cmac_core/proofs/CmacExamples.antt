@@ -6,7 +6,7 @@ use Rattle.aes128_core.specs.SBox.{s_box}
 use Rattle.aes128_core.specs.Rounds.{sub_bytes, shift_rows, mix_column, mix_columns, add_round_key, rounds}
 use Rattle.aes128_core.specs.KeyExpansion.{x_power, word_change, key_words}
 use Rattle.aes128_core.specs.Aes128.{cipher}
-use Rattle.cipher_vectors.proofs.Aes128.{key_b}
+use Rattle.cmac_core.proofs.Aes128Examples.{key_b}
 use Rattle.cmac_core.specs.Block.{xor_blocks, doubled}
 use Rattle.cmac_core.specs.Cmac.{subkey_1, subkey_2, last_block, first_blocks, tag_from, tag}
 

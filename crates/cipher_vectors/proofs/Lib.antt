@@ -1,2 +1,0 @@
-pub mod Aes128
-pub mod Cmac
