@@ -1,8 +1,9 @@
 #!/usr/bin/env python3
 """Runs the gate, and then prints the processor time that it took: of each crate, the proof, its tests and its wrong bodies.
 
-What an earlier run on this machine passed is taken as it is, as the gate does; with `--anew` all is done again. The
-table goes to standard error, in seconds of user and system time of the processes that the gate waited for.
+What an earlier run on this machine passed is taken as it is, where the kit's gate does so; with `--anew` all is done
+again, which is what a gate without that word always does. The table goes to standard error, in seconds of user and
+system time of the processes that the gate waited for.
 """
 
 import collections
@@ -69,7 +70,11 @@ def table():
 
 
 def main():
-    rt = load(os.path.realpath(shutil.which("rt")))
+    path = os.path.realpath(shutil.which("rt"))
+    with open(path, encoding="utf-8") as file:
+        if "--anew" not in file.read():
+            sys.argv = [it for it in sys.argv if it != "--anew"]
+    rt = load(path)
     subprocess.Popen._try_wait = wait_for
     rt.in_lanes = noting_edits(rt.in_lanes)
     status = rt.main(sys.argv[1:])
