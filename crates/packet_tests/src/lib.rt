@@ -19,6 +19,8 @@ mod hops;
 #[cfg(test)]
 mod path;
 #[cfg(test)]
+mod samples;
+#[cfg(test)]
 mod segments;
 
 pub use hops::hop_between;

@@ -4,8 +4,6 @@
 
 mod datagram;
 mod router;
-#[cfg(test)]
-mod tests;
 
 pub use datagram::{
     ANSWER, FIRST, IN_TIME, LATE, MAC_AT, OTHER_MAC, PATH_AT, PAYLOAD_AT, with_bytes,
