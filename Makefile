@@ -66,15 +66,13 @@ clean:
 .PHONY: bench-pipe
 
 # Nanoseconds of an item through a pipe between threads, beside plain Rust; it needs rustc too.
-bench-pipe:
-	cd crates/pipe_bench && $(RT) run
+bench-pipe: bin/pipeline_tests
 	bench/pipe.sh
 
 .PHONY: bench-stages
 
 # Nanoseconds of a packet through three workers by turns, beside plain Rust; it needs rustc too.
-bench-stages:
-	cd crates/stages_bench && $(RT) run
+bench-stages: bin/stages_tests
 	bench/stages.sh
 
 .PHONY: bench-router
@@ -93,7 +91,7 @@ faults: bin/router bin/walk_tests bin/stages_tests bin/run_tests
 	tests/faults/growths.sh
 
 # The compiled tests of a crate.
-bin/walk_tests bin/stages_tests bin/run_tests: bin/%: $(PROVED)
+bin/walk_tests bin/pipeline_tests bin/stages_tests bin/run_tests: bin/%: $(PROVED)
 	cd crates/$* && $(RT) test
 	mkdir -p bin
 	cp crates/$*/out/$*_tests bin/$*

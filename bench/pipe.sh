@@ -7,7 +7,7 @@ cd "$(dirname "$0")/.."
 RUSTC=${RUSTC:-rustc}
 mkdir -p bin
 "$RUSTC" -O -C target-cpu=x86-64-v2 -o bin/bench-plain bench/plain.rs
-PIPE=crates/pipe_bench/out/pipe_bench
+PIPE=bin/pipeline_tests
 
 one_tenth() { echo "$(($1 / 10)).$(($1 % 10))"; }
 median() { sort -n | sed -n 5p; }
@@ -17,7 +17,9 @@ for kind in word buffer; do
   for producers in 1 2; do
     pipes= queues= mpscs=
     for _ in 1 2 3 4 5 6 7 8 9; do
-      pipes+="$("$PIPE" "$kind" "$producers")"$'\n'
+      # what follows the first line says that the test passed
+      told=$(BENCH=1 "$PIPE" "timing::${kind}_by_$producers")
+      pipes+="${told%%$'\n'*}"$'\n'
       queues+="$(bin/bench-plain queue "$kind" "$producers")"$'\n'
       mpscs+="$(bin/bench-plain mpsc "$kind" "$producers")"$'\n'
     done

@@ -1,6 +1,6 @@
 //! Plain Rust beside the ruled pipe: `plain mpsc|queue word|buffer PRODUCERS` prints the tenths of a
 //! nanosecond that one item took in the middle one of its rounds. Rounds, counts, sizes and the way of
-//! waiting are those of `crates/pipe_bench`.
+//! waiting are those of `crates/pipeline_tests` (`timing.rt`).
 mod array_queue;
 
 use array_queue::ArrayQueue;

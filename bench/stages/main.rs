@@ -1,6 +1,6 @@
 //! Plain Rust beside the three workers: a receiver, a processor and a forwarder that take turns in one thread, over
 //! queues of the same shape. It prints the tenths of a nanosecond that one packet took in the middle one of its tries,
-//! and a sum of what left. Sizes, counts and devices are those of `crates/stages_bench`.
+//! and a sum of what left. Sizes, counts and devices are those of `crates/stages_tests` (`timing.rt`, `flows.rt`).
 
 #[path = "../array_queue.rs"]
 mod array_queue;

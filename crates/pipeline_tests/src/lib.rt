@@ -15,5 +15,7 @@ mod runs;
 #[cfg(test)]
 mod samples;
 mod steps;
+#[cfg(test)]
+mod timing;
 
 pub use steps::{accepts, closes, gives};

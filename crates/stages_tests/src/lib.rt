@@ -1,11 +1,13 @@
 //! Tests of the workers by turns, over a configuration that is read from its text, of their parts, and of
-//! the rules that they follow. Nothing here runs in the router.
+//! the rules that they follow, and their times. Nothing here runs in the router.
 #![tactic(auto)]
 
 #[cfg(test)]
 mod devices;
 #[cfg(test)]
 mod ends;
+#[cfg(test)]
+mod flows;
 mod letters;
 #[cfg(test)]
 mod rules;
@@ -15,6 +17,8 @@ mod run;
 mod seats;
 #[cfg(test)]
 mod start;
+#[cfg(test)]
+mod timing;
 #[cfg(test)]
 mod turns;
 

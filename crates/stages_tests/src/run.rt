@@ -12,21 +12,27 @@ use router_rules::Shared;
 use router_stages::{Forwarder, Processor, Receiver, SlowPath};
 use ruled_pipe::{Mark, Producer};
 use sample_stages::Open;
-use stage_parts::{EgressPacket, ListSink, ListSource, Next, Router};
+use stage_parts::{EgressPacket, ListSink, ListSource, Next, Router, Sink, Source};
 use std::alloc::Global;
 use std::marker::Brand;
 use std::process::Abort;
 use std::sync::{Arc, Wait};
 
-/// What a run is given beside the source's answers.
+/// What the workers are made of.
 #[derive(Clone, Copy)]
-pub struct Plan {
+pub struct Sizes {
     /// The link of the forwarder: 1 or 2.
     pub link: u16,
-    /// How many free buffers there are beside the receiver's.
+    /// How many free buffers there are beside the receiver's, up to 256.
     pub buffers: usize,
     /// How many entries each pipe holds, up to 65,536.
     pub capacity: usize,
+}
+
+/// What a run is given beside the source's answers.
+#[derive(Clone, Copy)]
+pub struct Plan {
+    pub sizes: Sizes,
     /// At which of its calls the sink fails.
     pub fails: &'static [u64],
     /// A letter a turn: R for the receiver, P the processor, S the slow path, F the forwarder; a small letter
@@ -45,16 +51,16 @@ pub struct Outcome {
 
 /// The workers, and the end by which the forwarder's pipe is closed.
 #[derive(Drop)]
-pub struct Workers<N: Router, R> {
+pub struct Workers<N: Router, R, S: Source, K: Sink> {
     pub rt: R,
-    pub receiver: Receiver<N, R, ListSource>,
+    pub receiver: Receiver<N, R, S>,
     pub processor: Processor<N, R, Open>,
     pub slow_path: SlowPath<N, R>,
-    pub forwarder: Forwarder<N, R, ListSink>,
+    pub forwarder: Forwarder<N, R, K>,
     pub controller: Producer<EgressPacket<N>>,
 }
 
-impl<N: Router, R: Wait + Copy> Workers<N, R> {
+impl<N: Router, R: Wait + Copy> Workers<N, R, ListSource, ListSink> {
     fn turn(&mut self, letter: u8) -> bool {
         match letter.to_ascii_uppercase() {
             b'R' => self.receiver.has_room() && was(self.receiver.turn(), letter),
@@ -97,7 +103,7 @@ fn sink_and_share<N: Router, R: Wait + Copy>(
 fn parts_of<N: Router, R: Abort + Wait + Copy>(
     rt: &R,
     alloc: Global,
-    workers: Workers<N, R>,
+    workers: Workers<N, R, ListSource, ListSink>,
 ) -> (ListSink, Vec<Share<N>>)
     ensures { length result.1.items ≡ 4 }
 {
@@ -121,10 +127,13 @@ fn play<N: Router, R: Abort + Wait + Copy>(
     requires workers { N.workers ≡ 4 }
     requires config { N.config ≡ Some (arc_value shared).config }
     requires small { (link_count (arc_value shared).config ≡ 4) × ((arc_value shared).config.processors ≡ 1) }
-    requires capacity { (0 < plan.capacity) × (plan.capacity ≤ 65536) }
+    requires capacity { (0 < plan.sizes.capacity) × (plan.sizes.capacity ≤ 65536) }
 {
     let (book, shares) = Book::<N>::new(alloc, blank, 4).expect(&rt, "memory");
-    let mut workers = start(rt, alloc, &shared, answers, plan, shares);
+    let source = ListSource::new(answers);
+    let fails = Vec::from_slice(alloc, plan.fails).expect(&rt, "memory");
+    let sink = ListSink::new(alloc, fails);
+    let mut workers = start(rt, alloc, &shared, source, sink, plan.sizes, shares);
     let as_told = workers.turns(plan.turns);
     let (sink, shares) = parts_of(&rt, alloc, workers);
     Outcome {
@@ -144,7 +153,7 @@ pub fn run<R: Abort + Wait + Copy>(
 ) -> Outcome
     requires { (link_count shared.config ≡ 4) × (shared.config.processors ≡ 1) }
 {
-    assert!(rt; plan.capacity > 0 && plan.capacity <= 65536);
+    assert!(rt; plan.sizes.capacity > 0 && plan.sizes.capacity <= 65536);
     let shared = Arc::new(alloc, shared).expect(&rt, "memory");
     let blank = Blank::new(alloc).expect(&rt, "memory");
     play::<Brand, R>(rt, alloc, blank, shared, answers, plan)

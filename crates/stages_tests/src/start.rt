@@ -3,12 +3,13 @@
 ghost use Rattle.std.specs.Prelude.{◌≡◌, ◌<◌, ◌≤◌, Some, [], All, false, length};
 ghost use Rattle.std.specs.Arc.{arc_value};
 ghost use Rattle.packet_ledger.specs.Share.{new_share};
+ghost use Rattle.router_laws.specs.Heard.{ToldNothing};
 ghost use Rattle.router_rules.specs.Links.{link_count};
 ghost use Rattle.sample_stages.specs.Ends.{IsFresh};
 ghost use Rattle.stages_tests.specs.Ends.{IsNewBand};
 
 use crate::ends::{pipe_of, pipe_of_one};
-use crate::run::{Plan, Workers};
+use crate::run::{Sizes, Workers};
 use crate::seats::{Seat, new_returns, new_seat};
 use packet_ledger::Share;
 use router_rules::Shared;
@@ -16,13 +17,15 @@ use router_stages::{Band, Forwarder, Processor, Receiver, SlowPath};
 use ruled_pipe::{Consumer, Producer};
 use sample_stages::{Open, next_outlet, next_producer, next_share};
 use stage_parts::{
-    Buffer, EgressPacket, Inlet, ListSink, ListSource, Next, Outlet, Packet, Router,
-    SlowPathRequest,
+    Buffer, EgressPacket, Inlet, Outlet, Packet, Router, Sink, SlowPathRequest, Source,
 };
 use std::alloc::Global;
 use std::process::Abort;
 use std::sync::atomic::AtomicU64;
 use std::sync::{Arc, Wait};
+
+// How many free buffers fit.
+const BUFFERS: usize = 256;
 
 fn share_of<R: Abort>(rt: &R, shared: &Arc<Shared, Global>) -> Arc<Shared, Global>
     ensures { arc_value result ≡ arc_value shared.now }
@@ -31,25 +34,25 @@ fn share_of<R: Abort>(rt: &R, shared: &Arc<Shared, Global>) -> Arc<Shared, Globa
 }
 
 // Link 1's receiver.
-fn receiver<N: Router, R: Abort + Wait + Copy>(
+fn receiver<N: Router, R: Abort + Wait + Copy, S: Source + Drop>(
     rt: R,
     alloc: Global,
     shared: &Arc<Shared, Global>,
-    answers: Vec<Next>,
+    source: S,
     free: Consumer<Buffer>,
     processor: Outlet<Packet<N>>,
     share: Share<N>,
-) -> Receiver<N, R, ListSource>
+) -> Receiver<N, R, S>
     requires config { N.config ≡ Some (arc_value shared.now).config }
     requires small { (link_count (arc_value shared.now).config ≡ 4) × ((arc_value shared.now).config.processors ≡ 1) }
     requires free { free.looks ≡ [] }
     requires processor { IsFresh processor }
     requires share { share ≡ new_share }
+    requires untold { ToldNothing (S.told source) }
 {
     let shared = share_of(&rt, shared);
     let stop = Arc::new(alloc, AtomicU64::new(0)).expect(&rt, "memory");
     let first = Buffer::new(alloc).expect(&rt, "memory");
-    let source = ListSource::new(answers);
     let processors = Vec::from_array(alloc, [processor]).expect(&rt, "memory");
     Receiver::new(rt, shared, stop, 1, source, first, free, processors, share)
 }
@@ -88,26 +91,26 @@ fn slow_path<N: Router, R: Abort + Wait + Copy>(
     SlowPath::new(rt, shared, requests, links, free, share)
 }
 
-fn forwarder<N: Router, R: Abort + Wait + Copy>(
+fn forwarder<N: Router, R: Abort + Wait + Copy, K: Sink + Drop>(
     rt: R,
     alloc: Global,
     shared: &Arc<Shared, Global>,
-    plan: Plan,
+    link: u16,
+    sink: K,
     low: Band<N>,
     high: Band<N>,
     one: Producer<Buffer>,
     share: Share<N>,
-) -> Forwarder<N, R, ListSink>
+) -> Forwarder<N, R, K>
     requires config { N.config ≡ Some (arc_value shared.now).config }
     requires small { link_count (arc_value shared.now).config ≡ 4 }
     requires bands { IsNewBand low × IsNewBand high }
     requires share { share ≡ new_share }
+    requires untold { ToldNothing (K.told sink) }
 {
     let shared = share_of(&rt, shared);
-    let fails = Vec::from_slice(alloc, plan.fails).expect(&rt, "memory");
-    let sink = ListSink::new(alloc, fails);
     let free = new_returns(&rt, alloc, one);
-    Forwarder::new(rt, shared, plan.link, low, high, sink, free, share)
+    Forwarder::new(rt, shared, link, low, high, sink, free, share)
 }
 
 fn fill<R: Abort + Wait>(rt: &R, alloc: Global, stock: Producer<Buffer>, buffers: usize) {
@@ -117,44 +120,47 @@ fn fill<R: Abort + Wait>(rt: &R, alloc: Global, stock: Producer<Buffer>, buffers
     }
 }
 
-/// The workers of a plan, with as many free buffers as it says.
-pub fn start<N: Router, R: Abort + Wait + Copy>(
+/// The workers over these devices, whose forwarder is of a link, with as many free buffers beside the receiver's and
+/// entries in each pipe as said.
+pub fn start<N: Router, R: Abort + Wait + Copy, S: Source + Drop, K: Sink + Drop>(
     rt: R,
     alloc: Global,
     shared: &Arc<Shared, Global>,
-    answers: Vec<Next>,
-    plan: Plan,
+    source: S,
+    sink: K,
+    sizes: Sizes,
     shares: Vec<Share<N>>,
-) -> Workers<N, R>
+) -> Workers<N, R, S, K>
     requires config { N.config ≡ Some (arc_value shared.now).config }
     requires small { (link_count (arc_value shared.now).config ≡ 4) × ((arc_value shared.now).config.processors ≡ 1) }
-    requires capacity { (0 < plan.capacity) × (plan.capacity ≤ 65536) }
+    requires capacity { (0 < sizes.capacity) × (sizes.capacity ≤ 65536) }
+    requires untold { ToldNothing (S.told source) × ToldNothing (K.told sink) }
     requires shares { All (λ s. s ≡ new_share) shares.items × (length shares.items ≡ 4) }
 {
     let mut shares = shares;
-    let (mut frees, free) = pipe_of::<Buffer, R>(&rt, alloc, 64, 4);
-    fill(&rt, alloc, next_producer(&mut frees), plan.buffers);
-    let (mut lows, low) = pipe_of::<EgressPacket<N>, R>(&rt, alloc, plan.capacity, 3);
-    let (mut highs, high) = pipe_of::<EgressPacket<N>, R>(&rt, alloc, plan.capacity, 2);
-    let (outlet, packets) = pipe_of_one(&rt, alloc, plan.capacity);
-    let (slow, requests) = pipe_of_one(&rt, alloc, plan.capacity);
+    let (mut frees, free) = pipe_of::<Buffer, R>(&rt, alloc, BUFFERS, 4);
+    fill(&rt, alloc, next_producer(&mut frees), sizes.buffers);
+    let (mut lows, low) = pipe_of::<EgressPacket<N>, R>(&rt, alloc, sizes.capacity, 3);
+    let (mut highs, high) = pipe_of::<EgressPacket<N>, R>(&rt, alloc, sizes.capacity, 2);
+    let (outlet, packets) = pipe_of_one(&rt, alloc, sizes.capacity);
+    let (slow, requests) = pipe_of_one(&rt, alloc, sizes.capacity);
     let share = next_share(&mut shares);
-    let receiver = receiver(rt, alloc, shared, answers, free, outlet, share);
+    let receiver = receiver(rt, alloc, shared, source, free, outlet, share);
     let share = next_share(&mut shares);
     let one = next_producer(&mut frees);
     let ends = (next_outlet(&mut lows), next_outlet(&mut highs));
-    let seat = new_seat(&rt, alloc, plan.link, ends.0, ends.1, one, share);
+    let seat = new_seat(&rt, alloc, sizes.link, ends.0, ends.1, one, share);
     let processor = processor(rt, alloc, shared, packets, slow, seat);
     let share = next_share(&mut shares);
     let one = next_producer(&mut frees);
     let ends = (next_outlet(&mut lows), next_outlet(&mut highs));
-    let seat = new_seat(&rt, alloc, plan.link, ends.0, ends.1, one, share);
+    let seat = new_seat(&rt, alloc, sizes.link, ends.0, ends.1, one, share);
     let slow_path = slow_path(rt, shared, requests, seat);
     let share = next_share(&mut shares);
     let one = next_producer(&mut frees);
     let low = Band::of(low, 3);
     let high = Band::of(high, 2);
-    let forwarder = forwarder(rt, alloc, shared, plan, low, high, one, share);
+    let forwarder = forwarder(rt, alloc, shared, sizes.link, sink, low, high, one, share);
     Workers {
         rt,
         receiver,

@@ -1,7 +1,7 @@
 //! Runs of the workers, turn by turn. Where a growth is refused a run ends for want of memory, but where it is
 //! refused to the sink, that sink fails once more, unless it is told to fail at this call anyhow.
 
-use crate::run::{Outcome, Plan, run};
+use crate::run::{Outcome, Plan, Sizes, run};
 use process_packet::{Bands, Totals};
 use router_rules::Shared;
 use sample_packets::{ANSWER, FIRST, IN_TIME, LATE, MAC_AT, OTHER_MAC, PAYLOAD_AT, with_bytes};
@@ -17,9 +17,11 @@ use std::test::*;
 // Link 2's forwarder, four buffers beside the receiver's, four entries in each pipe, and a sink that never fails.
 fn plan(turns: &'static str) -> Plan {
     Plan {
-        link: 2,
-        buffers: 4,
-        capacity: 4,
+        sizes: Sizes {
+            link: 2,
+            buffers: 4,
+            capacity: 4,
+        },
         fails: &[],
         turns,
     }
@@ -74,7 +76,7 @@ fn is(outcome: &Outcome, numbers: &[u64], wanted: &Totals) -> bool {
 #[test]
 fn a_full_processor_pipe_refuses(rt: HostRuntime) {
     let mut plan = plan("RRPRFPF");
-    plan.capacity = 1;
+    plan.sizes.capacity = 1;
     let outcome = ran(rt, Bands::One, firsts(rt.alloc(), 3), plan);
     assert!(rt; is(&outcome, &[1, 3], &totals(3, 2, FULL_PROCESSOR, 1)));
 }
@@ -82,7 +84,7 @@ fn a_full_processor_pipe_refuses(rt: HostRuntime) {
 #[test]
 fn without_a_buffer_packets_are_dropped(rt: HostRuntime) {
     let mut plan = plan("RRRPFRPF");
-    plan.buffers = 1;
+    plan.sizes.buffers = 1;
     let outcome = ran(rt, Bands::One, firsts(rt.alloc(), 4), plan);
     assert!(rt; is(&outcome, &[1, 4], &totals(4, 2, NO_BUFFER, 2)));
 }
@@ -168,7 +170,7 @@ fn an_expired_packet_is_answered(rt: HostRuntime) {
     let other = with_bytes(FIRST, MAC_AT, &OTHER_MAC);
     let answers = only(rt.alloc(), datagram(rt.alloc(), &other, NEAR, LATE));
     let mut plan = plan("RPSFf");
-    plan.link = 1;
+    plan.sizes.link = 1;
     let outcome = ran(rt, Bands::One, answers, plan);
     assert!(rt; is_answered(&outcome, &other));
 }

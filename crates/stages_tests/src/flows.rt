@@ -1,4 +1,4 @@
-//! The devices: datagrams of many flows, and a sum of what leaves.
+//! Devices whose packets are timed: datagrams of many flows, and a sum of what leaves.
 
 ghost use Rattle.std.specs.Prelude.{◌≡◌, ◌+◌, ◌-◌, ◌^◌, ◌<◌, None, false, is_ok, if◌then◌else◌, length};
 ghost use Rattle.stage_laws.specs.Forwards.{AddsTo};
