@@ -138,6 +138,7 @@ fn answers_by_the_way_back(rt: HostRuntime) {
         ),
         "no such service: the pointer is not told"
     );
+    drop(config);
 }
 
 #[test]
@@ -166,6 +167,7 @@ fn answers_what_is_no_error_message(rt: HostRuntime) {
         ),
         "two hop-by-hop extensions"
     );
+    drop(config);
 }
 
 /// A traceroute request to the ingress router of its second hop.
@@ -217,6 +219,7 @@ fn replies_to_traceroute_requests(rt: HostRuntime) {
             b"\x83\x00\x67\xd3\x00\x07\x00\x03\x00\x01\xff\x00\x00\x00\x01\x10\x00\x00\x00\x00\x00\x00\x00\x02"
         )
     );
+    drop(config);
 }
 
 /// Whether the datagram has no fault, and the problem isn't answered for this cause.
@@ -257,6 +260,7 @@ fn drops_what_may_be_an_error_message(rt: HostRuntime) {
         is_dropped(&config, &options, &EXPIRED, Cause::NoAnswer),
         "a cut extension"
     );
+    drop(config);
 }
 
 #[test]
@@ -276,6 +280,7 @@ fn drops_what_has_no_way_back(rt: HostRuntime) {
         is_dropped(&config, &first, &request, Cause::NoWayBack),
         "a request"
     );
+    drop(config);
 }
 
 /// Two segments of two hops with all flags and reserved bits set, at the second segment's first hop.
@@ -347,6 +352,7 @@ fn answers_with_bytes_of_their_own(rt: HostRuntime) {
     assert!(rt; is_sound(outside.bytes.as_slice()));
     let answered = answer(rt.alloc(), &config, &outside, &EXPIRED_THERE).expect(&rt, "memory");
     assert!(rt; has_no_way_back(&answered), "from outside");
+    drop(config);
 }
 
 /// 9,216 bytes between IPv6 hosts over 64 hops, each with its number as its egress; its payload length is
@@ -395,4 +401,5 @@ fn cuts_the_quote_to_the_longest_answer(rt: HostRuntime) {
     };
     assert!(rt; result == wanted);
     assert!(rt; is_longest_answer(&out, &bytes));
+    drop(config);
 }

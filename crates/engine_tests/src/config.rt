@@ -45,6 +45,7 @@ fn reads_a_configuration(rt: HostRuntime) {
         link(3, LinkKind::Core, 3, Bands::One),
     ];
     assert!(&rt; config.links.as_slice() == links.as_slice());
+    drop(config);
 }
 
 /// The text with a part replaced. In both parts `⏎` stands for the end of a line.
@@ -90,6 +91,7 @@ fn reads_the_second_version(rt: HostRuntime) {
         link(3, LinkKind::Core, 3, Bands::One),
     ];
     assert!(&rt; config.links.as_slice() == links.as_slice());
+    drop(config);
 }
 
 /// In each line: the number of the first fault, a part of the text, and what is in its place, where `⏎`

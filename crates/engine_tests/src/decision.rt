@@ -126,4 +126,5 @@ fn routes_with_bytes_of_their_own(rt: HostRuntime) {
         is_told_late(&route(rt.alloc(), &config, &late)),
         "it is answered"
     );
+    drop(config);
 }

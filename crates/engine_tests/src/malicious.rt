@@ -130,6 +130,8 @@ fn answers_each_cut(rt: HostRuntime) {
     let config = read_config(rt.alloc(), CONFIGURATION).expect(&rt, "configuration");
     let mut texts = Texts::new(rt.alloc());
     assert!(rt; good_cuts(rt.alloc(), &config, &mut texts) == 92);
+    drop(config);
+    drop(texts);
 }
 
 /// How many of the datagrams that differ in one byte give one line, which reads back where it is an
@@ -156,4 +158,6 @@ fn answers_each_changed_byte(rt: HostRuntime) {
     let config = read_config(rt.alloc(), CONFIGURATION).expect(&rt, "configuration");
     let mut texts = Texts::new(rt.alloc());
     assert!(rt; good_changes(rt.alloc(), &config, &mut texts) == 23460);
+    drop(config);
+    drop(texts);
 }

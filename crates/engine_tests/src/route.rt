@@ -91,6 +91,7 @@ fn answers_each_line(rt: HostRuntime) {
             Ok(())
         )
     );
+    drop(config);
 }
 
 #[test]
@@ -116,6 +117,7 @@ fn ends_at_a_line_that_is_no_hex(rt: HostRuntime) {
             Err(LinesFault::Line(2))
         )
     );
+    drop(config);
 }
 
 /// Whether there was memory for the header with this many bytes `5a` after it, in hex.
@@ -141,6 +143,7 @@ fn answers_the_longest_datagram(rt: HostRuntime) {
     assert!(rt; push_long(&mut text, 8361));
     assert!(rt; answers(alloc, &config, &ARRIVING, text.as_slice(), &mut line));
     assert!(rt; line.as_slice() == b"drop 11\n".as_slice(), "9,217 bytes");
+    drop(config);
 }
 
 /// A reader and a writer of a few bytes a call, which fails at one of its calls.
@@ -228,6 +231,7 @@ fn tells_a_device_that_fails(rt: HostRuntime) {
             "at call {left} of the writer"
         );
     }
+    drop(config);
 }
 
 /// With each allocation refused in turn (`--fail-alloc`): the engine ends with `memory`, after a

@@ -154,4 +154,5 @@ fn answers_the_worked_examples(rt: HostRuntime) {
         line: Vec::new(alloc),
     };
     assert!(rt; other_rows(alloc, &config, &mut vectors) == (50, 0));
+    drop(config);
 }

@@ -176,6 +176,7 @@ fn steps_in_turn(rt: HostRuntime) {
     }
     assert!(&rt; is_first_sent(&world));
     assert!(&rt; are_at(&world, Place::Sent, Place::Dropped(Cause::SendFailed)));
+    drop(world);
 }
 
 #[test]
@@ -190,6 +191,7 @@ fn dropped_on_arrival(rt: HostRuntime) {
             Place::Dropped(Cause::NoBuffer)
         )
     );
+    drop(world);
 }
 
 #[test]
@@ -204,4 +206,5 @@ fn dropped_later(rt: HostRuntime) {
             Place::Dropped(Cause::ProcessorFull)
         )
     );
+    drop(world);
 }

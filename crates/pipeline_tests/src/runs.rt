@@ -105,6 +105,7 @@ fn two_packets_at_each_moment(rt: HostRuntime) {
     ];
     go_along(&rt, &mut world, &places);
     send_first(&rt, &mut world);
+    drop(world);
 }
 
 /// Whether the second packet's datagram was not sent, and is counted so.
@@ -125,6 +126,7 @@ fn a_list_of_steps(rt: HostRuntime) {
     assert!(&rt; is_second_dropped(&world));
     assert!(&rt; world.waiting() == 0);
     assert!(&rt; world.config().processors == 2);
+    drop(world);
 }
 
 /// Whether the first packet waits for its processor, and the second was dropped at the full pipe.
@@ -154,6 +156,7 @@ fn steps_that_are_not_possible(rt: HostRuntime) {
     assert!(&rt; skipped.as_slice() == [0usize, 2, 3, 5, 7, 9].as_slice());
     assert!(&rt; is_second_refused(&world));
     world.headline();
+    drop(world);
 }
 
 /// The first packet is sent, the second is answered, and the answer comes after the mark with which
@@ -215,6 +218,7 @@ fn check_stopped(rt: &(impl AllocGlobal + Abort), world: &World, made: &[Step]) 
         assert!(rt; other.step(rt.alloc(), *step) != Err(StepFault::NoMemory));
     }
     assert!(rt; tell_the_same(world, &other));
+    drop(other);
 }
 
 /// Runs to the end, once more from the step that found no memory.
@@ -243,4 +247,5 @@ fn goes_on_without_memory(rt: HostRuntime) {
     assert!(&rt; world.place(1, 1) == Some(Place::Sent));
     assert!(&rt; world.place(1, 2) == Some(Place::Dropped(Cause::Closed)));
     assert!(&rt; world.waiting() == 0);
+    drop(world);
 }

@@ -82,4 +82,5 @@ fn gate_two_processors(rt: HostRuntime) {
     wanted.sent = 2;
     assert!(rt; tells(&played.report, &wanted, &[0, 0, 2, 0]));
     assert!(rt; meeting.met.load(Ordering::SeqCst) == 2);
+    drop(played);
 }

@@ -141,4 +141,5 @@ fn capacity_one(rt: HostRuntime) {
     let mut counts = [0; 33];
     counts[1] = sent;
     assert!(rt; sent_by(&played.report, &counts));
+    drop(played);
 }

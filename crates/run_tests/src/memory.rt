@@ -20,6 +20,7 @@ fn ended_sources_count_nothing(rt: HostRuntime) {
     let sinks = list_sinks(rt.alloc(), 4, 0).expect(&rt, "memory");
     let played = ran(rt, router(&rt, 1, 4), sources, sinks, Open, None);
     assert!(rt; tells(&played.report, &NOTHING, &[0; 4]));
+    drop(played);
 }
 
 // Whether the first datagram of link 1 was taken, as it leaves: one hop further, and its identifier chained.
@@ -49,6 +50,7 @@ fn the_first_datagram_crosses(rt: HostRuntime) {
         Some([sent]) => assert!(rt; is_first(sent)),
         _ => assert!(rt; false),
     }
+    drop(played);
 }
 
 #[test]
@@ -66,6 +68,7 @@ fn sources_that_always_fail_give_nothing(rt: HostRuntime) {
     for source in &played.report.sources {
         assert!(rt; source.failures() > 0);
     }
+    drop(played);
 }
 
 // Two datagrams, and a failure.
@@ -90,6 +93,7 @@ fn a_failure_is_no_datagram(rt: HostRuntime) {
     wanted.received = 2;
     wanted.sent = 2;
     assert!(rt; tells(&played.report, &wanted, &[0, 0, 2, 0]));
+    drop(played);
 }
 
 #[test]
@@ -105,4 +109,5 @@ fn a_sink_that_always_refuses_is_counted(rt: HostRuntime) {
     assert!(rt; tells(&played.report, &wanted, &[0; 4]));
     let failures = played.report.sinks.get(2).map(|sink| sink.failures());
     assert!(rt; failures == Some(20));
+    drop(played);
 }

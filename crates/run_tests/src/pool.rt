@@ -63,6 +63,7 @@ fn a_thousand_datagrams_take_no_memory(rt: HostRuntime) {
     let played = ran(rt, router(&rt, 1, 64), sources, sinks, Open, Some(lead));
     assert!(rt; played.as_told);
     assert!(rt; tells(&played.report, &all_sent(1000), &[0, 0, 1000, 0]));
+    drop(played);
 }
 
 // What came of a start over these devices, and what came back of a refused one.
