@@ -12,7 +12,7 @@ use Rattle.ruled_pipe.specs.Pipe.{Shape, IsEndOf}
 use Rattle.stage_laws.specs.Ends.{load_in, pushes}
 use Rattle.router_ends.specs.Rows.{AreEndsOf}
 use Rattle.router_ends.specs.Settled.{IsFinal, AreFinished}
-use Rattle.router_stages.specs.Exits.{is_used}
+use Rattle.stage_parts.specs.Outlets.{is_used}
 use Rattle.router_ends.specs.Shutting.{AreMarking, AreNew, AreOpen, AreShutters, Closes, ClosesAt, EachEnds, Ends, EndsUpTo, IsSameShutter, IsShutting, IsStill, PushMarks, Shutting, ShuttersFinish, shutter_ends, shutting}
 use Rattle.router_ends.specs.declared.shutter.CloseFault.{CloseFault}
 use Rattle.router_ends.specs.declared.shutter.CloseFault.TheVariants.{Full, AlreadyClosed}

@@ -2,7 +2,7 @@
 
 ghost use Rattle.std.specs.Prelude.{◌≡◌, ◌≤◌, ◌<◌, ℕ, List, [], IfOk, length, true, slice_index_or};
 ghost use Rattle.router_ends.specs.Rows.{AreEndsOf, IsBundle};
-ghost use Rattle.router_stages.specs.Exits.{is_used};
+ghost use Rattle.stage_parts.specs.Outlets.{is_used};
 ghost use Rattle.router_ends.specs.Shutting.{AreMarking, AreNew, AreOpen, AreShutters, ClosesAt, EachEnds, PushMarks, Shutting, shutter_ends};
 ghost use Rattle.ruled_pipe.specs.Pipe.{Shape};
 ghost use Rattle.router_rules.specs.Links.{has_two_bands};

@@ -12,7 +12,8 @@ use Rattle.router_stages.specs.Receiving.{Receiving}
 use Rattle.router_stages.specs.Working.{Working}
 use Rattle.router_ends.specs.Rows.{Row}
 use Rattle.router_ends.specs.Shutting.{Shutting}
-use Rattle.run_laws.specs.Crew.{AreForwarding, AreWorking, Crew, IsCrew, IsForwardingAt, IsReceivingAt, IsTakerOf, IsWorkingAt, Piping}
+use Rattle.run_laws.specs.Crew.{AreForwarding, AreWorking, Crew, IsCrew, IsForwardingAt, IsReceivingAt}
+use Rattle.wired_workers.specs.Piping.{IsTakerOf, IsWorkingAt, Piping}
 use Rattle.wired_workers.specs.Kits.{Entry, Exit, IsEnteringAt, IsLeavingAt, IsWorkingThere, forwardings, receivings}
 use Rattle.run_parts.specs.WorkerParts.{AreWorkerParts}
 use Rattle.router_run.specs.Run.{Run, crew_of}

@@ -9,11 +9,12 @@ use Rattle.router_rules.specs.Links.{has_two_bands, link_count, link_index}
 use Rattle.router_rules.specs.Rules.{kinds}
 use Rattle.router_rules.proofs.LinkLemmas.{index_within}
 use Rattle.router_stages.specs.Answering.{Answering}
-use Rattle.router_stages.specs.Exits.{is_used}
+use Rattle.stage_parts.specs.Outlets.{is_used}
 use Rattle.router_stages.specs.Forwarding.{Forwarding}
 use Rattle.router_stages.specs.Receiving.{Receiving}
 use Rattle.router_stages.specs.Working.{Working}
-use Rattle.run_laws.specs.Crew.{IsCrew, Piping, are_used}
+use Rattle.run_laws.specs.Crew.{IsCrew}
+use Rattle.wired_workers.specs.Piping.{Piping, are_used}
 use Rattle.router_run.specs.Run.{crew_of}
 use Rattle.router_ends.specs.Shutting.{AreOpen, AreShutters, Closes, ClosesAt, Shutting, closed_at}
 use Rattle.router_ends.specs.declared.shutter.CloseFault.{CloseFault as MarkFault}

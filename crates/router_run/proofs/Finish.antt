@@ -23,7 +23,8 @@ use Rattle.stage_parts.specs.Told.{Told, told_of}
 use Rattle.router_ends.specs.Rows.{HaveLeft, Row, rows_of}
 use Rattle.router_ends.specs.Settled.{AreSettled, HaveEnded, IsDone, IsEnded}
 use Rattle.run_laws.specs.Came.{CrewsReturn, HasKept, HasSettled, back_of, forwarder_back, processor_back, receiver_back}
-use Rattle.run_laws.specs.Crew.{Crew, IsCrew, Piping}
+use Rattle.run_laws.specs.Crew.{Crew, IsCrew}
+use Rattle.wired_workers.specs.Piping.{Piping}
 use Rattle.run_laws.specs.Ended.{IsBack, PipesEnd, inner_rows, inner_takers, middle_takers, outer_rows, takers_of}
 use Rattle.run_parts.specs.Room.{WorkerSlots, HaveWorkerSlots, HaveSpace, Space}
 use Rattle.router_run.specs.Run.{HasRun, IsParted, IsSized, Run, shares_in}

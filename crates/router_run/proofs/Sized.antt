@@ -15,7 +15,8 @@ use Rattle.stage_parts.specs.Outlets.{senders}
 use Rattle.router_ends.specs.Shutting.{AreShutters, EachEnds, Shutting}
 use Rattle.worker_threads.specs.Back.{AreBack}
 use Rattle.worker_threads.specs.Workers.{IsSameReceiver, ReceiverEnded, IsSameProcessor, ProcessorEnded, IsSameSlowPath, SlowPathEnded}
-use Rattle.run_laws.specs.Crew.{AreAnswering, AreForwarding, AreWorking, Crew, IsCrew, IsReceivingAt, Piping, are_used}
+use Rattle.run_laws.specs.Crew.{AreAnswering, AreForwarding, AreWorking, Crew, IsCrew, IsReceivingAt}
+use Rattle.wired_workers.specs.Piping.{Piping, are_used}
 use Rattle.run_laws.specs.Ended.{IsBack}
 use Rattle.run_laws.proofs.Ends.{ends_long, same_ends}
 use Rattle.run_laws.proofs.Rows.{back_long, working_long}

@@ -19,7 +19,8 @@ use Rattle.router_stages.specs.Working.{Working}
 use Rattle.stage_parts.specs.Told.{Told, told_of}
 use Rattle.router_ends.specs.Rows.{Row, rows_of}
 use Rattle.router_ends.specs.Shutting.{Shutting, closed_at}
-use Rattle.run_laws.specs.Crew.{Crew, Piping}
+use Rattle.run_laws.specs.Crew.{Crew}
+use Rattle.wired_workers.specs.Piping.{Piping}
 use Rattle.run_laws.specs.Ended.{IsBack}
 use Rattle.run_laws.specs.Came.{HasSettled, back_of}
 use Rattle.run_laws.specs.Ended.{inner_rows, inner_takers, middle_row, outer_rows, takers_of}

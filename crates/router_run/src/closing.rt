@@ -3,7 +3,7 @@
 ghost use Rattle.std.specs.Prelude.{◌≡◌, ◌+◌, ◌*◌, ◌<◌, ℕ, length, slice_get, slice_index_or, true, false};
 ghost use Rattle.router_ends.specs.Shutting.{AreOpen, Shutting, closed_at};
 ghost use Rattle.router_rules.specs.Links.{has_two_bands, link_count};
-ghost use Rattle.router_stages.specs.Exits.{is_used};
+ghost use Rattle.stage_parts.specs.Outlets.{is_used};
 ghost use Rattle.router_run.specs.Closing.{ClosesMarks, StayEnds, TriesAt};
 
 use crate::fault::CloseFault;

@@ -2,9 +2,9 @@
 use Rattle.std.proofs.Common.{◌≡◌, ◌⊎◌, inl, inr, ℕ, zero, suc, ◌+◌, ◌*◌, ◌<◌, Bool, true, false, eqb, nat_lt, ◌||◌, ◌&&◌, List, length, refl, sym, ap, subst, ◌∙◌, arith}
 use Rattle.std.proofs.lemmas.Bool.{cases_eq, ne_eqb, eq-eqb, lt-ltb, le-ltb}
 use Rattle.stage_parts.specs.Outlet.{Offering}
-use Rattle.stage_parts.specs.Outlets.{Trying}
+use Rattle.stage_parts.specs.Outlets.{Trying, is_used}
 use Rattle.stage_parts.proofs.EndLemmas.{trying_as, trying_next}
-use Rattle.router_stages.specs.Exits.{TriedLink, is_used}
+use Rattle.router_stages.specs.Exits.{TriedLink}
 
 or_true : (b : Bool) → (b || true) ≡ true
 or_true true = refl

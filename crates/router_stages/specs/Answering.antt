@@ -13,8 +13,8 @@ use Rattle.router_laws.specs.Keeping.{IsAnswering}
 use Rattle.router_rules.specs.Links.{has_two_bands}
 use Rattle.router_rules.specs.Rules.{kinds, replied}
 use Rattle.stage_laws.specs.Answers.{answer_to}
-use Rattle.stage_parts.specs.Outlets.{AreOpen, Trying, senders}
-use Rattle.router_stages.specs.Exits.{Leaving, DroppedAs, SentAs, is_used, with_links, with_share}
+use Rattle.stage_parts.specs.Outlets.{AreOpen, Trying, is_used, senders}
+use Rattle.router_stages.specs.Exits.{Leaving, DroppedAs, SentAs, with_links, with_share}
 use Rattle.stage_parts.specs.Turning.{ending}
 use Rattle.stage_parts.specs.declared.turn.Turn.{Turn}
 use Rattle.stage_parts.specs.declared.turn.Turn.TheVariants.{Did, Quiet}

@@ -1,5 +1,5 @@
 -- What a processor and the slow path do with what they made of a packet.
-use Rattle.std.specs.Prelude.{◌≡◌, ◌⊎◌, ◌+◌, ◌*◌, ◌&&◌, ℕ, zero, suc, Bool, true, false, List, if◌then◌else◌}
+use Rattle.std.specs.Prelude.{◌≡◌, ◌⊎◌, ◌+◌, ◌*◌, ◌&&◌, ℕ, Bool, true, false, List, if◌then◌else◌}
 use Rattle.packet_ledger.specs.Share.{Held, counting, with_fate}
 use Rattle.pipeline_laws.specs.Item.{Outgoing}
 use Rattle.process_packet.specs.declared.cause.Cause.{Cause}
@@ -39,12 +39,6 @@ abbrev pub SentAs : Outgoing kinds → Leaving → Leaving → Type 0
 SentAs o old new =
     (GaveAt (pipe_for old.config o) o old.links new.links × (new ≡ with_links new.links old))
     ⊎ (KeptAt (pipe_for old.config o) o old.links new.links × DroppedAs o.arrived cause.LinkFull (with_links new.links old) new)
-
--- the pipes that are used: of each link the low band's, and the high band's where it has two
-abbrev pub is_used : (ℕ → Bool) → ℕ → Bool
-is_used two zero = true
-is_used two (suc zero) = two zero
-is_used two (suc (suc j)) = is_used (λ l. two (suc l)) j
 
 module _ {T : Type 0} where
   -- the high band's pipe first, where there are two

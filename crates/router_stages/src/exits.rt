@@ -3,10 +3,10 @@
 ghost use Rattle.std.specs.Prelude.{◌≡◌, false, ◌+◌, ◌*◌, ◌<◌, MatchBool, length, ◌&&◌};
 ghost use Rattle.packet_ledger.specs.Share.{HasRoom, IsPosted, MayRaise};
 ghost use Rattle.router_rules.specs.Links.{has_two_bands, link_count};
-ghost use Rattle.router_stages.specs.Exits.{DroppedAs, SentAs, TriedLink, is_used, pipe_for, with_links, with_share};
+ghost use Rattle.router_stages.specs.Exits.{DroppedAs, SentAs, TriedLink, pipe_for, with_links, with_share};
+ghost use Rattle.stage_parts.specs.Outlets.{AreOpen, Trying, is_used};
 ghost use Rattle.router_stages.specs.Working.{AskedAs, PassedOn};
 ghost use Rattle.stage_parts.specs.Items.{StandsIn};
-ghost use Rattle.stage_parts.specs.Outlets.{AreOpen, Trying};
 
 use packet_ledger::{Book, Share};
 use process_packet::{Cause, Decision};

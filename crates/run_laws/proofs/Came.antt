@@ -28,7 +28,8 @@ use Rattle.router_ends.specs.Settled.{ReadsColumns}
 use Rattle.router_ends.specs.Shutting.{AreShutters, EachEnds, Shutting, closed_at, shutter_ends}
 use Rattle.worker_threads.specs.Back.{AreBack}
 use Rattle.worker_threads.specs.Workers.{IsSameReceiver, ReceiverEnded, IsSameProcessor, ProcessorEnded, IsSameSlowPath, SlowPathEnded}
-use Rattle.run_laws.specs.Crew.{AreAnswering, AreForwarding, AreWorking, Crew, IsAnsweringAt, IsCrew, IsReceivingAt, IsWorkingAt, Piping, are_used}
+use Rattle.run_laws.specs.Crew.{AreAnswering, AreForwarding, AreWorking, Crew, IsCrew, IsReceivingAt}
+use Rattle.wired_workers.specs.Piping.{IsAnsweringAt, IsWorkingAt, Piping, are_used}
 use Rattle.run_laws.specs.Ended.{IsBack, inner_rows, inner_takers, middle_row, outer_rows, takers_of}
 use Rattle.run_laws.specs.Came.{CrewsReturn, HasKept, HasSettled, back_of, forwarder_back, processor_back, receiver_back}
 use Rattle.run_laws.proofs.Ends.{ends_long, same_ends}

@@ -2,9 +2,8 @@
 use Rattle.std.proofs.Common.{◌≡◌, ℕ, zero, suc, ◌+◌, ◌*◌, Bool, true, false, List, [], ◌∷◌, length, refl, sym, ◌∙◌, ap, subst, arith}
 use Rattle.ruled_pipe.specs.Producer.{Sender}
 use Rattle.ruled_pipe.specs.Pipe.{Shape, IsEndOf}
-use Rattle.router_stages.specs.Exits.{is_used}
+use Rattle.stage_parts.specs.Outlets.{AreFresh, is_used, senders}
 use Rattle.stage_parts.specs.Outlet.{Offering}
-use Rattle.stage_parts.specs.Outlets.{AreFresh, senders}
 use Rattle.router_ends.specs.Rows.{AreEndsOf}
 use Rattle.router_ends.specs.Handing.{AreSpared}
 use Rattle.worker_threads.specs.Same.{AreSameEnds, IsSameEnd, IsSameWhere}

@@ -24,7 +24,8 @@ use Rattle.router_ends.specs.Shutting.{AreMarking, AreShutters, EachEnds, Shutti
 use Rattle.worker_threads.specs.Back.{AreBack}
 use Rattle.worker_threads.specs.Same.{AreSameEnds, IsSameTaker}
 use Rattle.worker_threads.specs.Workers.{IsSameReceiver, ReceiverEnded, IsSameProcessor, ProcessorEnded, IsSameSlowPath, SlowPathEnded, IsSameForwarder, ForwarderEnded}
-use Rattle.run_laws.specs.Crew.{Piping, IsReceivingAt, IsWorkingAt, AreWorking, IsAnsweringAt, AreAnswering, IsForwardingAt, AreForwarding, IsTakerOf, are_used}
+use Rattle.run_laws.specs.Crew.{IsReceivingAt, AreWorking, AreAnswering, IsForwardingAt, AreForwarding}
+use Rattle.wired_workers.specs.Piping.{Piping, IsWorkingAt, IsAnsweringAt, IsTakerOf, are_used}
 use Rattle.run_laws.specs.Ended.{takers_of}
 use Rattle.run_laws.proofs.Ends.{same_ends, spared, used_high}
 

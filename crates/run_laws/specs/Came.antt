@@ -17,7 +17,8 @@ use Rattle.stage_parts.specs.Told.{Told, told_of}
 use Rattle.router_ends.specs.Handing.{NeverClosed}
 use Rattle.router_ends.specs.Settled.{AreSettled, IsDone}
 use Rattle.router_ends.specs.Shutting.{PushMarks, closed_at, shutter_ends}
-use Rattle.run_laws.specs.Crew.{Crew, IsCrew, Piping}
+use Rattle.run_laws.specs.Crew.{Crew, IsCrew}
+use Rattle.wired_workers.specs.Piping.{Piping}
 use Rattle.run_laws.specs.Ended.{IsBack, inner_rows, inner_takers, middle_row, middle_takers, outer_rows, takers_of}
 
 module _ {S G K : Type 0} (told : S → Option (List Heard)) (shown : K → Option (List Told)) (failed : K → ℕ) where

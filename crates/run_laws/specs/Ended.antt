@@ -19,7 +19,8 @@ use Rattle.router_ends.specs.Settled.{HaveEnded, IsEnded}
 use Rattle.router_ends.specs.Shutting.{AreMarking, EachEnds, shutter_ends}
 use Rattle.worker_threads.specs.Back.{AreBack}
 use Rattle.worker_threads.specs.Workers.{IsSameReceiver, ReceiverEnded, IsSameProcessor, ProcessorEnded, IsSameSlowPath, SlowPathEnded, IsSameForwarder, ForwarderEnded}
-use Rattle.run_laws.specs.Crew.{Crew, IsCrew, Piping}
+use Rattle.run_laws.specs.Crew.{Crew, IsCrew}
+use Rattle.wired_workers.specs.Piping.{Piping}
 
 -- Each worker is the same and has ended; the controller's end marks are there.
 pub record IsBack {S G K : Type 0} (old new : Crew S G K) : Type 0 where

@@ -8,7 +8,7 @@ use Rattle.router_stages.specs.Working.{Working}
 use Rattle.router_ends.specs.Rows.{HaveLeft, Row}
 use Rattle.router_ends.specs.Shutting.{AreOpen, AreShutters, Shutting}
 use Rattle.router_rules.specs.Links.{link_count}
-use Rattle.run_laws.specs.Crew.{IsAnsweringAt, IsPiping, Piping, are_used}
+use Rattle.wired_workers.specs.Piping.{IsAnsweringAt, IsPiping, Piping, are_used}
 use Rattle.wired_workers.specs.Kits.{Entry, Exit, IsEnteringAt, IsLeavingAt, IsWorkingThere}
 use Rattle.wired_workers.specs.Rest.{IsRest}
 

@@ -5,7 +5,7 @@ ghost use Rattle.std.specs.Arc.{arc_value};
 ghost use Rattle.router_ends.specs.Rows.{AreFor, new_takers};
 ghost use Rattle.router_ends.specs.Shutting.{AreOpen, AreShutters};
 ghost use Rattle.router_rules.specs.Links.{link_count};
-ghost use Rattle.run_laws.specs.Crew.{IsAnsweringAt, IsTakerOf, are_used};
+ghost use Rattle.wired_workers.specs.Piping.{IsAnsweringAt, IsTakerOf, are_used};
 ghost use Rattle.wired_workers.specs.Dealing.{IsBundleOf, IsLong, IsNewEnd, piping};
 ghost use Rattle.wired_workers.specs.Kits.{IsLeavingAt, IsWorkingThere};
 ghost use Rattle.run_parts.specs.WorkerParts.{AreWorkerParts};

@@ -1,5 +1,5 @@
 -- A worker's ends of many pipes.
-use Rattle.std.specs.Prelude.{◌≡◌, ℕ, Bool, true, false, MatchBool, List, [], ◌∷◌, map, length, Some, slice_get, slice_index_or, slice_set}
+use Rattle.std.specs.Prelude.{◌≡◌, ℕ, zero, suc, Bool, true, false, MatchBool, List, [], ◌∷◌, map, length, Some, slice_get, slice_index_or, slice_set}
 use Rattle.ruled_pipe.specs.Producer.{Sender}
 use Rattle.stage_parts.specs.Outlet.{Offering, Tried, gave, kept}
 
@@ -46,3 +46,9 @@ module _ {T : Type 0} where
   pub record Trying (picks : ℕ → Bool) (old new : List (Offering T)) (all : Bool) : Type 0 where
     pub tried : TriedWhere picks old new
     pub there : MatchBool all (HaveEnded picks new) (HaveEnded picks new → ⊥)
+
+-- the links' pipes that are used, two of each link: of each the low band's, and the high band's where it has two
+abbrev pub is_used : (ℕ → Bool) → ℕ → Bool
+is_used two zero = true
+is_used two (suc zero) = two zero
+is_used two (suc (suc j)) = is_used (λ l. two (suc l)) j

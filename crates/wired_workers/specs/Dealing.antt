@@ -6,7 +6,7 @@ use Rattle.ruled_pipe.specs.Consumer.{Taker, new_taker}
 use Rattle.ruled_pipe.specs.Pipe.{Shape, IsEndOf}
 use Rattle.router_rules.specs.Links.{link_count}
 use Rattle.router_ends.specs.Rows.{AreDealt, AreFor, HaveLeft, Row, fresh_ends, new_takers}
-use Rattle.run_laws.specs.Crew.{Piping}
+use Rattle.wired_workers.specs.Piping.{Piping}
 use Rattle.wired_workers.specs.Rest.{IsRest}
 
 module _ {T : Type 0} where

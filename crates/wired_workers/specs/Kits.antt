@@ -12,7 +12,7 @@ use Rattle.router_stages.specs.Working.{Working}
 use Rattle.stage_parts.specs.Outlet.{Offering}
 use Rattle.stage_parts.specs.Outlets.{senders}
 use Rattle.router_ends.specs.Rows.{AreEndsOf}
-use Rattle.run_laws.specs.Crew.{IsTakerOf, IsWorkingAt, Piping}
+use Rattle.wired_workers.specs.Piping.{IsTakerOf, IsWorkingAt, Piping}
 
 -- a receiver without its source
 pub record Entry : Type 0 where

@@ -1,3 +1,4 @@
+pub mod Piping
 pub mod Rest
 pub mod Dealing
 pub mod Kits

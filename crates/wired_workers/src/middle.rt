@@ -5,7 +5,7 @@ ghost use Rattle.std.specs.Arc.{arc_value};
 ghost use Rattle.packet_ledger.specs.Share.{new_share};
 ghost use Rattle.router_rules.specs.Links.{link_count};
 ghost use Rattle.ruled_pipe.specs.Pipe.{Shape};
-ghost use Rattle.run_laws.specs.Crew.{IsAnsweringAt, IsTakerOf};
+ghost use Rattle.wired_workers.specs.Piping.{IsAnsweringAt, IsTakerOf};
 ghost use Rattle.stage_parts.specs.Outlets.{AreFresh, senders};
 ghost use Rattle.router_ends.specs.Rows.{AreEndsOf, AreFor, IsBundle, fresh_ends, new_takers};
 ghost use Rattle.wired_workers.specs.Dealing.{IsBundleOf, IsLong, IsNewEnd, piping};

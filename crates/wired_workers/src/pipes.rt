@@ -2,7 +2,7 @@
 
 ghost use Rattle.std.specs.Prelude.{◌≡◌, ◌+◌, ◌*◌, ◌<◌, ◌≤◌, IfOk, [], length};
 ghost use Rattle.router_rules.specs.Links.{link_count};
-ghost use Rattle.run_laws.specs.Crew.{IsTakerOf};
+ghost use Rattle.wired_workers.specs.Piping.{IsTakerOf};
 ghost use Rattle.wired_workers.specs.Dealing.{AreFree, IsDealing, IsNewEnd};
 ghost use Rattle.wired_workers.specs.Rest.{IsRest};
 

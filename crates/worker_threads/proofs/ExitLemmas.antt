@@ -15,10 +15,10 @@ use Rattle.ruled_pipe.specs.Gathered.{ends_in}
 use Rattle.stage_laws.specs.Answers.{answer_to}
 use Rattle.stage_parts.specs.Items.{asking}
 use Rattle.stage_parts.specs.Outlet.{Offering}
-use Rattle.stage_parts.specs.Outlets.{HaveEnded}
+use Rattle.stage_parts.specs.Outlets.{HaveEnded, is_used}
 use Rattle.router_stages.specs.Answering.{Answering, Answered, AfterReply, EndsAnswering, RepliedTo, TakesRequest}
 use Rattle.router_stages.specs.Answering as answering
-use Rattle.router_stages.specs.Exits.{Leaving, DroppedAs, SentAs, is_used, pipe_for, with_links}
+use Rattle.router_stages.specs.Exits.{Leaving, DroppedAs, SentAs, pipe_for, with_links}
 use Rattle.router_stages.specs.Working.{Working, After, AskedAs, EndsWorking, PassedOn, Takes, Worked, WorksFor, WorksOn, out, with_taker}
 use Rattle.router_stages.specs.Working as working
 use Rattle.stage_parts.specs.declared.turn.Turn.{Turn}

@@ -3,11 +3,10 @@ use Rattle.std.specs.Prelude.{◌≡◌, ℕ, true, false, None}
 use Rattle.router_rules.specs.Links.{has_two_bands}
 use Rattle.router_stages.specs.Answering.{Answering}
 use Rattle.router_stages.specs.Answering.{IsDone as IsAnswered}
-use Rattle.router_stages.specs.Exits.{is_used}
+use Rattle.stage_parts.specs.Outlets.{HaveEnded, is_used}
 use Rattle.router_stages.specs.Forwarding.{Forwarding, HasEnded, is_two}
 use Rattle.router_stages.specs.Receiving.{Receiving}
 use Rattle.router_stages.specs.Working.{Working, IsDone}
-use Rattle.stage_parts.specs.Outlets.{HaveEnded}
 use Rattle.process_packet.specs.declared.config.Config.{Config}
 use Rattle.std.proofs.Common.{refl, ap, subst, ◌∙◌}
 use Rattle.worker_threads.specs.Same.{AreSameEnds, IsSameEnd, IsSameTaker, end_self, end_then, ends_self, ends_then, taker_self, taker_then}

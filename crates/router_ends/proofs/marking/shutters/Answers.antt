@@ -2,7 +2,7 @@ use Rattle.std.proofs.Common.{◌≡◌, List, [], ◌∷◌, ◌++◌, length, 
 use Rattle.std.specs.Vec.Iter.{into_iter_items}
 use Rattle.router_rules.specs.Links.{has_two_bands}
 use Rattle.ruled_pipe.specs.Producer.{Sender}
-use Rattle.router_stages.specs.Exits.{is_used}
+use Rattle.stage_parts.specs.Outlets.{is_used}
 use Rattle.router_ends.specs.Shutting.{AreNew, Shutting}
 use Rattle.router_ends.proofs.HandingLemmas.{fresh_one, nothing_left}
 use Rattle.router_ends.proofs.ShuttingLemmas.{new_long, new_more, new_open, shutters_of_new}

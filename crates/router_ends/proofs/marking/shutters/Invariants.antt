@@ -1,7 +1,7 @@
 use Rattle.std.proofs.Common.{◌≡◌, ◌++◌, ◌≤◌, length, vec_capacity}
 use Rattle.std.specs.Vec.Iter.{into_iter_items, into_iter_len}
 use Rattle.router_rules.specs.Links.{has_two_bands}
-use Rattle.router_stages.specs.Exits.{is_used}
+use Rattle.stage_parts.specs.Outlets.{is_used}
 use Rattle.router_ends.specs.Shutting.{AreNew}
 use Rattle.router_ends.proofs.marking.shutters.Given as goal
 

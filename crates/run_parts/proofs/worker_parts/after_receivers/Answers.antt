@@ -3,7 +3,7 @@ use Rattle.std.specs.Arc.{arc_value}
 use Rattle.router_ends.specs.Shutting.{AreShutters}
 use Rattle.router_rules.specs.Links.{link_count}
 use Rattle.router_rules.specs.declared.shared.Shared.{Shared}
-use Rattle.run_laws.specs.Crew.{are_used}
+use Rattle.wired_workers.specs.Piping.{are_used}
 use Rattle.wired_workers.proofs.Making.{bundle_long, ends_of}
 use Rattle.wired_workers.proofs.OkLemmas.{of_ok}
 use Rattle.wired_workers.proofs.RestLemmas.{rest_first}

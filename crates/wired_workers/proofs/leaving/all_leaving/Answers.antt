@@ -9,7 +9,7 @@ use Rattle.router_ends.specs.Rows.{Row, new_takers}
 use Rattle.pipeline_laws.specs.Item.{Outgoing}
 use Rattle.router_rules.specs.Rules.{kinds}
 use Rattle.router_stages.specs.Forwarding.{Band}
-use Rattle.run_laws.specs.Crew.{IsTakerOf}
+use Rattle.wired_workers.specs.Piping.{IsTakerOf}
 use Rattle.wired_workers.specs.Dealing.{IsLong, IsTakerThere}
 use Rattle.wired_workers.specs.Kits.{Exit, IsLeavingAt}
 use Rattle.wired_workers.specs.Rest.{IsRest}

@@ -1,5 +1,5 @@
 use Rattle.std.proofs.Common.{subst, sym, refl, arith}
-use Rattle.run_laws.specs.Crew.{IsTakerOf}
+use Rattle.wired_workers.specs.Piping.{IsTakerOf}
 use Rattle.wired_workers.proofs.Making.{bundle_long, one_gone}
 use Rattle.wired_workers.proofs.RestLemmas.{rest_first, rest_next}
 use Rattle.wired_workers.proofs.middle.deciding_of.Goals as goal

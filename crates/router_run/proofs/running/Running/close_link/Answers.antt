@@ -3,7 +3,7 @@ use Rattle.std.specs.Arc.{arc_value}
 use Rattle.process_packet.specs.declared.config.Config.{Config}
 use Rattle.router_rules.specs.Links.{has_two_bands, link_count, link_index}
 use Rattle.router_rules.specs.declared.shared.Shared.{Shared}
-use Rattle.router_stages.specs.Exits.{is_used}
+use Rattle.stage_parts.specs.Outlets.{is_used}
 use Rattle.router_run.specs.Run.{Run}
 use Rattle.router_run.proofs.ClosingLemmas.{controller_long, controller_used, no_link}
 use Rattle.router_run.proofs.running.Running.close_link.Goals as goal

@@ -1,5 +1,5 @@
 use Rattle.std.proofs.Common.{rules, sym, subst}
-use Rattle.router_stages.specs.Exits.{is_used}
+use Rattle.stage_parts.specs.Outlets.{is_used}
 use Rattle.router_rules.specs.Links.{has_two_bands}
 use Rattle.router_stages.specs.Working.{Working, IsDone}
 use Rattle.router_stages.proofs.WorkingLemmas.{keeps_ending}

@@ -1,6 +1,6 @@
 use Rattle.std.proofs.Common.{sym, subst}
 use Rattle.router_rules.specs.Links.{has_two_bands}
-use Rattle.router_stages.specs.Exits.{is_used}
+use Rattle.stage_parts.specs.Outlets.{is_used}
 use Rattle.router_stages.specs.Answering.{Answering, IsDone}
 use Rattle.router_stages.proofs.AnsweringLemmas.{keeps_ending}
 use Rattle.router_stages.proofs.slow_path.SlowPath.end.Goals as goal

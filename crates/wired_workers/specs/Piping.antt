@@ -1,0 +1,48 @@
+-- The pipes of a router, and its workers but for their devices, as they begin.
+use Rattle.std.specs.Prelude.{◌≡◌, ◌+◌, ◌*◌, ℕ, Bool, List, length}
+use Rattle.process_packet.specs.declared.config.Config.{Config}
+use Rattle.ruled_pipe.specs.Consumer.{Taker}
+use Rattle.ruled_pipe.specs.Pipe.{Shape, IsEndOf}
+use Rattle.router_rules.specs.Links.{has_two_bands, link_count}
+use Rattle.router_stages.specs.Answering.{Answering}
+use Rattle.router_stages.specs.Working.{Working}
+use Rattle.stage_parts.specs.Outlets.{AreFresh, is_used, senders}
+use Rattle.router_ends.specs.Rows.{AreEndsOf, AreFor}
+
+-- one pipe a processor, the slow path's, and two a link
+pub record Piping : Type 0 where
+  pub inner : List Shape
+  pub middle : Shape
+  pub outer : List Shape
+
+-- The receivers feed the processors, these the slow path; processors, slow path and controller feed the links.
+pub record IsPiping (c : Config) (p : Piping) : Type 0 where
+  pub inner : AreFor (link_count c) p.inner
+  pub processors : length p.inner ≡ c.processors
+  pub middle : p.middle.producers ≡ c.processors
+  pub outer : AreFor (c.processors + 2) p.outer
+  pub links : length p.outer ≡ 2 * link_count c
+
+-- the pipes of the links that are used
+abbrev pub are_used : Config → ℕ → Bool
+are_used c = is_used (has_two_bands c)
+
+-- the consumer of this pipe
+abbrev pub IsTakerOf : {T : Type 0} → Shape → Taker T → Type 0
+IsTakerOf s t = (t.pipe ≡ s.pipe) × (t.producers ≡ s.producers) × (t.capacity ≡ s.capacity)
+
+module _ {G : Type 0} where
+  -- a processor takes from its pipe, and has the producers of its number
+  pub record IsWorkingAt (c : Config) (p : Piping) (i : ℕ) (s : Shape) (w : Working G) : Type 0 where
+    pub config : w.side.config ≡ c
+    pub taker : IsTakerOf s w.taker
+    pub slow : IsEndOf p.middle i w.slow.sender
+    pub links : AreEndsOf i p.outer (senders w.side.links)
+    pub fresh : AreFresh w.side.links
+
+-- the slow path has the producers after the processors'
+pub record IsAnsweringAt (c : Config) (p : Piping) (a : Answering) : Type 0 where
+  pub config : a.side.config ≡ c
+  pub taker : IsTakerOf p.middle a.taker
+  pub links : AreEndsOf c.processors p.outer (senders a.side.links)
+  pub fresh : AreFresh a.side.links
