@@ -1,5 +1,5 @@
 -- Workers made of what stood ready are a crew.
-use Rattle.std.proofs.Common.{◌≡◌, ℕ, zero, suc, ◌+◌, ◌*◌, List, [], ◌∷◌, map, length, Some, slice_get, refl, sym, ◌∙◌, ap, subst, arith}
+use Rattle.std.proofs.Common.{◌≡◌, ℕ, zero, suc, ◌+◌, ◌*◌, List, [], ◌∷◌, map, length, Some, Result, Ok, Err, MatchResult, slice_get, refl, sym, ◌∙◌, ap, subst, arith}
 use Rattle.process_packet.specs.declared.config.Config.{Config}
 use Rattle.pipeline_laws.specs.Item.{Outgoing}
 use Rattle.ruled_pipe.specs.Pipe.{Shape}
@@ -17,7 +17,9 @@ use Rattle.wired_workers.specs.Piping.{IsTakerOf, IsWorkingAt, Piping}
 use Rattle.wired_workers.specs.Kits.{Entry, Exit, IsEnteringAt, IsLeavingAt, IsWorkingThere, forwardings, receivings}
 use Rattle.run_parts.specs.WorkerParts.{AreWorkerParts}
 use Rattle.router_run.specs.Run.{Run, crew_of}
-use Rattle.router_run.specs.Starting.{Begins}
+use Rattle.router_run.specs.Starting.{Begins, GivesBack}
+use Rattle.router_run.specs.declared.fault.StartFault.{StartFault}
+use Rattle.router_run.specs.declared.fault.StartFault.TheVariants.{Thread}
 use Rattle.pipeline_laws.specs.Item.{Arrival}
 
 some_same : {X : Type 0} (x y : X) → Some x ≡ Some y → x ≡ y
@@ -145,3 +147,9 @@ begins {S = S} {K = K} failed c r es xs ss ks config rs fs sources sinks = recor
   sinks_are = ap (map (λ (f : Forwarding K). f.side.sink)) fs ∙ forwardings_sinks failed xs ks sinks;
   began = ap (map (λ (f : Forwarding K). f.began)) fs ∙ forwardings_began failed xs ks sinks;
 }
+
+-- what a run over ready parts answers is what a start of it answers
+pub starts : {S G K : Type 0} (failed : K → ℕ) (a b : Config) (links : ℕ) (ss : List S) (ks : List K) (r : Result (Run S G K) (StartFault S K))
+    → a ≡ b → MatchResult r (λ x. Begins failed a ss ks x) (λ f. f ≡ Thread) → MatchResult r (λ x. Begins failed b ss ks x) (λ f. GivesBack links f ss ks)
+starts failed a b links ss ks (Ok x) e ran = subst (λ (c : Config). Begins failed c ss ks x) e ran
+starts {S = S} {K = K} failed a b links ss ks (Err f) e ran = subst (λ (x : StartFault S K). GivesBack links x ss ks) (sym ran) tt

@@ -58,6 +58,10 @@ where
     pub forwarders: Vec<Handle<N, Forwarder<N, R, K>>>,
 }
 
+/// Room for the workers.
+pub type Slots<N, S, K, G, R> =
+    WorkerSlots<Receiver<N, R, S>, Processor<N, R, G>, SlowPath<N, R>, Forwarder<N, R, K>>;
+
 /// Workers that came back, and the controller's ends. Contracts see them as a crew.
 #[derive(Drop)]
 pub struct Joined<N, S, K, G, R>
@@ -278,7 +282,7 @@ pub fn finish_all<N, S, K, G, R>(
     threads: Threaded<N, S, K, G, R>,
     shutters: Vec<Shutter<EgressPacket<N>>>,
     pipes: Pipes<N>,
-    worker_slots: WorkerSlots<N, S, K, G, R>,
+    worker_slots: Slots<N, S, K, G, R>,
     space: Space<N, S, K>,
 ) -> Report<S, K>
 where

@@ -14,12 +14,13 @@ ghost use Rattle.router_run.specs.Starting.{Begins, GivesBack};
 
 use crate::closing::close_both;
 use crate::fault::{CloseFault, StartFault};
-use crate::finishing::{Report, Threaded, finish_all};
+use crate::finishing::{Report, Slots, Threaded, finish_all};
 use packet_ledger::Blank;
 use process_packet::Config;
 use router_ends::Shutter;
 use router_rules::{Shared, link_count};
-use run_parts::{Prepared, Space, WorkerParts, WorkerSlots, prepare};
+use router_stages::{Forwarder, Processor, Receiver, SlowPath};
+use run_parts::{Prepared, Space, ThreadSetups, WorkerParts, prepare};
 use stage_parts::{EgressPacket, Event, Gate, Router, Sink, Source};
 use std::alloc::Global;
 use std::marker::Model;
@@ -46,7 +47,7 @@ where
     threads: Threaded<N, S, K, G, R>,
     shutters: Vec<Shutter<EgressPacket<N>>>,
     pipes: Pipes<N>,
-    worker_slots: WorkerSlots<N, S, K, G, R>,
+    worker_slots: Slots<N, S, K, G, R>,
     space: Space<N, S, K>,
 }
 
@@ -114,7 +115,17 @@ where
 // The workers over their devices, each in a thread of its own.
 fn run<N, S, K, G, R>(
     rt: R,
-    prepared: Prepared<N, S, K, G, R>,
+    prepared: Prepared<
+        N,
+        G,
+        R,
+        Receiver<N, R, S>,
+        Processor<N, R, G>,
+        SlowPath<N, R>,
+        Forwarder<N, R, K>,
+        S,
+        K,
+    >,
     sources: Vec<S>,
     sinks: Vec<K>,
 ) -> Result<Running<N, S, K, G, R>, StartFault<S, K>>
@@ -125,10 +136,10 @@ where
     G: Gate + Send + Sync + Drop + 'static,
     R: Threads + Wait + Clock + Copy + Send + 'static,
     requires worker_parts { AreWorkerParts (arc_value prepared.shared).config (piping prepared.worker_parts.pipes.inner.items prepared.worker_parts.pipes.middle prepared.worker_parts.pipes.outer.items) prepared.worker_parts.pipes.inner_rooms.items prepared.worker_parts.pipes.outer_rooms.items prepared.worker_parts.receivers.items prepared.worker_parts.processors.items prepared.worker_parts.slow prepared.worker_parts.forwarders.items prepared.worker_parts.shutters.items }
-    requires receivers { (prepared.receivers.workers.items ≡ []) × (vec_capacity prepared.receivers.workers ≡ link_count (arc_value prepared.shared).config) × (prepared.receivers.room.items ≡ []) × (vec_capacity prepared.receivers.room ≡ link_count (arc_value prepared.shared).config) }
-    requires processors { (prepared.processors.room.items ≡ []) × (vec_capacity prepared.processors.room ≡ (arc_value prepared.shared).config.processors) }
-    requires slow { (prepared.slow.workers.items ≡ []) × (vec_capacity prepared.slow.workers ≡ 1) × (prepared.slow.room.items ≡ []) × (vec_capacity prepared.slow.room ≡ 1) }
-    requires forwarders { (prepared.forwarders.workers.items ≡ []) × (vec_capacity prepared.forwarders.workers ≡ link_count (arc_value prepared.shared).config) × (prepared.forwarders.room.items ≡ []) × (vec_capacity prepared.forwarders.room ≡ link_count (arc_value prepared.shared).config) }
+    requires receivers { (prepared.thread_setups.receivers.workers.items ≡ []) × (vec_capacity prepared.thread_setups.receivers.workers ≡ link_count (arc_value prepared.shared).config) × (prepared.thread_setups.receivers.room.items ≡ []) × (vec_capacity prepared.thread_setups.receivers.room ≡ link_count (arc_value prepared.shared).config) }
+    requires processors { (prepared.thread_setups.processors.room.items ≡ []) × (vec_capacity prepared.thread_setups.processors.room ≡ (arc_value prepared.shared).config.processors) }
+    requires slow { (prepared.thread_setups.slow.workers.items ≡ []) × (vec_capacity prepared.thread_setups.slow.workers ≡ 1) × (prepared.thread_setups.slow.room.items ≡ []) × (vec_capacity prepared.thread_setups.slow.room ≡ 1) }
+    requires forwarders { (prepared.thread_setups.forwarders.workers.items ≡ []) × (vec_capacity prepared.thread_setups.forwarders.workers ≡ link_count (arc_value prepared.shared).config) × (prepared.thread_setups.forwarders.room.items ≡ []) × (vec_capacity prepared.thread_setups.forwarders.room ≡ link_count (arc_value prepared.shared).config) }
     requires worker_slots { HaveWorkerSlots (link_count (arc_value prepared.shared).config) (arc_value prepared.shared).config.processors prepared.worker_slots }
     requires space { HaveSpace (link_count (arc_value prepared.shared).config) (arc_value prepared.shared).config.processors prepared.space }
     requires workers { N.workers ≡ 2 * link_count (arc_value prepared.shared).config + (arc_value prepared.shared).config.processors + 1 }
@@ -139,15 +150,18 @@ where
     let Prepared {
         shared,
         orders,
-        forwarder_events,
         worker_parts,
+        thread_setups,
+        worker_slots,
+        space,
+    } = prepared;
+    let ThreadSetups {
         receivers: receiving,
         processors: working,
         slow: answering,
         forwarders: forwarding,
-        worker_slots,
-        space,
-    } = prepared;
+        forwarder_events,
+    } = thread_setups;
     let WorkerParts {
         receivers,
         processors,

@@ -4,8 +4,10 @@
 
 mod preparing;
 mod reserve;
+mod thread_setups;
 mod worker_parts;
 
 pub use preparing::{Prepared, prepare};
 pub use reserve::{Space, WorkerSlots};
+pub use thread_setups::{ThreadSetup, ThreadSetups};
 pub use worker_parts::WorkerParts;

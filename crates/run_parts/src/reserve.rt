@@ -6,37 +6,21 @@ ghost use Rattle.run_parts.specs.Room.{HaveWorkerSlots, HaveSpace, IsRoomy};
 
 use packet_ledger::Share;
 use router_ends::Ends;
-use router_stages::{Forwarder, Processor, Receiver, SlowPath};
 use ruled_pipe::Consumer;
-use stage_parts::{EgressPacket, Gate, Packet, Router, Sink, SlowPathRequest, Source};
+use stage_parts::{EgressPacket, Packet, Router, SlowPathRequest};
 use std::alloc::{AllocError, Global};
 use std::marker::Model;
-use std::sync::Wait;
 
-/// Room for the workers.
+/// Room for the workers, which are of any four kinds.
 #[derive(Drop)]
-pub struct WorkerSlots<N, S, K, G, R>
-where
-    N: Router,
-    S: Source + Drop,
-    K: Sink + Drop,
-    G: Gate + Drop,
-    R: Wait + Copy,
-{
-    pub receivers: Vec<Receiver<N, R, S>>,
-    pub processors: Vec<Processor<N, R, G>>,
-    pub slow: Vec<SlowPath<N, R>>,
-    pub forwarders: Vec<Forwarder<N, R, K>>,
+pub struct WorkerSlots<A, B, C, D> {
+    pub receivers: Vec<A>,
+    pub processors: Vec<B>,
+    pub slow: Vec<C>,
+    pub forwarders: Vec<D>,
 }
 
-impl<N, S, K, G, R> Model for WorkerSlots<N, S, K, G, R>
-where
-    N: Router,
-    S: Source + Drop,
-    K: Sink + Drop,
-    G: Gate + Drop,
-    R: Wait + Copy,
-{
+impl<A, B, C, D> Model for WorkerSlots<A, B, C, D> {
     ghost use Rattle.std.specs.Prelude.{◌≡◌, [], vec_capacity};
     ghost use Rattle.run_parts.specs.Room.{WorkerSlots as Seen};
 
@@ -86,23 +70,17 @@ fn rows_of<T: Drop>(alloc: Global, workers: usize, pipes: usize) -> Result<Vec<E
 }
 
 /// Room for the workers of a router with these numbers of links and processors.
-pub fn worker_slots_for<N, S, K, G, R>(
+pub fn worker_slots_for<A: Drop, B: Drop, C: Drop, D: Drop>(
     alloc: Global,
     links: usize,
     processors: usize,
-) -> Result<WorkerSlots<N, S, K, G, R>, AllocError>
-where
-    N: Router,
-    S: Source + Drop,
-    K: Sink + Drop,
-    G: Gate + Drop,
-    R: Wait + Copy,
+) -> Result<WorkerSlots<A, B, C, D>, AllocError>
     ensures { IfOk result (λ r. HaveWorkerSlots links processors r) }
 {
-    let receivers = Vec::<Receiver<N, R, S>>::with_capacity(alloc, links)?;
-    let workers = Vec::<Processor<N, R, G>>::with_capacity(alloc, processors)?;
-    let slow = Vec::<SlowPath<N, R>>::with_capacity(alloc, 1)?;
-    let forwarders = Vec::<Forwarder<N, R, K>>::with_capacity(alloc, links)?;
+    let receivers = Vec::<A>::with_capacity(alloc, links)?;
+    let workers = Vec::<B>::with_capacity(alloc, processors)?;
+    let slow = Vec::<C>::with_capacity(alloc, 1)?;
+    let forwarders = Vec::<D>::with_capacity(alloc, links)?;
     Ok(WorkerSlots {
         receivers,
         processors: workers,

@@ -1,5 +1,5 @@
 use Rattle.wired_workers.proofs.OkLemmas.{of_ok}
-use Rattle.run_parts.proofs.preparing.thread_setups_for.Goals as goal
+use Rattle.run_parts.proofs.thread_setups.thread_setups_for.Goals as goal
 
 pub returns-clause-receivers : goal.returns-clause-receivers
 returns-clause-receivers g c =
