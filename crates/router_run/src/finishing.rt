@@ -5,6 +5,7 @@ ghost use Rattle.packet_ledger.specs.Share.{forwarded};
 ghost use Rattle.router_ends.specs.Rows.{HaveLeft, rows_of};
 ghost use Rattle.router_ends.specs.Settled.{AreSettled, HaveEnded, IsDone, IsEnded};
 ghost use Rattle.router_ends.specs.Shutting.{AreOpen};
+ghost use Rattle.router_laws.specs.Totals.{totals_of};
 ghost use Rattle.router_rules.specs.Links.{link_count};
 ghost use Rattle.run_laws.specs.Crew.{IsCrew};
 ghost use Rattle.run_laws.specs.Came.{HasKept, HasSettled};
@@ -14,7 +15,7 @@ ghost use Rattle.run_parts.specs.Room.{HaveWorkerSlots, HaveSpace};
 ghost use Rattle.router_run.specs.Run.{HasRun, IsParted, IsSized, crew_of, shares_in};
 
 use crate::parting::{part_forwarders, part_processors, part_receivers, part_slow};
-use packet_ledger::Share;
+use packet_ledger::{Book, Share};
 use process_packet::Totals;
 use router_ends::{Ends, Shutter, bare_shutters, gather_all, gather_one, mark_all};
 use router_rules::{Shared, causes_are_apart, link_count, links_stand_in_order, rules_are_lawful};
@@ -59,8 +60,12 @@ where
 }
 
 /// Room for the workers.
-pub type Slots<N, S, K, G, R> =
-    WorkerSlots<Receiver<N, R, S>, Processor<N, R, G>, SlowPath<N, R>, Forwarder<N, R, K>>;
+pub type Slots<N, S, K, G, R> = WorkerSlots<
+    Receiver<N, R, S>,
+    Processor<N, R, G>,
+    SlowPath<N, R>,
+    Forwarder<N, R, K>,
+>;
 
 /// Workers that came back, and the controller's ends. Contracts see them as a crew.
 #[derive(Drop)]
@@ -273,6 +278,29 @@ fn gather_pipes<N: Router>(pipes: Pipes<N>, ends: Parted<N>)
     gather_all(outer, outer_rooms, outer_bundles, outer_takers);
 }
 
+// The report of what is left, with the counts of all shares of the book summed up.
+fn report_of<N: Router, S, K, R: Wait>(rt: &R, book: &Book<N>, left: Left<N, S, K>) -> Report<S, K>
+    requires { length left.shares.items ≡ N.workers }
+    ensures totals { result.totals ≡ totals_of left.shares.items }
+    ensures sent { result.sent.items ≡ left.sent.items }
+    ensures sources { result.sources.items ≡ left.sources.items }
+    ensures sinks { result.sinks.items ≡ left.sinks.items }
+{
+    let Left {
+        shares,
+        sent,
+        sources,
+        sinks,
+    } = left;
+    let totals = book.close(rt, shares);
+    Report {
+        totals,
+        sent,
+        sources,
+        sinks,
+    }
+}
+
 /// Stops the workers, joins them and gathers the pipes. It takes no memory.
 pub fn finish_all<N, S, K, G, R>(
     rt: &R,
@@ -329,17 +357,5 @@ where
     );
     let (ends, left) = part_all(joined, links, processors, space);
     gather_pipes(pipes, ends);
-    let Left {
-        shares,
-        sent,
-        sources,
-        sinks,
-    } = left;
-    let totals = orders.book.close(rt, shares);
-    Report {
-        totals,
-        sent,
-        sources,
-        sinks,
-    }
+    report_of(rt, &orders.book, left)
 }

@@ -57,8 +57,8 @@ gather_pipes-requires-clause-outer g c =
       left_as _ _ c.args.pipes.outer.items c.args.pipes.outer_rooms.items (outer_count _ _ _ _ _ _ _ parted _ _ sized) c.requires.rooms.1,
     )
 
-pub close-totals-requires : goal.close-totals-requires
-close-totals-requires g c =
+pub report_of-requires : goal.report_of-requires
+report_of-requires g c =
     let sized = is_sized _ _ _ _ c.requires.crew c.join_workers-joined.ensures in
     ap length c.part_all-ends.ensures.shares ∙ (shares_count _ _ _ sized ∙ sym c.requires.workers)
 
@@ -68,7 +68,8 @@ returns g c =
     let sized = is_sized _ _ _ _ c.requires.crew back in
     let slow = the_slow _ _ _ sized in
     let parted = c.part_all-ends.ensures in
+    let report = c.report_of.ensures in
     let gathered = c.gather_pipes.ensures in
     let set = settled _ _ _ _ _ _ _ parted.ends _ slow.0 slow.1 gathered.inner gathered.middle gathered.outer in
     has_run g.S.Source.told g.K.Sink.told g.K.Sink.failed (runs_as_told c.rules_are_lawful.ensures c.links_stand_in_order.ensures c.causes_are_apart.ensures) c.crews_return.ensures.law
-    _ _ slow.0 _ _ _ _ _ c.requires.crew back parted.kept set slow.1 parted.shares c.close-totals.ensures parted.sent parted.sources parted.sinks
+    _ _ slow.0 _ _ _ _ _ c.requires.crew back parted.kept set slow.1 parted.shares report.totals (report.sent ∙ parted.sent) (report.sources ∙ parted.sources) (report.sinks ∙ parted.sinks)
