@@ -1,6 +1,7 @@
 //! A pipe, and the making of its ends.
 
 ghost use Rattle.std.specs.Prelude.{◌≡◌, ◌<◌, ◌≤◌, [], IfOk};
+ghost use Rattle.std.specs.Arc.{arc_value};
 ghost use Rattle.crossbeam_queue.specs.Passes.{IsPassOf, ruled_capacity};
 ghost use Rattle.ruled_pipe.specs.Rule.{known_by, consumer, size_of};
 ghost use Rattle.ruled_pipe.specs.Pipe.{AreNew};
@@ -48,11 +49,7 @@ impl<T: Drop> Pipe<T> {
         let (queue, mut seat) = Queue::<T>::ruled(alloc, capacity)?;
         open::<T, Brand>(&queue, &mut seat, producers);
         let queue = Arc::new(alloc, queue)?;
-        let mut ends = Vec::with_capacity(alloc, producers)?;
-        for number in 0..producers {
-            let end = add(alloc, &queue, &mut seat, producers, number)?;
-            ends.push(end)?;
-        }
+        let ends = add_all(alloc, &queue, &mut seat, producers)?;
         let consumer = consumer_of(alloc, &queue, seat, producers)?;
         Ok((Pipe { queue, producers }, ends, consumer))
     }
@@ -65,4 +62,24 @@ fn open<T, K: Room>(queue: &Queue<T>, seat: &mut Seat<T>, producers: usize)
     ensures { IsPassOf queue.now seat.new × (known_by seat.new ≡ consumer 0 (size_of (ruled_capacity queue.now) producers) [] []) }
 {
     let _ = queue.another::<Opens<K>>(seat);
+}
+
+// The producers, made at the consumer's seat in the order of their numbers.
+fn add_all<T: Drop>(
+    alloc: Global,
+    queue: &Arc<Queue<T>, Global>,
+    seat: &mut Seat<T>,
+    producers: usize,
+) -> Result<Vec<Producer<T>>, AllocError>
+    requires few { producers ≤ 64 }
+    requires seat { IsPassOf (arc_value queue.now) seat.old × (known_by seat.old ≡ consumer 0 (size_of (ruled_capacity (arc_value queue.now)) producers) [] []) }
+    ensures seat { IsPassOf (arc_value queue.now) seat.new }
+    ensures made { IfOk result (λ ends. AreNew (arc_value queue.now).table.shared.table_id (ruled_capacity (arc_value queue.now)) producers producers ends.items × (known_by seat.new ≡ consumer producers (size_of (ruled_capacity (arc_value queue.now)) producers) [] [])) }
+{
+    let mut ends = Vec::with_capacity(alloc, producers)?;
+    for number in 0..producers {
+        let end = add(alloc, queue, seat, producers, number)?;
+        ends.push(end)?;
+    }
+    Ok(ends)
 }
