@@ -1,6 +1,7 @@
 -- Lists of producers' ends.
 use Rattle.std.proofs.Common.{◌≡◌, ℕ, zero, suc, ◌+◌, ◌<◌, List, [], ◌∷◌, ◌++◌, length, Some, slice_get, slice_index_or, sym, refl, ap, ◌∙◌, subst, ◌⊎◌, inl, inr, ⊎_elim, length-append, arith}
 use Rattle.std.specs.List.{All}
+use Rattle.std.proofs.lemmas.List.{length-map}
 use Rattle.atomic_table.specs.Seated.{TableId}
 use Rattle.ruled_pipe.specs.declared.entry.Entry.{Entry}
 use Rattle.std.proofs.lemmas.List.Elements.{All-append}
@@ -21,9 +22,15 @@ module _ {X : Type 0} where
   get_snoc (x ∷ xs) y s (suc k) e = ⊎_elim (λ (t : slice_get xs k ≡ Some s). inl t) (λ (t : (k ≡ length xs) × (y ≡ s)). inr (ap suc t.0, t.1)) (get_snoc xs y s k e)
 
   -- the first of the rest stands after those so far
-  pub get_next : (xs ys : List X) (y : X) → slice_get (xs ++ y ∷ ys) (length xs) ≡ Some y
+  get_next : (xs ys : List X) (y : X) → slice_get (xs ++ y ∷ ys) (length xs) ≡ Some y
   get_next [] ys y = refl
   get_next (x ∷ xs) ys y = get_next xs ys y
+
+  -- what comes next of a list stands after what came so far
+  pub next_stands : (yielded rest items initial all : List X) (x : X) → rest ≡ x ∷ items → yielded ++ rest ≡ initial → initial ≡ all → slice_get all (length yielded) ≡ Some x
+  next_stands yielded rest items initial all x step whole given =
+      let P : List X → Type 0 = λ l. slice_get l (length yielded) ≡ Some x in
+      subst P (ap (λ (l : List X). yielded ++ l) (sym step) ∙ whole ∙ given) (get_next yielded items x)
 
 module _ {T : Type 0} where
   pub one_more_new : (pipe : TableId) (capacity producers n : ℕ) (senders : List (Sender T)) (s : Sender T) → AreNew pipe capacity producers n senders → s ≡ new_sender pipe n producers capacity
@@ -43,6 +50,12 @@ module _ {T : Type 0} where
       → w ≡ consumer v.made v.size v.taken (v.known ++ s.offers ∷ []) → w ≡ consumer made n taken (offers_of (xs ++ s ∷ []))
   known_next made n taken xs s v w is then = let P : View T → Type 0 = λ u. w ≡ consumer u.made u.size u.taken (u.known ++ s.offers ∷ []) in
       subst P is then ∙ ap (λ (l : List (List (Entry T))). consumer made n taken l) (sym (offers_snoc xs s))
+
+  -- the consumer's view knows of as many producers as the number of the next one
+  pub known_as_numbered : (made : ℕ) (n : Size) (taken : List (Entry T)) (xs : List (Sender T)) (v : View T) (number : ℕ) → v ≡ consumer made n taken (offers_of xs) → number ≡ length xs
+      → (v ≡ consumer v.made v.size v.taken v.known) × (length v.known ≡ number)
+  known_as_numbered made n taken xs v number is at = let P : View T → Type 0 = λ u. (u ≡ consumer u.made u.size u.taken u.known) × (length u.known ≡ number) in
+      subst P (sym is) (refl, length-map xs (λ (s : Sender T). s.offers) ∙ sym at)
 
   only : (P : Sender T → Type 0) (s : Sender T) → P s → All P (s ∷ [])
   only P s y zero d lt = y

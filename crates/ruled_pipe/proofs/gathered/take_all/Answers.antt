@@ -3,7 +3,7 @@ use Rattle.std.proofs.lemmas.List.{nil_from_length}
 use Rattle.std.specs.Vec.Iter.{into_iter_items}
 use Rattle.ruled_pipe.specs.Producer.{Sender}
 use Rattle.ruled_pipe.specs.Pipe.{EachFull}
-use Rattle.ruled_pipe.proofs.Ends.{known_next, full_next}
+use Rattle.ruled_pipe.proofs.Ends.{next_stands, known_as_numbered, known_next, full_next}
 use Rattle.ruled_pipe.proofs.gathered.take_all.Goals as goal
 
 pub loop-producer-preserved : goal.loop-producer-preserved
@@ -40,3 +40,15 @@ returns-clause-known g c =
 
 pub loop-producer-init : goal.loop-producer-init
 loop-producer-init g c = ((c.requires.queue, refl), c.requires.fresh, (λ k d lt. absurd (omega arith)), refl, search rules)
+
+pub take_in-requires-clause-queue : goal.take_in-requires-clause-queue
+take_in-requires-clause-queue g c =
+    let at = c.loop-producer in
+    let stands = next_stands at.yielded _ _ _ _ c.in-Some.producer c.in-Some.ensures.steps.0 at.invariant.3 c.into_iter-producer-iterator.ensures.into_iter_gives.0 in
+    (at.invariant.0.0, (c.requires.producers _ _ stands).0 ∙ sym at.invariant.0.1)
+
+pub take_in-requires-clause-next : goal.take_in-requires-clause-next
+take_in-requires-clause-next g c =
+    let at = c.loop-producer in
+    let stands = next_stands at.yielded _ _ _ _ c.in-Some.producer c.in-Some.ensures.steps.0 at.invariant.3 c.into_iter-producer-iterator.ensures.into_iter_gives.0 in
+    known_as_numbered _ _ _ at.yielded _ _ at.invariant.1 (c.requires.producers _ _ stands).1

@@ -7,3 +7,6 @@ pop_as-requires-clause-rule g c = takes_from _ _ _ _ _ (c.keep_apart.ensures.1 â
 
 pub returns-in-Some-clause-step : goal.returns-in-Some-clause-step
 returns-in-Some-clause-step g c = search rules
+
+pub returns-in-None-clause-step : goal.returns-in-None-clause-step
+returns-in-None-clause-step g c = search rules

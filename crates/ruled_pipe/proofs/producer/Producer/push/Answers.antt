@@ -38,3 +38,6 @@ returns-in-Err-clause-alone g c =
     let below : s.number < s.producers = rw (← c.self.view_is) c.self.invariant.3 in
     let P : ℕ → Type 0 = λ m. WasFull m s.number s.capacity s.offers r in
     alone s.number s.capacity s.offers r (omega arith) (subst P one (returns-in-Err-clause-full g c))
+
+pub returns-in-Err-clause-step : goal.returns-in-Err-clause-step
+returns-in-Err-clause-step g c = search rules
