@@ -1,7 +1,8 @@
 -- Steps of a pipeline, one after the other.
 use Rattle.std.proofs.Common.{◌≡◌, ℕ, zero, suc, ◌+◌, ◌<◌, List, [], ◌∷◌, ◌++◌, map, length, take, drop, get_or, refl, sym, subst, ◌∙◌, ap, ap₂, append_assoc, arith}
 use Rattle.std.specs.Prelude.{Option, Some, None}
-use Rattle.std.proofs.lemmas.List.{append-nil, drop_more, map-append, take_more}
+use Rattle.std.proofs.lemmas.List.{append-nil, drop_all, drop_more, map-append, take_more}
+use Rattle.std.proofs.Math.Seq.{take-length}
 use Rattle.std.specs.List.{range_with_len}
 use Rattle.pipeline_laws.specs.Item.{Item}
 use Rattle.pipeline_laws.specs.Next.{next}
@@ -56,6 +57,13 @@ run_more p ss i s h =
 
 skipped_more : (p : Pipeline) (w : World kinds) (ss : List Act) (i : ℕ) (s : Act) → i < length ss → skipped_from (rules_in p) w i (map (step_in p.config) (drop i ss)) ≡ skip_if i (next (rules_in p) w (step_in p.config (get_or ss i s))) ++ skipped_from (rules_in p) (or_same w (next (rules_in p) w (step_in p.config (get_or ss i s)))) (i + 1) (map (step_in p.config) (drop (i + 1) ss))
 skipped_more p w ss i s h = ap (λ (ts : List Act). skipped_from (rules_in p) w i (map (step_in p.config) ts)) (drop_more ss i s h)
+
+-- after the last turn
+pub turns_made : (p m : Pipeline) (ss : List Act) (i : ℕ) (ps : List ℕ) → i ≡ length ss → m ≡ ran p (take i ss) → ps ++ skipped_from (rules_in m) m.world i (map (step_in m.config) (drop i ss)) ≡ skipped p ss → (m ≡ ran p ss) × (ps ≡ skipped p ss)
+turns_made p m ss i ps all world places = (
+  world ∙ ap (ran p) (ap (λ (k : ℕ). take k ss) all ∙ take-length ss),
+  sym (append-nil ps) ∙ (ap (λ (ts : List Act). ps ++ skipped_from (rules_in m) m.world i (map (step_in m.config) ts)) (sym (drop_all i ss (omega arith))) ∙ places),
+)
 
 module _ (p : Pipeline) (ss : List Act) (i : ℕ) (s : Act) (ps : List ℕ) (h : i < length ss) (e : s ≡ get_or ss i s) where
   -- the loop over the steps, one turn on: the pipeline so far, and the indices skipped so far with those to come
