@@ -18,7 +18,7 @@ use std::alloc::Global;
 use std::io::{BufRead, Write};
 
 /// How far the lines are read.
-#[derive(Clone, Copy, PartialEq, Eq)]
+#[derive(Clone, Copy)]
 struct LinesRead {
     /// The number of the line that was read last, or would have been.
     number: u64,
