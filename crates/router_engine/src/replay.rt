@@ -164,19 +164,29 @@ pub fn replay_lines<R: BufRead, W: Write>(
 {
     gathered_begin();
     let mut line = Vec::new(alloc);
+    // What is large is given to `drop` whole: let go field by field at each end, it is dear to prove.
     let Ok(mut lists) = no_arrivals(alloc, &config) else {
+        drop(config);
         return Err(LinesFault::Memory);
     };
     let front = match gather(alloc, &config, reader, &mut line, &mut lists) {
         Ok(front) => front,
-        Err(fault) => return Err(fault),
+        Err(fault) => {
+            drop((config, lists));
+            return Err(fault);
+        }
     };
     let Ok(mut world) = World::new(alloc, config, lists) else {
         return Err(LinesFault::Memory);
     };
     match run_steps(alloc, &mut world, front, &mut line, reader, writer) {
         Ok(()) => {}
-        Err(fault) => return Err(fault),
+        Err(fault) => {
+            drop(world);
+            return Err(fault);
+        }
     }
-    write_report(alloc, &world, writer)
+    let reported = write_report(alloc, &world, writer);
+    drop(world);
+    reported
 }

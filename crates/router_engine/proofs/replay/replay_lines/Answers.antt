@@ -24,6 +24,6 @@ returns g c =
     let front = c.in-Ok-gather.ensures.front in
     let left = left_of c.in-Ok-gather.front.more c.gather.new.line.items (g.R.Read.remaining c.gather.new.reader) in
     let begun : c.in-Ok-new.world ≡ starting c.args.config front.0 = c.in-Ok-new.ensures ∙ (c.gathered_begin.ensures c.args.config front.0 c.gather.new.lists.items front.1).1 in
-    replayed c.args.config (g.R.Read.remaining c.args.reader.now) left c.in-Ok-gather.front.number c.gather.new.lists.items c.in-Ok-new.world c.run_steps.new.world c.write_report.result (g.W.Write.contents c.args.writer.now)
-    (g.W.Write.contents c.run_steps.new.writer) (g.W.Write.contents c.write_report.new.writer) front begun (rw c.in-Ok-run_steps.is at c.run_steps.ensures) c.write_report.ensures.ok c.write_report.ensures.begins
-    c.write_report.ensures.fault
+    replayed c.args.config (g.R.Read.remaining c.args.reader.now) left c.in-Ok-gather.front.number c.gather.new.lists.items c.in-Ok-new.world c.run_steps.new.world c.write_report-reported.result (g.W.Write.contents c.args.writer.now)
+    (g.W.Write.contents c.run_steps.new.writer) (g.W.Write.contents c.write_report-reported.new.writer) front begun (rw c.in-Ok-run_steps.is at c.run_steps.ensures) c.write_report-reported.ensures.ok c.write_report-reported.ensures.begins
+    c.write_report-reported.ensures.fault
