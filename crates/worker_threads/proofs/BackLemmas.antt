@@ -1,5 +1,5 @@
 -- Workers that come back, one more.
-use Rattle.std.proofs.Common.{◌≡◌, suc, ◌<◌, List, [], ◌∷◌, ◌++◌, length, map, refl, sym, ap, subst, arith, length-append}
+use Rattle.std.proofs.Common.{◌≡◌, suc, ◌<◌, List, [], ◌∷◌, ◌++◌, length, map, refl, sym, ap, subst, ◌∙◌, arith, length-append}
 use Rattle.std.proofs.lemmas.List.{map-append}
 use Rattle.worker_threads.specs.Back.{AreBack}
 
@@ -31,3 +31,7 @@ module _ {X Y : Type 0} (R : X → Y → Type 0) where
 pub nothing_left : {X : Type 0} (l : List X) → length l ≡ 0 → l ≡ []
 nothing_left [] h = refl
 nothing_left (x ∷ xs) h = absurd (omega arith)
+
+-- one more is known by what was
+pub mapped_one : {H X : Type 0} (f : H → X) (xs more : List H) (ys : List X) (h : H) (y : X) → map f xs ≡ ys → more ≡ xs ++ h ∷ [] → f h ≡ y → map f more ≡ ys ++ y ∷ []
+mapped_one f xs more ys h y were is same = ap (map f) is ∙ (map-append f xs (h ∷ []) ∙ (ap (λ zs. zs ++ f h ∷ []) were ∙ ap (λ z. ys ++ z ∷ []) same))

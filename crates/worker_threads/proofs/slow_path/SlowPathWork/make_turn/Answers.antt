@@ -6,7 +6,7 @@ pub returns-clause-same : goal.returns-clause-same
 returns-clause-same g c = answered_same c.turn.result c.args.self.now c.turn.new.self c.turn.ensures
 
 pub returns-clause-turned : goal.returns-clause-turned
-returns-clause-turned g c = search rules
+returns-clause-turned g c = c.turn.ensures
 
 pub returns-clause-ended : goal.returns-clause-ended
 returns-clause-ended g c = search rules
