@@ -1,6 +1,9 @@
-use Rattle.std.proofs.Common.{Ok, ap, ◌∙◌}
+use Rattle.std.proofs.Common.{Ok, ap, rules, ◌∙◌}
 use Rattle.router_engine.proofs.RouteLemmas.{answered, cut_short, ended, refused, stopped}
 use Rattle.router_engine.proofs.route.route_lines.Goals as goal
+
+pub loop-number-init : goal.loop-number-init
+loop-number-init g c = search rules
 
 pub returns-in-Ok-false : goal.returns-in-Ok-false
 returns-in-Ok-false g c =
