@@ -11,7 +11,7 @@ use Rattle.router_laws.specs.Keeping.{IsReceiving}
 use Rattle.stage_laws.specs.Forwards.{AddsTo}
 use Rattle.stage_parts.specs.Outlet.{Offering}
 use Rattle.stage_parts.specs.Outlets.{AreOpen, Trying, senders}
-use Rattle.stage_parts.specs.Turning.{ending}
+use Rattle.stage_parts.specs.Turn.{ending}
 use Rattle.receiver_stage.specs.Pool.{stock}
 use Rattle.receiver_stage.specs.Intake.{Intake, PassedIn}
 use Rattle.stage_parts.specs.declared.turn.Turn.{Turn}

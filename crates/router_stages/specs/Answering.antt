@@ -15,7 +15,7 @@ use Rattle.router_rules.specs.Rules.{kinds, replied}
 use Rattle.stage_laws.specs.Answers.{answer_to}
 use Rattle.stage_parts.specs.Outlets.{AreOpen, Trying, is_used, senders}
 use Rattle.router_stages.specs.Exits.{Leaving, DroppedAs, SentAs, with_links, with_share}
-use Rattle.stage_parts.specs.Turning.{ending}
+use Rattle.stage_parts.specs.Turn.{ending}
 use Rattle.stage_parts.specs.declared.turn.Turn.{Turn}
 use Rattle.stage_parts.specs.declared.turn.Turn.TheVariants.{Did, Quiet}
 

@@ -20,7 +20,7 @@ use Rattle.stage_parts.specs.Items.{asking}
 use Rattle.stage_parts.specs.Outlet.{Offering, Tried, gave, kept}
 use Rattle.stage_parts.specs.Outlets.{AreOpen, Trying, is_used, senders}
 use Rattle.router_stages.specs.Exits.{Leaving, DroppedAs, SentAs, with_links, with_share}
-use Rattle.stage_parts.specs.Turning.{ending}
+use Rattle.stage_parts.specs.Turn.{ending}
 use Rattle.stage_parts.specs.declared.turn.Turn.{Turn}
 use Rattle.stage_parts.specs.declared.turn.Turn.TheVariants.{Did, Quiet}
 

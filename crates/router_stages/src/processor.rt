@@ -4,7 +4,7 @@ ghost use Rattle.std.specs.Prelude.{◌≡◌, ◌&&◌, ◌*◌, ◌∷◌, tru
 ghost use Rattle.std.specs.Arc.{arc_value};
 ghost use Rattle.packet_ledger.specs.Share.{HasRoom, IsPosted, new_share};
 ghost use Rattle.router_laws.specs.Keeping.{IsWorking};
-ghost use Rattle.stage_parts.specs.Turning.{ending};
+ghost use Rattle.stage_parts.specs.Turn.{ending};
 ghost use Rattle.router_stages.specs.Working.{AwaitsPush, EndsWorking, IsDone, Worked, WorksFor, first_leaving, first_working, posted};
 ghost use Rattle.router_rules.specs.Links.{link_count};
 ghost use Rattle.stage_parts.specs.Outlets.{AreFresh, senders};

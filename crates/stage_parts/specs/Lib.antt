@@ -7,4 +7,4 @@ pub mod ListSink
 pub mod Replying
 pub mod Outlets
 pub mod GivingBack
-pub mod Turning
+pub mod Turn

@@ -4,7 +4,7 @@ use Rattle.atomic_table.specs.Seated.{TableId}
 use Rattle.ruled_pipe.specs.Producer.{new_sender}
 use Rattle.stage_parts.specs.Outlet.{Offering, Tried, gave, kept, offering}
 use Rattle.stage_parts.specs.Outlets.{GaveAt, KeptAt, TriedIf, TriedWhere, HaveEnded}
-use Rattle.stage_parts.specs.Turning.{ending}
+use Rattle.stage_parts.specs.Turn.{ending}
 use Rattle.stage_parts.specs.declared.turn.Turn.TheVariants.{Quiet, Ended}
 use Rattle.worker_threads.specs.Same.{AreSameEnds, IsSameEnd, IsSameWhere, end_self, ends_self, where_self}
 
