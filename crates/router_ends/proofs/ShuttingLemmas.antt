@@ -1,5 +1,5 @@
 -- The controller's ends.
-use Rattle.std.proofs.Common.{◌≡◌, ℕ, zero, suc, ◌+◌, ◌*◌, ◌<◌, ◌≤◌, Bool, true, false, ◌||◌, List, [], ◌∷◌, ◌++◌, length, Result, Ok, Err, slice_index_or, slice_set, refl, sym, ap, subst, ◌∙◌, arith, length-append}
+use Rattle.std.proofs.Common.{◌≡◌, ℕ, zero, suc, ◌+◌, ◌<◌, ◌≤◌, Bool, true, false, ◌||◌, List, [], ◌∷◌, ◌++◌, length, Result, Ok, Err, slice_index_or, slice_set, refl, sym, ap, subst, ◌∙◌, arith, length-append}
 use Rattle.std.proofs.lemmas.List.{map-append}
 use Rattle.pipeline_laws.specs.Deeds.{closes, has_mark, payload_of, payloads}
 use Rattle.ruled_pipe.specs.declared.entry.Entry.{Entry}
@@ -12,7 +12,6 @@ use Rattle.ruled_pipe.specs.Pipe.{Shape, IsEndOf}
 use Rattle.stage_laws.specs.Ends.{load_in, pushes}
 use Rattle.router_ends.specs.Rows.{AreEndsOf}
 use Rattle.router_ends.specs.Settled.{IsFinal, AreFinished}
-use Rattle.stage_parts.specs.Outlets.{is_used}
 use Rattle.router_ends.specs.Shutting.{AreMarking, AreNew, AreOpen, AreShutters, Closes, ClosesAt, EachEnds, Ends, EndsUpTo, IsSameShutter, IsShutting, IsStill, PushMarks, Shutting, ShuttersFinish, shutter_ends, shutting}
 use Rattle.router_ends.specs.declared.shutter.CloseFault.{CloseFault}
 use Rattle.router_ends.specs.declared.shutter.CloseFault.TheVariants.{Full, AlreadyClosed}
@@ -24,20 +23,6 @@ or_true false = refl
 or_false : (b : Bool) → (b || false) ≡ b
 or_false true = refl
 or_false false = refl
-
-even_used : (two : ℕ → Bool) (k : ℕ) → is_used two (2 * k) ≡ true
-even_used two zero = refl
-even_used two (suc k) = let z : suc (suc (2 * k)) ≡ 2 * suc k = omega arith in subst (λ (n : ℕ). is_used two n ≡ true) z (even_used (λ l. two (suc l)) k)
-
-odd_used : (two : ℕ → Bool) (k : ℕ) → is_used two (suc (2 * k)) ≡ two k
-odd_used two zero = refl
-odd_used two (suc k) = let z : suc (suc (suc (2 * k))) ≡ suc (2 * suc k) = omega arith in subst (λ (n : ℕ). is_used two n ≡ two (suc k)) z (odd_used (λ l. two (suc l)) k)
-
-pub used_low : (two : ℕ → Bool) (at k : ℕ) → at ≡ 2 * k → is_used two at ≡ true
-used_low two at k e = subst (λ (n : ℕ). is_used two n ≡ true) (sym e) (even_used two k)
-
-pub used_high : (two : ℕ → Bool) (at k : ℕ) → at ≡ suc (2 * k) → is_used two at ≡ two k
-used_high two at k e = subst (λ (n : ℕ). is_used two n ≡ two k) (sym e) (odd_used two k)
 
 module _ {T : Type 0} where
   ends_more : (es : List (Entry T)) (e : Entry T) → ends_in (es ++ e ∷ []) ≡ ends_in es + end_of e.load

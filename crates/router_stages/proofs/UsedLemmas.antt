@@ -1,9 +1,10 @@
 -- The end marks of the links' pipes, link by link.
-use Rattle.std.proofs.Common.{◌≡◌, ◌⊎◌, inl, inr, ℕ, zero, suc, ◌+◌, ◌*◌, ◌<◌, Bool, true, false, eqb, nat_lt, ◌||◌, ◌&&◌, List, length, refl, sym, ap, subst, ◌∙◌, arith}
+use Rattle.std.proofs.Common.{◌≡◌, ◌⊎◌, inl, inr, ℕ, ◌+◌, ◌*◌, ◌<◌, Bool, true, false, eqb, nat_lt, ◌||◌, ◌&&◌, List, length, refl, sym, ap, subst, ◌∙◌, arith}
 use Rattle.std.proofs.lemmas.Bool.{cases_eq, ne_eqb, eq-eqb, lt-ltb, le-ltb}
 use Rattle.stage_parts.specs.Outlet.{Offering}
 use Rattle.stage_parts.specs.Outlets.{Trying, is_used}
 use Rattle.stage_parts.proofs.EndLemmas.{trying_as, trying_next}
+use Rattle.stage_parts.proofs.UsedLemmas.{used_high, used_low}
 use Rattle.router_stages.specs.Exits.{TriedLink}
 
 or_true : (b : Bool) → (b || true) ≡ true
@@ -17,14 +18,6 @@ or_false false = refl
 and_then : (a b c : Bool) → ((a && b) && c) ≡ (a && (b && c))
 and_then true b c = refl
 and_then false b c = refl
-
-pub used_low : (two : ℕ → Bool) (l : ℕ) → is_used two (2 * l) ≡ true
-used_low two zero = refl
-used_low two (suc l) = let e : 2 * suc l ≡ suc (suc (2 * l)) = omega arith in ap (λ (k : ℕ). is_used two k) e ∙ used_low (λ k. two (suc k)) l
-
-pub used_high : (two : ℕ → Bool) (l : ℕ) → is_used two (2 * l + 1) ≡ two l
-used_high two zero = refl
-used_high two (suc l) = let e : 2 * suc l + 1 ≡ suc (suc (2 * l + 1)) = omega arith in ap (λ (k : ℕ). is_used two k) e ∙ used_high (λ k. two (suc k)) l
 
 -- the pipes that are used of the first links
 abbrev pub used_to : (ℕ → Bool) → ℕ → ℕ → Bool

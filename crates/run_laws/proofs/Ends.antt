@@ -1,8 +1,8 @@
 -- Ends that are the same ones.
-use Rattle.std.proofs.Common.{◌≡◌, ℕ, zero, suc, ◌+◌, ◌*◌, Bool, true, false, List, [], ◌∷◌, length, refl, sym, ◌∙◌, ap, subst, arith}
+use Rattle.std.proofs.Common.{◌≡◌, ℕ, zero, suc, Bool, true, false, List, [], ◌∷◌, length, refl, sym, ◌∙◌, ap, subst, arith}
 use Rattle.ruled_pipe.specs.Producer.{Sender}
 use Rattle.ruled_pipe.specs.Pipe.{Shape, IsEndOf}
-use Rattle.stage_parts.specs.Outlets.{AreFresh, is_used, senders}
+use Rattle.stage_parts.specs.Outlets.{AreFresh, senders}
 use Rattle.stage_parts.specs.Outlet.{Offering}
 use Rattle.router_ends.specs.Rows.{AreEndsOf}
 use Rattle.router_ends.specs.Handing.{AreSpared}
@@ -41,12 +41,3 @@ module _ {T : Type 0} where
   ends_long p [] (e ∷ es) are = absurd are
   ends_long p (s ∷ ss) [] are = absurd are
   ends_long p (s ∷ ss) (e ∷ es) are = let r = ends_long p ss es are.1 in omega arith
-
--- the low band's pipe of a link is used, and the high one's where there are two bands
-pub used_low : (two : ℕ → Bool) (l : ℕ) → is_used two (2 * l) ≡ true
-used_low two zero = refl
-used_low two (suc l) = let e : 2 * suc l ≡ suc (suc (2 * l)) = omega arith in ap (is_used two) e ∙ used_low (λ k. two (suc k)) l
-
-pub used_high : (two : ℕ → Bool) (l : ℕ) → is_used two (2 * l + 1) ≡ two l
-used_high two zero = refl
-used_high two (suc l) = let e : 2 * suc l + 1 ≡ suc (suc (2 * l + 1)) = omega arith in ap (is_used two) e ∙ used_high (λ k. two (suc k)) l

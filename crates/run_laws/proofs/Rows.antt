@@ -27,7 +27,8 @@ use Rattle.worker_threads.specs.Workers.{IsSameReceiver, ReceiverEnded, IsSamePr
 use Rattle.run_laws.specs.Crew.{IsReceivingAt, AreWorking, AreAnswering, IsForwardingAt, AreForwarding}
 use Rattle.wired_workers.specs.Piping.{Piping, IsWorkingAt, IsAnsweringAt, IsTakerOf, are_used}
 use Rattle.run_laws.specs.Ended.{takers_of}
-use Rattle.run_laws.proofs.Ends.{same_ends, spared, used_high}
+use Rattle.run_laws.proofs.Ends.{same_ends, spared}
+use Rattle.stage_parts.proofs.UsedLemmas.{used_high}
 
 module _ {X Y : Type 0} where
   pub back_long : (R : X → Y → Type 0) (xs : List X) (ys : List Y) → AreBack R xs ys → length ys ≡ length xs

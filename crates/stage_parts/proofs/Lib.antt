@@ -4,3 +4,4 @@ pub mod Sending
 pub mod EndLemmas
 pub mod RoomLemmas
 pub mod BackLemmas
+pub mod UsedLemmas

@@ -23,7 +23,7 @@ use Rattle.router_stages.specs.Working.{Working, After, AskedAs, EndsWorking, Pa
 use Rattle.router_stages.specs.Working as working
 use Rattle.stage_parts.specs.declared.turn.Turn.{Turn}
 use Rattle.stage_parts.specs.declared.turn.Turn.TheVariants.{Did, Quiet, Ended}
-use Rattle.router_stages.proofs.UsedLemmas.{used_low, used_high}
+use Rattle.stage_parts.proofs.UsedLemmas.{used_high, used_low}
 use Rattle.worker_threads.specs.Same.{AreSameEnds, IsSameEnd, IsSameTaker, end_self, ends_self, ends_then, taker_self}
 use Rattle.worker_threads.specs.Workers.{IsSameProcessor, ProcessorEnded, IsSameSlowPath, SlowPathEnded, processor_self, processor_then}
 use Rattle.worker_threads.proofs.SameLemmas.{ends_as, gave_same, kept_same, mark_same, tried_same, all_there, both_there}
