@@ -109,6 +109,13 @@ MINUTES ?= 1
 soak: bin/router
 	MINUTES=$(MINUTES) tests/soak/run.sh
 
+NETS ?= 40
+.PHONY: nets
+
+# Runs random nets of routers over loopback, and compares what comes of packets with `router route`; it needs python3 too.
+nets: bin/router
+	tests/nets/try.py --nets $(NETS)
+
 .PHONY: gate-times
 
 # The gate, from nothing, with the processor time of each crate's proof, tests and wrong bodies; it needs python3 too.

@@ -1,0 +1,584 @@
+#!/usr/bin/env python3
+"""Runs random nets of routers over loopback, and compares what comes of packets with what `router route` says.
+
+    tests/nets/try.py [--program bin/router] [--nets 20] [--packets 400] [--seed 1]
+
+Each net has core ASes, their children and grandchildren, of one to three routers each, over IPv4 or IPv6. Hosts send
+packets on beaconed paths of one to three segments, with other bytes here and there, traceroute requests, urgent ones
+and such as have expired. `router route` says what each router on the way makes of a packet. What arrives at hosts and
+services must be exactly that, byte for byte, each flow in order, and each router's report must count exactly that.
+"""
+
+import argparse
+import collections
+import os
+import random
+import select
+import socket
+import struct
+import subprocess
+import sys
+import tempfile
+import time
+
+ROOT = os.path.dirname(os.path.dirname(os.path.dirname(os.path.abspath(__file__))))
+
+
+# AES-128 and AES-CMAC of one block, as FIPS 197 and RFC 4493 have them.
+
+
+def doubled(x):
+    return (x << 1) ^ (0x11B if x & 0x80 else 0)
+
+
+def made_s_box():
+    box, p, q = [0x63] * 256, 1, 1
+    while True:
+        p = p ^ doubled(p)
+        q ^= q << 1
+        q ^= q << 2
+        q ^= q << 4
+        q &= 0xFF
+        if q & 0x80:
+            q ^= 0x09
+        turned = [((q << n) | (q >> (8 - n))) & 0xFF for n in range(5)]
+        box[p] = turned[0] ^ turned[1] ^ turned[2] ^ turned[3] ^ turned[4] ^ 0x63
+        if p == 1:
+            return box
+
+
+S_BOX = made_s_box()
+
+
+def expanded(key):
+    words, constant = [list(key[at : at + 4]) for at in range(0, 16, 4)], 1
+    for at in range(4, 44):
+        last = words[-1]
+        if at % 4 == 0:
+            last = [S_BOX[it] for it in last[1:] + last[:1]]
+            last[0] ^= constant
+            constant = doubled(constant)
+        words.append([one ^ other for one, other in zip(words[at - 4], last)])
+    return [sum(words[at : at + 4], []) for at in range(0, 44, 4)]
+
+
+def encrypt(keys, block):
+    state = [one ^ other for one, other in zip(block, keys[0])]
+    for number in range(1, 11):
+        state = [S_BOX[it] for it in state]
+        state = [state[(at + 4 * (at % 4)) % 16] for at in range(16)]
+        if number < 10:
+            mixed = []
+            for at in range(0, 16, 4):
+                a, b, c, d = state[at : at + 4]
+                whole = a ^ b ^ c ^ d
+                mixed += [a ^ whole ^ doubled(a ^ b), b ^ whole ^ doubled(b ^ c)]
+                mixed += [c ^ whole ^ doubled(c ^ d), d ^ whole ^ doubled(d ^ a)]
+            state = mixed
+        state = [one ^ other for one, other in zip(state, keys[number])]
+    return bytes(state)
+
+
+def tag6(key, block):
+    keys = expanded(key)
+    zero = int.from_bytes(encrypt(keys, bytes(16)), "big")
+    sub = ((zero << 1) ^ (0x87 if zero >> 127 else 0)) & ((1 << 128) - 1)
+    return encrypt(keys, bytes(a ^ b for a, b in zip(block, sub.to_bytes(16, "big"))))[:6]
+
+
+assert encrypt(expanded(bytes(range(16))), bytes.fromhex("00112233445566778899aabbccddeeff")) == bytes.fromhex(
+    "69c4e0d86a7b0430d8cdb78070b4c55a"
+)
+
+
+# Nets.
+
+
+class Net:
+    """ASes with routers and hosts, links between them, and all addresses."""
+
+    def __init__(self, dice, number):
+        self.dice, self.port = dice, 20000 + number % 10 * 4000
+        self.is_v6 = dice.random() < 0.25
+        self.ases, self.routers, self.hosts = [], [], {}
+        cores = dice.randint(1, 3)
+        levels = [[self.add_as(True) for _ in range(cores)]]
+        levels += [[self.add_as(False) for _ in range(dice.randint(1, 3))] for _ in range(dice.randint(1, 2))]
+        self.links = []
+        for at, one in enumerate(levels[0]):
+            for other in levels[0][:at]:
+                for _ in range(dice.randint(1, 2)):
+                    self.add_link(one, other, "core", "core")
+        for above, below in zip(levels, levels[1:]):
+            for child in below:
+                for parent in dice.sample(above, dice.randint(1, min(2, len(above)))):
+                    self.add_link(parent, child, "child", "parent")
+        for router in self.routers:
+            if not router["links"]:
+                # each router needs a link
+                other = dice.choice([it for it in self.ases if it is not router["as"]])
+                self.add_link(router["as"], other, "core", "core", router)
+
+    def add_as(self, is_core):
+        dice, number = self.dice, len(self.ases)
+        one = {
+            "isd": dice.choice([1, 1, 7]),
+            "as": dice.choice([0xFF0000000110 + number, 64512 + number]),
+            "key": dice.randbytes(16),
+            "core": is_core,
+            "number": number,
+            "host_port": self.next_port(),
+            "version": dice.choice([1, 2, 2]),
+            "interfaces": set(),
+            "links": [],
+        }
+        one["routers"] = [self.add_router(one, index) for index in range(dice.randint(1, 3))]
+        one["hosts"] = [self.add_host(one, index) for index in range(1 if self.is_v6 else 2)]
+        at = self.address(one, 60)
+        one["service"] = (dice.choice([1, 2, 300]), (at, self.next_port()))
+        self.hosts[one["service"][1]] = None
+        self.ases.append(one)
+        return one
+
+    def next_port(self):
+        self.port += 1
+        return self.port
+
+    def address(self, one, last):
+        return "::1" if self.is_v6 else f"127.{30 + one['number']}.0.{last}"
+
+    def add_router(self, one, index):
+        router = {
+            "as": one,
+            "internal": (self.address(one, index + 1), self.next_port()),
+            "processors": self.dice.choice([1, 2, 4]),
+            "seed": self.dice.randrange(1 << 32),
+            "bands": self.dice.choice([1, 2]),
+            "links": [],
+        }
+        self.routers.append(router)
+        return router
+
+    def add_host(self, one, index):
+        host = (self.address(one, 40 + index), one["host_port"])
+        self.hosts[host] = None
+        return host
+
+    def new_interface(self, one):
+        while True:
+            id = self.dice.choice([self.dice.randint(1, 20), self.dice.randint(1, 65535)])
+            if id not in one["interfaces"]:
+                one["interfaces"].add(id)
+                return id
+
+    def add_link(self, one, other, kind, back, router=None):
+        """The other is to the one of the kind; the one is to the other of the kind back."""
+        ends = []
+        for at, to, is_first in ((one, kind, True), (other, back, False)):
+            of = router if router and is_first else self.dice.choice(at["routers"])
+            is_v6 = self.dice.random() < 0.2
+            end = {"as": at, "id": self.new_interface(at), "kind": to, "router": of, "bands": self.dice.choice([1, 2])}
+            ends.append(end)
+        is_v6 = self.is_v6 or self.dice.random() < 0.2
+        for end in ends:
+            end["local"] = ("::1" if is_v6 else f"127.{30 + end['as']['number']}.1.{self.dice.randint(1, 9)}", self.next_port())
+        for end, far in (ends, ends[::-1]):
+            end["remote"], end["far"] = far["local"], far
+            end["router"]["links"].append(end)
+            end["as"]["links"].append(end)
+
+
+def text_of(address):
+    host, port = address
+    if ":" in host:
+        groups = struct.unpack("!8H", socket.inet_pton(socket.AF_INET6, host))
+        return "[" + ":".join(f"{it:x}" for it in groups) + f"]:{port}"
+    return f"{host}:{port}"
+
+
+def address_of(text):
+    host, port = text.rsplit(":", 1)
+    if host.startswith("["):
+        packed = struct.pack("!8H", *[int(it, 16) for it in host[1:-1].split(":")])
+        host = socket.inet_ntop(socket.AF_INET6, packed)
+    return host, int(port)
+
+
+def isd_as_text(one):
+    if one["as"] < 1 << 32:
+        return f"{one['isd']}-{one['as']}"
+    groups = [one["as"] >> 32, one["as"] >> 16 & 0xFFFF, one["as"] & 0xFFFF]
+    return f"{one['isd']}-" + ":".join(f"{it:x}" for it in groups)
+
+
+def config_of(router):
+    one, lines = router["as"], []
+    two = one["version"] == 2
+    lines += [f"version = {one['version']}", f'isd_as = "{isd_as_text(one)}"', f'key = "{one["key"].hex()}"']
+    lines += [f'internal = "{text_of(router["internal"])}"', f"host_port = {one['host_port']}"]
+    lines += [f"internal_bands = {router['bands']}"] * two
+    lines += [f"processors = {router['processors']}", "capacity = 256", "buffers = 256", f"seed = {router['seed']}"]
+    for end in router["links"]:
+        lines += ["[[link]]", f"id = {end['id']}", f'kind = "{end["kind"]}"']
+        lines += [f'local = "{text_of(end["local"])}"', f'remote = "{text_of(end["remote"])}"']
+        lines += [f"bands = {end['bands']}"] * two
+    for other in one["routers"]:
+        for end in other["links"] if other is not router else []:
+            lines += ["[[sibling]]", f"id = {end['id']}", f'kind = "{end["kind"]}"', f'at = "{text_of(other["internal"])}"']
+    number, at = one["service"]
+    lines += ["[[service]]", f"number = {number}", f'at = "{text_of(at)}"']
+    return "\n".join(lines) + "\n"
+
+
+# Paths and packets.
+
+
+def beaconed(dice, now, ends):
+    """The segment over these links, each by its end at the AS nearer the segment's beginning: hops in the order of construction."""
+    first = ends[0]["as"] if ends else None
+    stops = [first, *[end["far"]["as"] for end in ends]]
+    segment = {"timestamp": now - dice.randint(0, 20000), "hops": []}
+    beta = dice.randrange(1 << 16)
+    for at, one in enumerate(stops):
+        ingress = ends[at - 1]["far"]["id"] if at else 0
+        egress = ends[at]["id"] if at < len(ends) else 0
+        expiry = 255 if dice.random() < 0.97 else dice.randint(0, 60)
+        if 0 <= segment["timestamp"] + (1 + expiry) * 337.5 - now < 300:
+            # it would expire while the routers run
+            expiry = 255
+        block = struct.pack("!HHIBBHHH", 0, beta, segment["timestamp"], 0, expiry, ingress, egress, 0)
+        mac = tag6(one["key"], block)
+        segment["hops"].append({"as": one, "in": ingress, "out": egress, "expiry": expiry, "mac": mac, "beta": beta})
+        beta ^= int.from_bytes(mac[:2], "big")
+    return segment
+
+
+def wandered(dice, start, kinds, most):
+    """A walk over links of a kind that meets no AS twice."""
+    ends, seen = [], {start["number"]}
+    for _ in range(dice.randint(1, most)):
+        ways = [it for it in start["links"] if it["kind"] in kinds and it["far"]["as"]["number"] not in seen]
+        if not ways:
+            break
+        end = dice.choice(ways)
+        ends.append(end)
+        start = end["far"]["as"]
+        seen.add(start["number"])
+    return ends
+
+
+def cut(segment, first, last):
+    return {**segment, "hops": segment["hops"][first : last + 1]}
+
+
+def travelled(segment, along):
+    hops = segment["hops"] if along else segment["hops"][::-1]
+    return {"along": along, "timestamp": segment["timestamp"], "hops": hops, "id": hops[0]["beta"]}
+
+
+def some_path(dice, net, now):
+    """A path of one to three segments, from an AS to another."""
+    cores = [it for it in net.ases if it["core"]]
+    begin = dice.choice(cores)
+    up = wandered(dice, begin, ["child"], 3)
+    middle = wandered(dice, begin, ["core"], 2)
+    top = middle[-1]["far"]["as"] if middle else begin
+    down = wandered(dice, top, ["child"], 3)
+    if dice.random() < 0.15 and len(up) > 1:
+        # a shortcut: both segments leave the core by the same first links
+        at = dice.randint(1, len(up) - 1)
+        second = [*up[:at], *wandered(dice, up[at - 1]["far"]["as"], ["child"], 2)]
+        one = cut(beaconed(dice, now, up), at, len(up))
+        other = cut(beaconed(dice, now, second), at, len(second))
+        parts = [travelled(one, False)] + ([travelled(other, True)] if len(other["hops"]) > 1 else [])
+        return parts
+    parts = []
+    if up and dice.random() < 0.7:
+        parts.append(travelled(beaconed(dice, now, up), False))
+    if middle and dice.random() < 0.7:
+        if dice.random() < 0.5:
+            parts.append(travelled(beaconed(dice, now, middle), True))
+        else:
+            back = [it["far"] for it in middle[::-1]]
+            parts.append(travelled(beaconed(dice, now, back), False))
+        down = down if parts else []
+    else:
+        down = wandered(dice, begin, ["child"], 3)
+    if down and (dice.random() < 0.7 or not parts):
+        parts.append(travelled(beaconed(dice, now, down), True))
+    return parts or some_path(dice, net, now)
+
+
+def path_bytes(dice, parts, alert):
+    lengths = [len(it["hops"]) for it in parts] + [0, 0]
+    meta = dice.choice([0, 0, dice.randrange(64)]) << 18 | lengths[0] << 12 | lengths[1] << 6 | lengths[2]
+    text = struct.pack("!I", meta)
+    for it in parts:
+        text += struct.pack("!BBHI", int(it["along"]) | dice.choice([0, 0, 0x80]), 0, it["id"], it["timestamp"])
+    place = 0
+    for it in parts:
+        for hop in it["hops"]:
+            flags = alert[1] if alert and alert[0] == place else 0
+            text += struct.pack("!BBHH", flags, hop["expiry"], hop["in"], hop["out"]) + hop["mac"]
+            place += 1
+    return text
+
+
+def host_bytes(host):
+    is_v6 = ":" in host
+    return (3 if is_v6 else 0), socket.inet_pton(socket.AF_INET6 if is_v6 else socket.AF_INET, host)
+
+
+def some_packet(dice, net, now, number):
+    """A packet with its sender, the router that it is sent to, and what marks its flow."""
+    parts = some_path(dice, net, now)
+    hops = [hop for part in parts for hop in part["hops"]]
+    source, target = hops[0]["as"], hops[-1]["as"]
+    sender = dice.choice(source["hosts"])
+    kind, host = host_bytes(dice.choice(target["hosts"])[0])
+    if dice.random() < 0.15:
+        service = target["service"][0] if dice.random() < 0.8 else dice.randrange(1 << 15)
+        kind, host = 4, struct.pack("!HH", service, 0)
+    alert, next_header = None, 17
+    payload = struct.pack("!I", number) + dice.randbytes(dice.choice([0, 4, 60, 1200, 4000]))
+    if dice.random() < 0.2:
+        alert = (dice.randrange(len(hops)), dice.choice([1, 2, 3]))
+        next_header = 202
+        payload = struct.pack("!BBHHHHHIQ", dice.choice([130, 130, 130, 128, 1]), 0, 0, number & 0xFFFF, 7, 0, 0, 0, 0)
+    path = path_bytes(dice, parts, alert)
+    flow, urgent = dice.randrange(8), dice.random() < 0.3
+    traffic = 46 << 2 if urgent else dice.choice([0, 0, 8])
+    kind_of_source, own = host_bytes(sender[0])
+    addresses = struct.pack("!HHI", target["isd"], target["as"] >> 32, target["as"] & 0xFFFFFFFF)
+    addresses += struct.pack("!HHI", source["isd"], source["as"] >> 32, source["as"] & 0xFFFFFFFF) + host + own
+    length = 12 + len(addresses) + len(path)
+    if length % 4 or length // 4 > 255:
+        return some_packet(dice, net, now, number)
+    head = struct.pack("!IBBHBBH", traffic << 20 | flow, next_header, length // 4, len(payload), 1, kind << 4 | kind_of_source, 0)
+    data = bytearray(head + addresses + path + payload)
+    if dice.random() < 0.2:
+        # not in the hosts, so that nothing is sent to strangers
+        places = [*range(28), *range(12 + len(addresses), length)]
+        for _ in range(dice.randint(1, 2)):
+            data[dice.choice(places)] ^= 1 << dice.randrange(8)
+    elif dice.random() < 0.03:
+        data = data[: dice.randrange(len(data))]
+    # mostly the router of the path's first link
+    routers = source["routers"]
+    first = parts[0]["hops"][0]["out" if parts[0]["along"] else "in"]
+    owner = [it for it in routers if any(end["id"] == first for end in it["links"])]
+    router = owner[0] if owner and dice.random() < 0.9 else dice.choice(routers)
+    flow_key = (sender, id(router), bytes(data[:4]), bytes(data[12 : 12 + len(addresses)]))
+    return {"sender": sender, "router": router, "data": bytes(data), "flow": flow_key, "number": number}
+
+
+# What `router route` says.
+
+
+def routed(program, configs, router, link, source, now, datagrams):
+    words = [program, "route", "--config", configs[id(router)], "--link", str(link), "--now", str(now), "--from", text_of(source)]
+    text = "".join(it.hex() + "\n" for it in datagrams)
+    done = subprocess.run(words, input=text, capture_output=True, text=True, timeout=60)
+    if done.returncode:
+        sys.exit(f"{' '.join(words)}: {done.stderr}")
+    lines = done.stdout.splitlines()
+    assert len(lines) == len(datagrams)
+    return lines
+
+
+def foretold(program, net, configs, packets, now):
+    """What arrives where, by packet, and what each router counts."""
+    by_internal = {it["internal"]: it for it in net.routers}
+    arrivals, counts = [None] * len(packets), {id(it): collections.Counter() for it in net.routers}
+    flying = [(at, it["router"], 0, it["sender"], it["data"]) for at, it in enumerate(packets)]
+    for it in packets:
+        it["way"] = ()
+    for _ in range(200):
+        if not flying:
+            return arrivals, counts
+        groups, flown = collections.defaultdict(list), []
+        for at, router, link, source, data in flying:
+            groups[id(router), link, source].append((at, router, data))
+        for (_, link, source), members in groups.items():
+            router = members[0][1]
+            lines = routed(program, configs, router, link, source, now, [it[2] for it in members])
+            for (at, _, _), line in zip(members, lines):
+                words, count = line.split(), counts[id(router)]
+                count["received"] += 1
+                if words[0] == "drop":
+                    count[f"dropped {words[1]}"] += 1
+                    continue
+                count["sent" if words[0] == "send" else "answered"] += 1
+                packets[at]["way"] += ((id(router), link, words[0], words[1]),)
+                out, to, data = int(words[1]), words[2], bytes.fromhex(words[3])
+                count[f"link {out}"] += 1
+                if out:
+                    end = next(it for it in router["links"] if it["id"] == out)
+                    if to != "-":
+                        sys.exit(f"a link's packet goes to {to}")
+                    flown.append((at, end["far"]["router"], end["far"]["id"], end["local"], data))
+                elif address_of(to) in by_internal:
+                    flown.append((at, by_internal[address_of(to)], 0, router["internal"], data))
+                else:
+                    arrivals[at] = (address_of(to), data)
+        flying = flown
+    sys.exit("packets circle")
+
+
+# The running routers.
+
+
+def started(program, config, room, number):
+    report = open(f"{room}/{number}.report", "w+", encoding="utf-8")
+    fault = open(f"{room}/{number}.fault", "w+", encoding="utf-8")
+    process = subprocess.Popen([program, "run", "--config", config], stdin=subprocess.PIPE, stdout=report, stderr=fault, text=True)
+    return process, report, fault
+
+
+def read_report(report):
+    report.seek(0)
+    lines = report.read().splitlines()
+    counts = collections.Counter()
+    for line in lines[1:]:
+        words = line.split()
+        if words[0] == "link":
+            counts[f"link {words[1]}"] = int(words[3])
+        else:
+            counts[" ".join(words[:-1])] = int(words[-1])
+    return lines[:1], counts
+
+
+def bound(address):
+    family = socket.AF_INET6 if ":" in address[0] else socket.AF_INET
+    found = socket.socket(family, socket.SOCK_DGRAM)
+    found.setsockopt(socket.SOL_SOCKET, socket.SO_RCVBUF, 1 << 22)
+    found.bind(address)
+    found.setblocking(False)
+    return found
+
+
+def taken(sockets, arrived, wait):
+    """Reads what has arrived, until nothing does for that long."""
+    by_number = {it.fileno(): address for address, it in sockets.items()}
+    while True:
+        ready, _, _ = select.select(list(by_number), [], [], wait)
+        if not ready:
+            return
+        for number in ready:
+            sock = sockets[by_number[number]]
+            while True:
+                try:
+                    data, _ = sock.recvfrom(65536)
+                except BlockingIOError:
+                    break
+                arrived[by_number[number]].append(data)
+
+
+def differences(net, packets, arrivals, counts, arrived, reports):
+    wanted = collections.defaultdict(list)
+    for at, it in enumerate(arrivals):
+        if it and it[0] in net.hosts:
+            wanted[it[0]].append(it[1])
+    for address in net.hosts:
+        one, other = collections.Counter(wanted[address]), collections.Counter(arrived[address])
+        for data in one - other:
+            yield f"{text_of(address)} lacks {data.hex()[:400]}"
+        for data in other - one:
+            yield f"{text_of(address)} got {data.hex()[:400]}"
+    for router in net.routers:
+        first, found = reports[id(router)]
+        if first != ["ready"]:
+            yield f"{text_of(router['internal'])} began with {first}"
+        want = +counts[id(router)]
+        if +found != want:
+            yield f"{text_of(router['internal'])} counts {dict(+found)}, wanted {dict(want)}"
+    # packets of one flow that went one way, and the answers to them, in the order in which they were sent
+    for address in net.hosts:
+        places, last = collections.defaultdict(collections.deque), {}
+        for place, data in enumerate(arrived[address]):
+            places[data].append(place)
+        for at, it in enumerate(arrivals):
+            if it and it[0] == address and places[it[1]]:
+                place, flow = places[it[1]].popleft(), (packets[at]["flow"], packets[at]["way"])
+                if place < last.get(flow, -1):
+                    yield f"{text_of(address)} got packet {at} before an earlier one of its flow"
+                last[flow] = place
+
+
+def try_net(program, seed, number, count):
+    dice = random.Random(seed * 1000003 + number)
+    net, now = Net(dice, number), int(time.time())
+    packets = [some_packet(dice, net, now, at) for at in range(count)]
+    with tempfile.TemporaryDirectory() as room:
+        configs = {}
+        for at, router in enumerate(net.routers):
+            configs[id(router)] = f"{room}/{at}.toml"
+            with open(configs[id(router)], "w", encoding="utf-8") as it:
+                it.write(config_of(router))
+        arrivals, counts = foretold(program, net, configs, packets, now)
+        sockets = {address: bound(address) for address in net.hosts}
+        running = [started(program, configs[id(it)], room, at) for at, it in enumerate(net.routers)]
+        try:
+            for process, report, fault in running:
+                for _ in range(200):
+                    report.seek(0)
+                    if report.read().startswith("ready\n"):
+                        break
+                    if process.poll() is not None:
+                        fault.seek(0)
+                        sys.exit(f"net {number}: a router ended: {fault.read()}")
+                    time.sleep(0.02)
+                else:
+                    sys.exit(f"net {number}: a router isn't ready")
+            arrived = collections.defaultdict(list)
+            for at, it in enumerate(packets):
+                sockets[it["sender"]].sendto(it["data"], it["router"]["internal"])
+                if at % 16 == 15:
+                    taken(sockets, arrived, 0.002)
+            taken(sockets, arrived, 0.3)
+            early = {address: len(arrived[address]) for address in net.hosts}
+            for process, _, _ in running:
+                process.stdin.close()
+            status = [process.wait(30) for process, _, _ in running]
+            taken(sockets, arrived, 0)
+        finally:
+            for process, _, _ in running:
+                if process.poll() is None:
+                    process.kill()
+                    process.wait()
+            for it in sockets.values():
+                it.close()
+        reports = {id(it): read_report(report) for it, (_, report, _) in zip(net.routers, running)}
+        for _, report, fault in running:
+            report.close()
+            fault.close()
+    found = [f"a router ended with {it}" for it in status if it]
+    found += [f"{text_of(it)} got something only at the end" for it in net.hosts if early[it] < len(arrived[it])]
+    found += differences(net, packets, arrivals, counts, arrived, reports)
+    summary = sum((it for it in counts.values()), collections.Counter())
+    return found, len(net.routers), summary, sum(it is not None for it in arrivals)
+
+
+def main():
+    words = argparse.ArgumentParser(description=__doc__.split("\n")[0])
+    words.add_argument("--program", default=f"{ROOT}/bin/router")
+    words.add_argument("--nets", type=int, default=20)
+    words.add_argument("--packets", type=int, default=400)
+    words.add_argument("--seed", type=int, default=1)
+    words.add_argument("--first", type=int, default=0)
+    given = words.parse_args()
+    failed, total, routers, arrived = 0, collections.Counter(), 0, 0
+    for number in range(given.first, given.first + given.nets):
+        found, count, summary, came = try_net(os.path.abspath(given.program), given.seed, number, given.packets)
+        routers, total, arrived = routers + count, total + summary, arrived + came
+        for line in found[:10]:
+            print(f"net {number}: {line}")
+        failed += bool(found)
+    print(f"{given.nets} nets of {routers} routers, {given.nets * given.packets} packets, of which {arrived} arrived or were answered")
+    print("what the routers made of them: " + ", ".join(f"{it} {total[it]}" for it in sorted(total) if not it.startswith("link")))
+    print(f"failed {failed}")
+    return 1 if failed else 0
+
+
+if __name__ == "__main__":
+    sys.exit(main())
