@@ -104,7 +104,6 @@ class Net:
         cores = dice.randint(1, 3)
         levels = [[self.add_as(True) for _ in range(cores)]]
         levels += [[self.add_as(False) for _ in range(dice.randint(1, 3))] for _ in range(dice.randint(1, 2))]
-        self.links = []
         for at, one in enumerate(levels[0]):
             for other in levels[0][:at]:
                 for _ in range(dice.randint(1, 2)):
@@ -176,7 +175,6 @@ class Net:
         ends = []
         for at, to, is_first in ((one, kind, True), (other, back, False)):
             of = router if router and is_first else self.dice.choice(at["routers"])
-            is_v6 = self.dice.random() < 0.2
             end = {"as": at, "id": self.new_interface(at), "kind": to, "router": of, "bands": self.dice.choice([1, 2])}
             ends.append(end)
         is_v6 = self.is_v6 or self.dice.random() < 0.2
@@ -235,8 +233,7 @@ def config_of(router):
 
 def beaconed(dice, now, ends):
     """The segment over these links, each by its end at the AS nearer the segment's beginning: hops in the order of construction."""
-    first = ends[0]["as"] if ends else None
-    stops = [first, *[end["far"]["as"] for end in ends]]
+    stops = [ends[0]["as"], *[end["far"]["as"] for end in ends]]
     segment = {"timestamp": now - dice.randint(0, 20000), "hops": []}
     beta = dice.randrange(1 << 16)
     for at, one in enumerate(stops):
