@@ -9,7 +9,7 @@ use Rattle.ruled_pipe.specs.declared.entry.Mark.TheVariants.{Close, End}
 use Rattle.ruled_pipe.specs.Producer.{Sender}
 use Rattle.ruled_pipe.specs.Pipe.{Shape}
 use Rattle.stage_laws.specs.Ends.{load_in, pushes}
-use Rattle.stage_parts.specs.Outlet.{Offering, offering, IsMarked, NoClose, is_closing}
+use Rattle.stage_parts.specs.Outlet.{Offering, IsMarked, NoClose, is_closing}
 use Rattle.stage_parts.specs.Outlets.{AreFresh, senders}
 use Rattle.router_ends.specs.Rows.{AreEndsOf, IsBundle, fresh_ends}
 use Rattle.router_ends.specs.Settled.{IsFinal, AreFinished}
@@ -45,12 +45,11 @@ module _ {T : Type 0} where
   fresh_more [] o f a b c = (a, b, c, tt)
   fresh_more (x ∷ os) o f a b c = (f.0, f.1, f.2, fresh_more os o f.3 a b c)
 
-  pub outlets_more : (os : List (Offering T)) (xs : List (Sender T)) (e : Sender T) (o : Offering T) → senders os ≡ xs → AreFresh os → o ≡ offering e false → (e.offers ≡ []) × (e.refusals ≡ []) → (senders (os ++ o ∷ []) ≡ xs ++ e ∷ []) × AreFresh (os ++ o ∷ [])
-  outlets_more os xs e o same fresh is new =
-      let s : o.sender ≡ e = ap (λ (x : Offering T). x.sender) is in (
-        senders_more os o ∙ (ap (λ (l : List (Sender T)). l ++ o.sender ∷ []) same ∙ ap (λ (x : Sender T). xs ++ x ∷ []) s),
-        fresh_more os o fresh (ap (λ (x : Offering T). x.ended) is) (ap (λ (x : Sender T). x.offers) s ∙ new.0) (ap (λ (x : Sender T). x.refusals) s ∙ new.1),
-      )
+  pub outlets_more : (os : List (Offering T)) (xs : List (Sender T)) (e : Sender T) (o : Offering T) → senders os ≡ xs → AreFresh os → o.sender ≡ e → o.ended ≡ false → (e.offers ≡ []) × (e.refusals ≡ []) → (senders (os ++ o ∷ []) ≡ xs ++ e ∷ []) × AreFresh (os ++ o ∷ [])
+  outlets_more os xs e o same fresh is owed new = (
+    senders_more os o ∙ (ap (λ (l : List (Sender T)). l ++ o.sender ∷ []) same ∙ ap (λ (x : Sender T). xs ++ x ∷ []) is),
+    fresh_more os o fresh owed (ap (λ (x : Sender T). x.offers) is ∙ new.0) (ap (λ (x : Sender T). x.refusals) is ∙ new.1),
+  )
 
   pub marked_more : (os : List (Offering T)) (o : Offering T) → AreMarked os → IsMarked o.sender o.ended → AreMarked (os ++ o ∷ [])
   marked_more [] o a is = (is, tt)

@@ -68,12 +68,12 @@ module _ {T : Type 0} where
   -- an offer is one of the producers
   pub gave_sent : (k : ℕ) (x : T) (old new : List (Offering T)) → GaveAt k x old new → SentOn k x (senders old) (senders new)
   gave_sent k x old new g = λ d.
-      let o : Offering T = offering d false in
+      let o : Offering T = offering d false false in
       ap senders (g o) ∙ senders_set old k (gave (slice_index_or old k o) x) ∙ ap (λ (s : Sender T). slice_set (senders old) k (offered s (entry s.number (Payload x)))) (sym (senders_at old k o))
 
   pub kept_away : (k : ℕ) (x : T) (old new : List (Offering T)) → KeptAt k x old new → TurnedAway k x (senders old) (senders new)
   kept_away k x old new g = λ d.
-      let o : Offering T = offering d false in
+      let o : Offering T = offering d false false in
       ap senders (g o) ∙ senders_set old k (kept (slice_index_or old k o) x) ∙ ap (λ (s : Sender T). slice_set (senders old) k (refused s (entry s.number (Payload x)))) (sym (senders_at old k o))
 
   pub gave_long : (k : ℕ) (x : T) (old new : List (Offering T)) → k < length old → GaveAt k x old new → length new ≡ length old

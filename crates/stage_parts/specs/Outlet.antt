@@ -7,28 +7,29 @@ use Rattle.ruled_pipe.specs.declared.entry.Mark.TheVariants.{Close, End}
 use Rattle.ruled_pipe.specs.Producer.{Sender, entry, offered, refused}
 use Rattle.ruled_pipe.specs.Gathered.{EndsWithMark, ends_in}
 
--- its producer, and whether its end mark was accepted
+-- its producer, whether its end mark was accepted, and whether it has an event, which it notifies after each accepted push
 pub record Offering (T : Type 0) : Type 0 where
   pub sender : Sender T
   pub ended : Bool
+  pub wakes : Bool
 
 module _ {T : Type 0} where
-  abbrev pub offering : Sender T → Bool → Offering T
-  offering s ended = record { sender = s; ended = ended }
+  abbrev pub offering : Sender T → Bool → Bool → Offering T
+  offering s ended wakes = record { sender = s; ended = ended; wakes = wakes }
 
   -- after an accepted offer, and after a refused one
   abbrev pub gave : Offering T → T → Offering T
-  gave o x = offering (offered o.sender (entry o.sender.number (Payload x))) o.ended
+  gave o x = offering (offered o.sender (entry o.sender.number (Payload x))) o.ended o.wakes
 
   abbrev pub kept : Offering T → T → Offering T
-  kept o x = offering (refused o.sender (entry o.sender.number (Payload x))) o.ended
+  kept o x = offering (refused o.sender (entry o.sender.number (Payload x))) o.ended o.wakes
 
   -- The end mark was tried where it was owed
   abbrev pub Tried : Offering T → Offering T → Type 0
   Tried old new =
       ((old.ended ≡ true) × (new ≡ old))
-      ⊎ ((old.ended ≡ false) × (new ≡ offering (offered old.sender (entry old.sender.number (Marked End))) true))
-      ⊎ ((old.ended ≡ false) × (new ≡ offering (refused old.sender (entry old.sender.number (Marked End))) false))
+      ⊎ ((old.ended ≡ false) × (new ≡ offering (offered old.sender (entry old.sender.number (Marked End))) true old.wakes))
+      ⊎ ((old.ended ≡ false) × (new ≡ offering (refused old.sender (entry old.sender.number (Marked End))) false old.wakes))
 
   abbrev pub is_closing : Load T → Bool
   is_closing (Payload x) = false

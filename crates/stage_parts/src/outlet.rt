@@ -1,6 +1,6 @@
 //! A worker's end of a pipe into which it offers.
 
-ghost use Rattle.std.specs.Prelude.{◌≡◌, [], false, true, MatchResult};
+ghost use Rattle.std.specs.Prelude.{◌≡◌, [], false, true, is_some, MatchResult};
 ghost use Rattle.stage_parts.specs.Outlet.{IsMarked, Tried, gave, kept};
 
 use crate::event::{Event, notify_where};
@@ -18,11 +18,12 @@ pub struct Outlet<T> {
 }
 
 impl<T> Model for Outlet<T> {
+    ghost use Rattle.std.specs.Prelude.{is_some};
     ghost use Rattle.stage_parts.specs.Outlet.{IsMarked, Offering};
 
     ghost Value = { Offering T };
 
-    ghost view = { λ o. record { sender = o.producer; ended = o.ended } };
+    ghost view = { λ o. record { sender = o.producer; ended = o.ended; wakes = is_some o.event } };
 
     ghost invariant = { λ o. IsMarked o.producer o.ended };
 }
@@ -32,7 +33,7 @@ impl<T: Drop> Outlet<T> {
     /// it has one.
     pub fn of(producer: Producer<T>, event: Option<Event>) -> Outlet<T>
         requires { producer.offers ≡ [] }
-        ensures { result ≡ record { sender = producer; ended = false } }
+        ensures { result ≡ record { sender = producer; ended = false; wakes = is_some event } }
     {
         Outlet {
             producer,

@@ -25,7 +25,7 @@ module _ {T : Type 0} where
   -- an offer, accepted or refused; any pipe's name serves
   module _ (id : TableId) (used : ℕ → Bool) (k : ℕ) (x : T) (old new : List (Offering T)) (e : used k ≡ true) where
     abbrev none : Offering T
-    none = offering (new_sender id 0 0 0) false
+    none = offering (new_sender id 0 0 0) false false
 
     pub gave_same : GaveAt k x old new → AreSameEnds used old new
     gave_same is = subst (λ (zs : List (Offering T)). AreSameEnds used old zs) (sym (is none)) (set_same used k old none (λ o. gave o x) e (λ o. end_self o.sender))

@@ -18,7 +18,7 @@ loop-end-preserved g c =
     let steps = c.in-Some.ensures.steps.0 in
     let split = ap (λ l. at.yielded ++ l) (sym steps) ∙ at.invariant.3 ∙ at.invariant.5 in
     let P : List (Offering g.row.T.Denot) → Type 0 = λ l. (senders l ≡ at.yielded ++ x ∷ []) × AreFresh l in
-    let more = outlets_more at.outlets.items at.yielded x c.of.result at.invariant.0 at.invariant.1 c.of.ensures (fresh_one c.args.bundle.ends at.yielded _ x c.requires.bundle split) in
+    let more = outlets_more at.outlets.items at.yielded x c.of.result at.invariant.0 at.invariant.1 (ap (λ (o : Offering g.row.T.Denot). o.sender) c.of.ensures) (ap (λ (o : Offering g.row.T.Denot). o.ended) c.of.ensures) (fresh_one c.args.bundle.ends at.yielded _ x c.requires.bundle split) in
     let here = subst P (sym c.push_reserved.ensures.items) more in (
       here.0,
       here.1,
