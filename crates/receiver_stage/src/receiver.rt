@@ -1,6 +1,6 @@
 //! A receiver.
 
-ghost use Rattle.std.specs.Prelude.{◌≡◌, ◌<◌, true, MatchBool, Some, [], length};
+ghost use Rattle.std.specs.Prelude.{◌≡◌, ◌<◌, true, false, MatchBool, Some, [], length};
 ghost use Rattle.std.specs.Arc.{arc_value};
 ghost use Rattle.packet_ledger.specs.Share.{HasRoom, IsPosted, new_share};
 ghost use Rattle.router_laws.specs.Heard.{ToldNothing};
@@ -137,10 +137,10 @@ impl<N: Router, R: Wait + Copy, S: Source> Receiver<N, R, S> {
         }
     }
 
-    /// Waits as its source does, before its end, and says whether it waited.
+    /// Waits as its source does, before its end, and says what that says.
     pub fn wait(&mut self) -> bool
         ensures same { Waited S.told S.failed self.old self.new }
-        ensures waits { result ≡ true → S.waits self.old.source ≡ true }
+        ensures waits { MatchBool self.old.ended (result ≡ false) (S.waits self.old.source result) }
     {
         if self.ended {
             return false;

@@ -41,7 +41,7 @@ impl Source for CuedSource {
 
     ghost failed = { λ s. 0 };
 
-    ghost waits = { λ s. false };
+    ghost waits = { λ s said. said ≡ false };
 
     fn next_into(&mut self, buffer: &mut [u8]) -> NextLen {
         if self.given > 0 {
@@ -56,6 +56,10 @@ impl Source for CuedSource {
         self.given = self.given.wrapping_add(1);
         let datagram = if cue.is_urgent() { urgent() } else { FIRST };
         give(&datagram, buffer)
+    }
+
+    fn wait(&mut self) -> bool {
+        false
     }
 
     fn failures(&self) -> u64 {

@@ -44,7 +44,7 @@ impl Source for Paced {
 
     ghost failed = { λ s. 0 };
 
-    ghost waits = { λ s. false };
+    ghost waits = { λ s said. said ≡ false };
 
     fn next_into(&mut self, buffer: &mut [u8]) -> NextLen {
         self.asked = true;
@@ -56,6 +56,10 @@ impl Source for Paced {
         }
         self.given += 1;
         give(&FIRST, buffer)
+    }
+
+    fn wait(&mut self) -> bool {
+        false
     }
 
     fn failures(&self) -> u64 {
@@ -119,12 +123,16 @@ impl Source for Failing {
 
     ghost failed = { λ s. s.failed };
 
-    ghost waits = { λ s. false };
+    ghost waits = { λ s said. said ≡ false };
 
     fn next_into(&mut self, buffer: &mut [u8]) -> NextLen {
         let _ = buffer;
         self.failed += 1;
         NextLen::Failed
+    }
+
+    fn wait(&mut self) -> bool {
+        false
     }
 
     fn failures(&self) -> u64 {

@@ -39,7 +39,7 @@ impl<L: Ledger, R: Wait> Work<L> for Countdown<L, R> {
 
     ghost is_posted = { λ a. Unit {0} };
 
-    ghost waits = { λ a. false };
+    ghost waits = { λ a said. said ≡ false };
 
     fn has_room(&self) -> bool {
         self.share.has_room()
@@ -236,7 +236,7 @@ impl<L: Ledger, R: Wait> Work<L> for Feeder<R> {
 
     ghost is_posted = { λ a. Unit {0} };
 
-    ghost waits = { λ a. false };
+    ghost waits = { λ a said. said ≡ false };
 
     fn has_room(&self) -> bool {
         true
@@ -286,7 +286,7 @@ impl<L: Ledger, R: Wait> Work<L> for Drain<R> {
 
     ghost is_posted = { λ a. Unit {0} };
 
-    ghost waits = { λ a. false };
+    ghost waits = { λ a said. said ≡ false };
 
     fn has_room(&self) -> bool {
         true

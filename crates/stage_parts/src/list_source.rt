@@ -100,7 +100,7 @@ impl Source for ListSource {
 
     ghost failed = { λ s. s.failed };
 
-    ghost waits = { λ s. false };
+    ghost waits = { λ s said. said ≡ false };
 
     fn next_into(&mut self, buffer: &mut [u8]) -> NextLen
         requires failures { self.old.failed < 2 ^ 64 - 1 }
@@ -119,6 +119,10 @@ impl Source for ListSource {
         self.given += 1;
         self.failed += failures_of(answer);
         answer
+    }
+
+    fn wait(&mut self) -> bool {
+        false
     }
 
     fn failures(&self) -> u64 {

@@ -1,6 +1,6 @@
 //! Where datagrams come from.
 
-ghost use Rattle.std.specs.Prelude.{◌≡◌, ◌+◌, ◌-◌, ◌^◌, ◌<◌, ◌≤◌, ℕ, List, Option, length, true};
+ghost use Rattle.std.specs.Prelude.{◌≡◌, ◌+◌, ◌-◌, ◌^◌, ◌<◌, ◌≤◌, ℕ, List, Option, length};
 ghost use Rattle.stage_laws.specs.Forwards.{AddsTo};
 ghost use Rattle.router_laws.specs.Heard.{Heard};
 ghost use Rattle.stage_parts.specs.Heard.{failures_of, fits, heard};
@@ -36,8 +36,8 @@ pub trait Source {
     /// How often it failed.
     ghost failed: { Self → ℕ };
 
-    /// Whether it can wait in a way of its own.
-    ghost waits: { Self → Bool };
+    /// What it may say of a wait: whether it waited in a way of its own.
+    ghost waits: { Self → Bool → Type 0 };
 
     /// Reads a datagram into a buffer of 9,217 bytes.
     fn next_into(&mut self, buffer: &mut [u8]) -> NextLen
@@ -53,10 +53,7 @@ pub trait Source {
     fn wait(&mut self) -> bool
         ensures told { told self.new ≡ told self.old }
         ensures failed { failed self.new ≡ failed self.old }
-        ensures waits { result ≡ true → waits self.old ≡ true }
-    {
-        false
-    }
+        ensures waits { waits self.old result };
 
     /// How often it failed.
     fn failures(&self) -> u64

@@ -39,12 +39,16 @@ impl Source for Flows {
 
     ghost failed = { λ s. 0 };
 
-    ghost waits = { λ s. false };
+    ghost waits = { λ s said. said ≡ false };
 
     fn next_into(&mut self, buffer: &mut [u8]) -> NextLen {
         let datagram = &self.datagrams[self.flow % FLOWS];
         self.flow = self.flow.wrapping_add(1);
         give(datagram, buffer)
+    }
+
+    fn wait(&mut self) -> bool {
+        false
     }
 
     fn failures(&self) -> u64 {

@@ -1,6 +1,6 @@
 //! Where a link's datagrams come from.
 
-ghost use Rattle.std.specs.Prelude.{◌≡◌, ◌+◌, ◌-◌, ◌^◌, ◌<◌, ℕ, List, Option, None, length, true};
+ghost use Rattle.std.specs.Prelude.{◌≡◌, ◌+◌, ◌-◌, ◌^◌, ◌<◌, ℕ, List, Option, None, length};
 ghost use Rattle.stage_laws.specs.Forwards.{AddsTo};
 ghost use Rattle.stage_parts.specs.Heard.{failures_of, fits, heard};
 
@@ -91,7 +91,7 @@ impl<R: Clock + Drop> Source for UdpSource<R> {
 
     ghost failed = { λ s. s };
 
-    ghost waits = { λ s. true };
+    ghost waits = { λ s said. Unit {0} };
 
     fn next_into(&mut self, buffer: &mut [u8]) -> NextLen {
         let answer = read_one(&self.clock, &self.socket, buffer);

@@ -7,7 +7,7 @@ use stage_parts::{Router, Sink};
 use std::sync::Wait;
 
 impl<N: Router, R: Wait + Copy, K: Sink> Work<N> for Forwarder<N, R, K> {
-    ghost use Rattle.std.specs.Prelude.{false};
+    ghost use Rattle.std.specs.Prelude.{◌≡◌, false};
     ghost use Rattle.packet_ledger.specs.Share.{HasRoom, IsDrained};
     ghost use Rattle.router_stages.specs.Forwarding.{Forwarded};
     ghost use Rattle.worker_threads.specs.Workers.{IsSameForwarder, ForwarderEnded, forwarder_self, forwarder_then};
@@ -22,7 +22,7 @@ impl<N: Router, R: Wait + Copy, K: Sink> Work<N> for Forwarder<N, R, K> {
 
     ghost is_posted = { λ f. IsDrained f.side.share };
 
-    ghost waits = { λ f. false };
+    ghost waits = { λ f said. said ≡ false };
 
     fn has_room(&self) -> bool {
         self.has_room()

@@ -7,7 +7,7 @@ use stage_parts::{Gate, Router};
 use std::sync::Wait;
 
 impl<N: Router, R: Wait + Copy, G: Gate + Drop> Work<N> for Processor<N, R, G> {
-    ghost use Rattle.std.specs.Prelude.{false};
+    ghost use Rattle.std.specs.Prelude.{◌≡◌, false};
     ghost use Rattle.packet_ledger.specs.Share.{HasRoom, IsDrained};
     ghost use Rattle.router_stages.specs.Working.{Worked};
     ghost use Rattle.worker_threads.specs.Workers.{IsSameProcessor, ProcessorEnded, processor_self, processor_then};
@@ -22,7 +22,7 @@ impl<N: Router, R: Wait + Copy, G: Gate + Drop> Work<N> for Processor<N, R, G> {
 
     ghost is_posted = { λ w. IsDrained w.side.share };
 
-    ghost waits = { λ w. false };
+    ghost waits = { λ w said. said ≡ false };
 
     fn has_room(&self) -> bool {
         self.has_room()

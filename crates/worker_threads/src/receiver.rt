@@ -7,6 +7,7 @@ use stage_parts::{Router, Source};
 use std::sync::Wait;
 
 impl<N: Router, R: Wait + Copy, S: Source> Work<N> for Receiver<N, R, S> {
+    ghost use Rattle.std.specs.Prelude.{◌≡◌, false, MatchBool};
     ghost use Rattle.packet_ledger.specs.Share.{HasRoom, IsDrained};
     ghost use Rattle.router_stages.specs.Receiving.{Received};
     ghost use Rattle.worker_threads.specs.Workers.{IsSameReceiver, ReceiverEnded, receiver_self, receiver_then};
@@ -21,7 +22,7 @@ impl<N: Router, R: Wait + Copy, S: Source> Work<N> for Receiver<N, R, S> {
 
     ghost is_posted = { λ r. IsDrained r.side.share };
 
-    ghost waits = { λ r. S.waits r.source };
+    ghost waits = { λ r said. MatchBool r.ended (said ≡ false) (S.waits r.source said) };
 
     fn has_room(&self) -> bool {
         self.has_room()

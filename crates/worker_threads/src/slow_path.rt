@@ -7,7 +7,7 @@ use stage_parts::Router;
 use std::sync::Wait;
 
 impl<N: Router, R: Wait + Copy> Work<N> for SlowPath<N, R> {
-    ghost use Rattle.std.specs.Prelude.{false};
+    ghost use Rattle.std.specs.Prelude.{◌≡◌, false};
     ghost use Rattle.packet_ledger.specs.Share.{HasRoom, IsDrained};
     ghost use Rattle.router_stages.specs.Answering.{Answered};
     ghost use Rattle.worker_threads.specs.Workers.{IsSameSlowPath, SlowPathEnded, slow_self, slow_then};
@@ -22,7 +22,7 @@ impl<N: Router, R: Wait + Copy> Work<N> for SlowPath<N, R> {
 
     ghost is_posted = { λ a. IsDrained a.side.share };
 
-    ghost waits = { λ a. false };
+    ghost waits = { λ a said. said ≡ false };
 
     fn has_room(&self) -> bool {
         self.has_room()

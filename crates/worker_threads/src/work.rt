@@ -25,8 +25,8 @@ pub trait Work<N: Ledger> {
     /// It holds no counts, or more than the book has room for.
     ghost is_posted: { Self → Type 0 };
 
-    /// Whether it can wait in a way of its own.
-    ghost waits: { Self → Bool };
+    /// What it may say of a wait: whether it waited in a way of its own.
+    ghost waits: { Self → Bool → Type 0 };
 
     /// Whether each of its counts can still be raised.
     fn has_room(&self) -> bool
@@ -45,7 +45,7 @@ pub trait Work<N: Ledger> {
     /// return at any moment.
     fn wait(&mut self) -> bool
         ensures same { same self.old self.new }
-        ensures waits { result ≡ true → waits self.old ≡ true };
+        ensures waits { waits self.old result };
 
     /// Posts its counts, where the book has room.
     fn post(&mut self, book: &Book<N>)
