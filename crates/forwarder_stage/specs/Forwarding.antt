@@ -71,7 +71,7 @@ MetIf two (Some met) old new = (two ≡ true) × Met (Some met) old new
 pub record Delivery (K : Type 0) : Type 0 where
   pub config : Config
   pub sink : K
-  pub free : List (Sender (Unit {0}))
+  pub free : List (Sender (List ℕ))
   pub share : Held
 
 abbrev pub handed : Outgoing kinds → Bool → Handed kinds
@@ -85,13 +85,13 @@ module _ {K : Type 0} (told : K → Option (List Told)) (failed : K → ℕ) whe
   -- it was handed to the sink, which took it or failed
   abbrev pub HandedOn : Outgoing kinds → Delivery K → Delivery K → Type 0
   HandedOn o old new =
-      (took : Bool) × AddsTo (told old.sink) (told_of (handed o took)) (told new.sink) × (failed new.sink ≡ failed old.sink + (if took then 0 else 1)) × GaveBack o.arrived old.free new.free
+      (took : Bool) × AddsTo (told old.sink) (told_of (handed o took)) (told new.sink) × (failed new.sink ≡ failed old.sink + (if took then 0 else 1)) × ((buffer : List ℕ) × GaveBack o.arrived buffer old.free new.free)
       × (new ≡ record { config = old.config; sink = new.sink; free = new.free; share = raise (handed_count (handed o took)) old.share })
 
 module _ {K : Type 0} where
   -- it was swept
   abbrev pub Swept : Outgoing kinds → Delivery K → Delivery K → Type 0
-  Swept o old new = GaveBack o.arrived old.free new.free × (new ≡ record { config = old.config; sink = old.sink; free = new.free; share = raise (Dropped Fate.Closed) old.share })
+  Swept o old new = ((buffer : List ℕ) × GaveBack o.arrived buffer old.free new.free) × (new ≡ record { config = old.config; sink = old.sink; free = new.free; share = raise (Dropped Fate.Closed) old.share })
 
   module _ (told : K → Option (List Told)) (failed : K → ℕ) where
     -- before the closing mark of its pipe it is handed on, after that it is swept
@@ -134,7 +134,7 @@ module _ {K : Type 0} where
   abbrev pub with_share : Held → Delivery K → Delivery K
   with_share share d = record { config = d.config; sink = d.sink; free = d.free; share = share }
 
-  abbrev pub first_delivery : Config → K → List (Sender (Unit {0})) → Delivery K
+  abbrev pub first_delivery : Config → K → List (Sender (List ℕ)) → Delivery K
   first_delivery c sink free = record { config = c; sink = sink; free = free; share = new_share }
 
   abbrev pub first_forwarding : ℕ → Band → Band → ℕ → Delivery K → Forwarding K

@@ -38,8 +38,8 @@ module _ (x : Arrival kinds) (old new : Intake) (some : 0 < length old.processor
   looks_of : (o : Ending Cause) → EndedAs x o old new → length new.stock.free.looks ≡ length old.stock.free.looks + was_lacked o
   looks_of (Counted why) e = let s = ap (λ st. length st.free.looks) e.2 in omega arith
   looks_of Lacked e = none_looks old.stock.free new.stock.free e.2.2
-  looks_of Accepted e = let s = another_looks old.stock new.stock e.2 in omega arith
-  looks_of Refused e = let s = another_looks old.stock e.2.0 e.2.1 in let t = ap (λ st. length st.free.looks) e.2.2 in omega arith
+  looks_of Accepted e = let s = another_looks e.2.0 old.stock new.stock e.2.1 in omega arith
+  looks_of Refused e = let s = another_looks e.2.0 old.stock e.2.1 e.2.2 in let t = ap (λ st. length st.free.looks) e.2.3.1 in omega arith
 
   open_of : (o : Ending Cause) → EndedAs x o old new → AreOpen old.processors → AreOpen new.processors
   open_of (Counted why) e is = subst (λ (ps : List (Offering (Arrival kinds))). AreOpen ps) (sym e.1) is

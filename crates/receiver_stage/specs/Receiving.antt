@@ -58,7 +58,7 @@ module _ {S : Type 0} where
   abbrev pub with_side : Intake → Receiving S → Receiving S
   with_side side r = record { number = r.number; source = r.source; ended = r.ended; side = side }
 
-  abbrev pub first_receiving : Config → ℕ → S → Taker (Unit {0}) → List (Offering (Arrival kinds)) → Receiving S
+  abbrev pub first_receiving : Config → ℕ → S → Taker (List ℕ) → List (Offering (Arrival kinds)) → Receiving S
   first_receiving c link source free processors = record {
     number = 0;
     source = source;

@@ -1,9 +1,9 @@
 //! The buffers of a receiver.
 
-ghost use Rattle.std.specs.Prelude.{◌≡◌, ◌+◌, ◌-◌, ◌^◌, ◌<◌, ◌≤◌, None, Some, MatchOption, is_some, length, take};
+ghost use Rattle.std.specs.Prelude.{◌≡◌, ◌+◌, ◌-◌, ◌^◌, ◌<◌, ◌≤◌, None, Some, MatchOption, length, take};
 ghost use Rattle.stage_laws.specs.Forwards.{AddsTo};
 ghost use Rattle.stage_parts.specs.Heard.{failures_of, fits, heard};
-ghost use Rattle.receiver_stage.specs.Pool.{Another, Found, FoundNone, is_buffer, stock};
+ghost use Rattle.receiver_stage.specs.Pool.{Another, Found, FoundNone, buffer_in, stock};
 
 use ruled_pipe::{Consumer, Entry, Load};
 use stage_parts::{Buffer, NextLen, ReadBuffer, Source};
@@ -30,7 +30,7 @@ impl<R> Model for Pool<R> {
 
 // The buffer of an entry; none of a mark.
 fn buffer_of(entry: Entry<Buffer>) -> Option<Buffer>
-    ensures { is_some result ≡ is_buffer entry.load }
+    ensures { result ≡ buffer_in entry.load }
 {
     match entry.load {
         Load::Payload(buffer) => Some(buffer),
@@ -40,7 +40,7 @@ fn buffer_of(entry: Entry<Buffer>) -> Option<Buffer>
 
 // Takes a buffer from the pipe of the free ones, past marks.
 fn take_buffer<R: Wait>(rt: &R, free: &mut Consumer<Buffer>) -> Option<Buffer>
-    ensures { MatchOption result (FoundNone free.old free.new) (λ _. Found free.old free.new) }
+    ensures { MatchOption result (FoundNone free.old free.new) (λ b. Found b free.old free.new) }
 {
     for _ in rt.forever() {
         let Some(entry) = free.take(rt) else {
@@ -88,7 +88,7 @@ impl<R: Wait + Copy> Pool<R> {
     /// Another buffer: the one in reserve, else one of the pipe.
     pub fn another(&mut self) -> Option<Buffer>
         ensures room { self.new.room ≡ self.old.room }
-        ensures got { Another self.old.stock (is_some result) self.new.stock }
+        ensures got { Another self.old.stock result self.new.stock }
     {
         if let Some(buffer) = self.spare.take() {
             return Some(buffer);
@@ -106,7 +106,7 @@ impl<R: Wait + Copy> Pool<R> {
 
     /// Keeps a buffer in reserve.
     pub fn keep(&mut self, buffer: Buffer)
-        ensures { self.new.stock ≡ stock (Some tt) self.old.stock.free }
+        ensures { self.new.stock ≡ stock (Some buffer) self.old.stock.free }
     {
         self.spare = Some(buffer);
     }

@@ -20,11 +20,11 @@ pub pipe_below : (c : Config) (o : Outgoing kinds) (at long : ℕ) → o.link < 
 pipe_below c o at long lt is all = let b = two_below o.link (link_count c) (has_two_bands c o.link && is_urgent o.parcel.bytes) lt in omega arith
 
 -- what was refused is dropped
-pub sent_not : (c : Config) (links after : List (Offering (Outgoing kinds))) (free back : List (Sender (Unit {0}))) (share counted : Held) (o p : Outgoing kinds) (at link : ℕ) → at ≡ pipe_for c o → KeptAt at o links after → p ≡ o → link ≡ p.arrived → GaveBack link free back
+pub sent_not : (c : Config) (links after : List (Offering (Outgoing kinds))) (free back : List (Sender (List ℕ))) (share counted : Held) (o p : Outgoing kinds) (at link : ℕ) → at ≡ pipe_for c o → KeptAt at o links after → p ≡ o → link ≡ p.arrived → (b : List ℕ) → GaveBack link b free back
     → counted ≡ counting share (with_fate cause.LinkFull share.counts)
     → SentAs o (record { config = c; links = links; free = free; share = share }) (record { config = c; links = after; free = back; share = counted })
-sent_not c links after free back share counted o p at link is kept same arrived gave counts =
+sent_not c links after free back share counted o p at link is kept same arrived b gave counts =
     inr (
       subst (λ (k : ℕ). KeptAt k o links after) is kept,
-      (subst (λ (k : ℕ). GaveBack k free back) (arrived ∙ ap (λ (q : Outgoing kinds). q.arrived) same) gave, ap (λ (s : Held). record { config = c; links = after; free = back; share = s }) counts),
+      ((b, subst (λ (k : ℕ). GaveBack k b free back) (arrived ∙ ap (λ (q : Outgoing kinds). q.arrived) same) gave), ap (λ (s : Held). record { config = c; links = after; free = back; share = s }) counts),
     )

@@ -16,7 +16,7 @@ use Rattle.stage_parts.specs.Outlets.{GaveAt, KeptAt, TriedAt}
 pub record Leaving : Type 0 where
   pub config : Config
   pub links : List (Offering (Outgoing kinds))
-  pub free : List (Sender (Unit {0}))
+  pub free : List (Sender (List ℕ))
   pub share : Held
 
 abbrev pub with_links : List (Offering (Outgoing kinds)) → Leaving → Leaving
@@ -32,7 +32,7 @@ pipe_for c o = 2 * o.link + (if has_two_bands c o.link && is_urgent o.parcel.byt
 -- it is dropped for a cause: its buffer goes back to the link by which its packet came, and the drop is counted
 abbrev pub DroppedAs : ℕ → Cause → Leaving → Leaving → Type 0
 DroppedAs link why old new =
-    GaveBack link old.free new.free × (new ≡ record { config = old.config; links = old.links; free = new.free; share = counting old.share (with_fate why old.share.counts) })
+    ((buffer : List ℕ) × GaveBack link buffer old.free new.free) × (new ≡ record { config = old.config; links = old.links; free = new.free; share = counting old.share (with_fate why old.share.counts) })
 
 -- it is offered to its pipe alone; where that is refused, it is dropped
 abbrev pub SentAs : Outgoing kinds → Leaving → Leaving → Type 0

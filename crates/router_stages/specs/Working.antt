@@ -40,7 +40,7 @@ out x l y = record { arrived = x.link; number = x.number; answer = false; link =
 abbrev pub AskedAs : SlowPathRequest kinds → Leaving → Leaving → Offering (SlowPathRequest kinds) → Offering (SlowPathRequest kinds) → Type 0
 AskedAs q old new slow slow' = ((slow' ≡ gave slow q) × (new ≡ old)) ⊎ ((slow' ≡ kept slow q) × DroppedAs q.arrival.link cause.AnswerFull old new)
 
-abbrev pub first_leaving : Config → List (Offering (Outgoing kinds)) → List (Sender (Unit {0})) → Leaving
+abbrev pub first_leaving : Config → List (Offering (Outgoing kinds)) → List (Sender (List ℕ)) → Leaving
 first_leaving c links free = record { config = c; links = links; free = free; share = new_share }
 
 -- what the decision makes of a packet: it is offered to its leaving link's pipe, or asked about, or dropped; what a full pipe

@@ -1,5 +1,7 @@
 //! Memory for one datagram.
 
+ghost use Rattle.std.specs.Prelude.{◌≡◌, IfOk, length};
+
 use process_packet::{Ip, Underlay};
 use std::alloc::{AllocError, Global};
 use std::marker::Model;
@@ -26,25 +28,27 @@ pub(crate) struct Storage {
     pub(crate) to: Option<Underlay>,
 }
 
-/// Memory for one datagram. Contracts know of it only that it is there.
+/// Memory for one datagram. Contracts see its bytes, all 9,217.
 #[derive(Drop)]
 pub struct Buffer {
     pub(crate) storage: Box<Storage>,
 }
 
 impl Model for Buffer {
-    ghost use Rattle.std.specs.Prelude.{◌≡◌, length};
+    ghost use Rattle.std.specs.Prelude.{◌≡◌, ℕ, List, length};
 
-    ghost Value = { Unit {0} };
+    ghost Value = { List ℕ };
 
-    ghost view = { λ b. tt };
+    ghost view = { λ b. b.storage.value.bytes.items };
 
     ghost invariant = { λ b. length b.storage.value.bytes.items ≡ 9217 };
 }
 
 impl Buffer {
     /// A buffer in memory of its own. `Err` where no memory is left.
-    pub fn new(alloc: Global) -> Result<Buffer, AllocError> {
+    pub fn new(alloc: Global) -> Result<Buffer, AllocError>
+        ensures { IfOk result (λ b. length b ≡ 9217) }
+    {
         let bytes = vec![in alloc; 0; BUFFER_LEN]?;
         let storage = Storage {
             bytes,

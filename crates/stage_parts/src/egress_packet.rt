@@ -1,6 +1,6 @@
 //! What is on its way out.
 
-ghost use Rattle.std.specs.Prelude.{◌≡◌};
+ghost use Rattle.std.specs.Prelude.{◌≡◌, length, take};
 ghost use Rattle.router_rules.specs.Rules.{is_urgent};
 ghost use Rattle.stage_parts.specs.Items.{StandsIn};
 ghost use Rattle.stage_parts.specs.Told.{named};
@@ -80,8 +80,10 @@ impl<N: Router> EgressPacket<N> {
         &self.storage.bytes[..self.storage.len]
     }
 
-    /// Its buffer, which is free again.
-    pub fn into_buffer(self) -> Buffer {
+    /// Its buffer, which begins with its bytes and is free again.
+    pub fn into_buffer(self) -> Buffer
+        ensures { take (length self.parcel.bytes) result ≡ self.parcel.bytes }
+    {
         let EgressPacket { storage, of: _ } = self;
         Buffer { storage }
     }

@@ -10,7 +10,7 @@ use std::sync::Wait;
 /// Offers a buffer to the free ones of a link. One that is refused is let go.
 pub fn give_back<R: Wait>(rt: &R, free: &mut Vec<Producer<Buffer>>, link: u16, buffer: Buffer)
     requires { link < length free.old.items }
-    ensures { GaveBack link free.old.items free.new.items }
+    ensures { GaveBack link buffer free.old.items free.new.items }
 {
     let _ = free[usize::from(link)].offer(rt, buffer);
 }

@@ -120,8 +120,10 @@ impl<N: Router> Packet<N> {
         decide_at_front(config, interface, source, now, &mut storage.bytes, len)
     }
 
-    /// Its buffer, which is free again.
-    pub fn into_buffer(self) -> Buffer {
+    /// Its buffer, which begins with its bytes and is free again.
+    pub fn into_buffer(self) -> Buffer
+        ensures { take (length self.datagram.bytes) result ≡ self.datagram.bytes }
+    {
         let Packet { storage, of: _ } = self;
         Buffer { storage }
     }

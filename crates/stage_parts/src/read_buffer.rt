@@ -27,7 +27,8 @@ impl Model for ReadBuffer {
 impl ReadBuffer {
     /// A free buffer, to be read into.
     pub fn of(buffer: Buffer) -> ReadBuffer
-        ensures { length result ≡ 9217 }
+        ensures same { result ≡ buffer }
+        ensures long { length result ≡ 9217 }
     {
         let Buffer { storage } = buffer;
         ReadBuffer { storage }

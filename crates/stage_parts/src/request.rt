@@ -78,8 +78,10 @@ impl<N: Router> SlowPathRequest<N> {
         self.packet.link()
     }
 
-    /// Its buffer, which is free again.
-    pub fn into_buffer(self) -> Buffer {
+    /// Its buffer, which begins with the packet's bytes and is free again.
+    pub fn into_buffer(self) -> Buffer
+        ensures { take (length self.arrival.datagram.bytes) result ≡ self.arrival.datagram.bytes }
+    {
         let SlowPathRequest { packet, problem: _ } = self;
         packet.into_buffer()
     }

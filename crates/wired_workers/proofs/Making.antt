@@ -92,7 +92,7 @@ module _ {X Y Z : Type 0} (f : List X → List Y → List Z) where
   paired_last none made [] ys all long is = sym (append-nil made) ∙ (ap (λ (zs : List Z). made ++ zs) (sym (none ys)) ∙ is)
   paired_last none made (x ∷ xs) ys all long is = absurd (omega arith)
 
-pub long_as : (k l n a b : ℕ) (xs : List (Row (Unit {0}))) → k ≡ l → a ≡ b → IsRest (IsLong l) n (b + l) xs → IsRest (IsLong k) n (a + k) xs
+pub long_as : (k l n a b : ℕ) (xs : List (Row (List ℕ))) → k ≡ l → a ≡ b → IsRest (IsLong l) n (b + l) xs → IsRest (IsLong k) n (a + k) xs
 long_as k l n a b xs same total r = record { each = subst (λ (j : ℕ). AllAt (IsLong j) n xs) (sym same) r.each; count = let c = r.count in omega arith }
 
 -- new ends of these pipes, by another name

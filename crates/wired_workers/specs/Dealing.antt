@@ -33,14 +33,14 @@ pub record IsTakerThere {T : Type 0} (pipes : List Shape) (i : ℕ) (t : Taker T
   pub fresh : t ≡ new_taker own.pipe own.producers own.capacity
 
 -- a consumer that found nothing yet, and a worker's producers, one for each of n pipes
-abbrev pub IsUnlooked : ℕ → Taker (Unit {0}) → Type 0
+abbrev pub IsUnlooked : ℕ → Taker (List ℕ) → Type 0
 IsUnlooked n t = t.looks ≡ []
 
-abbrev pub IsLong : ℕ → ℕ → Row (Unit {0}) → Type 0
+abbrev pub IsLong : ℕ → ℕ → Row (List ℕ) → Type 0
 IsLong long n b = length b.ends ≡ long
 
 -- the consumers of the free buffers, one a link, and the producers of processors, slow path and forwarders
-pub record AreFree (c : Config) (takers : List (Taker (Unit {0}))) (bundles : List (Row (Unit {0}))) : Type 0 where
+pub record AreFree (c : Config) (takers : List (Taker (List ℕ))) (bundles : List (Row (List ℕ))) : Type 0 where
   pub unlooked : IsRest IsUnlooked 0 (link_count c) takers
   pub long : IsRest (IsLong (link_count c)) 0 (c.processors + 1 + link_count c) bundles
 

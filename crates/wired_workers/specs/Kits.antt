@@ -18,7 +18,7 @@ use Rattle.wired_workers.specs.Piping.{IsTakerOf, IsWorkingAt, Piping}
 pub record Entry : Type 0 where
   pub config : Config
   pub link : ℕ
-  pub free : Taker (Unit {0})
+  pub free : Taker (List ℕ)
   pub processors : List (Offering (Arrival kinds))
 
 pub record IsEnteringAt (c : Config) (inner : List Shape) (a : ℕ) (e : Entry) : Type 0 where
@@ -39,7 +39,7 @@ pub record Exit : Type 0 where
   pub link : ℕ
   pub low : Band
   pub high : Band
-  pub free : List (Sender (Unit {0}))
+  pub free : List (Sender (List ℕ))
 
 -- its pipes are those of its link
 pub record IsLeavingAt (c : Config) (outer : List Shape) (l : ℕ) (e : Exit) : Type 0 where
@@ -68,4 +68,4 @@ pub record IsWorkingThere {G : Type 0} (c : Config) (p : Piping) (i : ℕ) (w : 
 -- a worker's ends of the links' pipes and of those of free buffers
 pub record Way : Type 0 where
   pub links : List (Offering (Outgoing kinds))
-  pub free : List (Sender (Unit {0}))
+  pub free : List (Sender (List ℕ))

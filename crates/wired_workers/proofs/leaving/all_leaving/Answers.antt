@@ -35,13 +35,13 @@ module _ {T : Type 0} where
   taker_of : (s : Shape) (t u : Taker T) → u ≡ t → t ≡ new_taker s.pipe s.producers s.capacity → IsTakerOf s u
   taker_of s t u same fresh = let e = same ∙ fresh in (ap (λ (x : Taker T). x.pipe) e, ap (λ (x : Taker T). x.producers) e, ap (λ (x : Taker T). x.capacity) e)
 
-long_rest : (n m p : ℕ) (xs : List (Row (Unit {0}))) → n ≡ m → IsRest (IsLong m) (p + 1) (p + 1 + m) xs → IsRest (IsLong n) (p + 1 + 0) (p + 1 + n) xs
+long_rest : (n m p : ℕ) (xs : List (Row (List ℕ))) → n ≡ m → IsRest (IsLong m) (p + 1) (p + 1 + m) xs → IsRest (IsLong n) (p + 1 + 0) (p + 1 + n) xs
 long_rest n m p xs same r =
     let e : p + 1 ≡ p + 1 + 0 = omega arith in
     let all = subst (λ (k : ℕ). IsRest (IsLong k) (p + 1) (p + 1 + k) xs) (sym same) r in
     subst (λ (k : ℕ). IsRest (IsLong n) k (p + 1 + n) xs) e all
 
-long_next : (n p l : ℕ) (old new : List (Row (Unit {0}))) (b : Row (Unit {0})) → old ≡ b ∷ new → IsRest (IsLong n) (p + 1 + l) (p + 1 + n) old → IsRest (IsLong n) (p + 1 + (l + 1)) (p + 1 + n) new
+long_next : (n p l : ℕ) (old new : List (Row (List ℕ))) (b : Row (List ℕ)) → old ≡ b ∷ new → IsRest (IsLong n) (p + 1 + l) (p + 1 + n) old → IsRest (IsLong n) (p + 1 + (l + 1)) (p + 1 + n) new
 long_next n p l old new b is r =
     let e : p + 1 + l + 1 ≡ p + 1 + (l + 1) = omega arith in
     subst (λ (k : ℕ). IsRest (IsLong n) k (p + 1 + n) new) e (rest_next (IsLong n) (p + 1 + l) (p + 1 + n) old new b is r)

@@ -12,7 +12,7 @@ invariant_of-self g c =
     let inv = c.self.invariant in
     let stands = subst (λ (o : Option Config). StandsIn o c.args.egress_packet.arrived c.args.egress_packet.parcel.came_by) inv.0 c.arrived-link.ensures.stands in
     let there : c.arrived-link.result < length c.self.inside.free.items = let n = inv.1 in let l = stands.1 in let a = c.arrived-link.ensures.arrived in omega arith in
-    (inv.0, back_long c.arrived-link.result c.self.inside.free.items c.give_back.new.free.items there c.give_back.ensures ∙ inv.1)
+    (inv.0, back_long c.arrived-link.result c.into_buffer.result c.self.inside.free.items c.give_back.new.free.items there c.give_back.ensures ∙ inv.1)
 
 pub fate-requires : goal.fate-requires
 fate-requires g c = (subst (λ (d : Delivery g.row.K.Denot). MayRaise d.share.counts) (sym c.self.view_is) c.requires).3 cause.Closed

@@ -65,9 +65,9 @@ returns-in-Err-offer_at-clause-passed g c =
     (subst (λ (h : Shared). c.in-Ok.at ≡ processor_of (flow_at false c.front.result.now) h.config.seed h.config.processors) c.deref.ensures c.in-Ok.ensures.place) in
     let is : c.new-packet.result ≡ x = c.new-packet.ensures ∙ ap F (c.exchange-read.ensures.bytes ∙ c.another.ensures.room) in
     let kept = subst (λ (p : Arrival kinds). KeptAt c.in-Ok.at p s.processors.items c.offer_at.new.ends.items) is c.in-Err-offer_at.ensures.1 in
-    let reserve = c.keep.ensures ∙ ap (λ (t : Stock). stock (Some tt) t.free) c.exchange-read.ensures.stock in
+    let reserve = c.keep.ensures ∙ ap (λ (t : Stock). stock (Some c.into_buffer.result) t.free) c.exchange-read.ensures.stock in
     seen_as (record { room = s.pool.room; side = side }) c.args.self.now c.self.view_is c.args.number c.args.from c.args.now c.args.len _
-    (in_refused side x c.received.new.self c.received.ensures c.another.new.self.stock c.keep.new.self.stock c.in-Ok.at c.offer_at.new.ends.items c.fate-in-Err-offer_at.new.self clear here kept c.in-Some.ensures.got reserve c.fate-in-Err-offer_at.ensures)
+    (in_refused side x c.received.new.self c.received.ensures c.another.new.self.stock c.keep.new.self.stock c.in-Ok.at c.offer_at.new.ends.items c.fate-in-Err-offer_at.new.self clear here kept c.in-Some.buffer c.in-Some.ensures.got c.into_buffer.result reserve c.fate-in-Err-offer_at.ensures)
 
 pub returns-in_default-offer_at-clause-passed : goal.returns-in_default-offer_at-clause-passed
 returns-in_default-offer_at-clause-passed g c =
@@ -81,6 +81,6 @@ returns-in_default-offer_at-clause-passed g c =
     let is : c.new-packet.result ≡ x = c.new-packet.ensures ∙ ap F (c.exchange-read.ensures.bytes ∙ c.another.ensures.room) in
     let is_gave : GaveAt c.in-Ok.at c.new-packet.result s.processors.items c.offer_at.new.ends.items = c.in_default-offer_at.ensures in
     let gave = subst (λ (p : Arrival kinds). GaveAt c.in-Ok.at p s.processors.items c.offer_at.new.ends.items) is is_gave in
-    let got = subst (λ (t : Stock). Another s.pool.stock true t) (sym c.exchange-read.ensures.stock) c.in-Some.ensures.got in
+    let got = subst (λ (t : Stock). Another s.pool.stock (Some c.in-Some.buffer) t) (sym c.exchange-read.ensures.stock) c.in-Some.ensures.got in
     seen_as (record { room = s.pool.room; side = side }) c.args.self.now c.self.view_is c.args.number c.args.from c.args.now c.args.len _
-    (in_accepted side x c.received.new.self c.received.ensures c.exchange-read.new.self.stock c.in-Ok.at c.offer_at.new.ends.items clear here gave got)
+    (in_accepted side x c.received.new.self c.received.ensures c.exchange-read.new.self.stock c.in-Ok.at c.offer_at.new.ends.items clear here gave c.in-Some.buffer got)

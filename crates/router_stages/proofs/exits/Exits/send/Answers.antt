@@ -26,7 +26,7 @@ invariant_of-self g c =
     let here = pipe_below r c.args.egress_packet c.pipe_for-at.result (length s.links.items) lt at inv.1 in
     let stands = subst (λ (o : Option Config). StandsIn o c.in-Err.egress_packet.arrived c.in-Err.egress_packet.parcel.came_by) inv.0 c.arrived-link.ensures.stands in
     let there : c.arrived-link.result < length s.free.items = let n = inv.2 in let l = stands.1 in let a = c.arrived-link.ensures.arrived in omega arith in
-    (inv.0, kept_long c.pipe_for-at.result c.args.egress_packet s.links.items c.offer_at.new.ends.items here c.in-Err.ensures.1 ∙ inv.1, back_long c.arrived-link.result s.free.items c.give_back.new.free.items there c.give_back.ensures ∙ inv.2)
+    (inv.0, kept_long c.pipe_for-at.result c.args.egress_packet s.links.items c.offer_at.new.ends.items here c.in-Err.ensures.1 ∙ inv.1, back_long c.arrived-link.result c.into_buffer.result s.free.items c.give_back.new.free.items there c.give_back.ensures ∙ inv.2)
 
 pub invariant_of-self-in_default : goal.invariant_of-self-in_default
 invariant_of-self-in_default g c =
@@ -45,7 +45,7 @@ returns-in-Err g c =
     let r = (arc_value s.shared).config in
     let at : c.pipe_for-at.result ≡ pipe_for r c.args.egress_packet = c.pipe_for-at.ensures ∙ ap (λ (h : Shared). pipe_for h.config c.args.egress_packet) c.deref.ensures in
     subst (λ (l : Leaving). SentAs c.args.egress_packet l (record { config = r; links = c.offer_at.new.ends.items; free = c.give_back.new.free.items; share = c.fate.new.self })) c.self.view_is
-    (sent_not r s.links.items c.offer_at.new.ends.items s.free.items c.give_back.new.free.items s.share c.fate.new.self c.args.egress_packet c.in-Err.egress_packet c.pipe_for-at.result c.arrived-link.result at c.in-Err.ensures.1 c.in-Err.ensures.0 c.arrived-link.ensures.arrived c.give_back.ensures c.fate.ensures)
+    (sent_not r s.links.items c.offer_at.new.ends.items s.free.items c.give_back.new.free.items s.share c.fate.new.self c.args.egress_packet c.in-Err.egress_packet c.pipe_for-at.result c.arrived-link.result at c.in-Err.ensures.1 c.in-Err.ensures.0 c.arrived-link.ensures.arrived c.into_buffer.result c.give_back.ensures c.fate.ensures)
 
 pub returns-in_default : goal.returns-in_default
 returns-in_default g c = search rules
