@@ -1,5 +1,5 @@
 -- Workers made of what stood ready are a crew.
-use Rattle.std.proofs.Common.{◌≡◌, ℕ, zero, suc, ◌+◌, ◌*◌, List, [], ◌∷◌, map, length, Some, Result, Ok, Err, MatchResult, slice_get, refl, sym, ◌∙◌, ap, subst, arith}
+use Rattle.std.proofs.Common.{◌≡◌, ℕ, suc, ◌+◌, ◌*◌, List, [], ◌∷◌, map, length, Some, Result, Ok, Err, MatchResult, slice_get, refl, sym, ◌∙◌, ap, subst, arith}
 use Rattle.process_packet.specs.declared.config.Config.{Config}
 use Rattle.pipeline_laws.specs.Item.{Outgoing}
 use Rattle.ruled_pipe.specs.Pipe.{Shape}
@@ -12,7 +12,7 @@ use Rattle.router_stages.specs.Receiving.{Receiving}
 use Rattle.router_stages.specs.Working.{Working}
 use Rattle.router_ends.specs.Rows.{Row}
 use Rattle.router_ends.specs.Shutting.{Shutting}
-use Rattle.run_laws.specs.Crew.{AreForwarding, AreWorking, Crew, IsCrew, IsForwardingAt, IsReceivingAt}
+use Rattle.run_laws.specs.Crew.{AreForwarding, AreWorking, IsCrew, IsReceivingAt}
 use Rattle.wired_workers.specs.Piping.{IsTakerOf, IsWorkingAt, Piping}
 use Rattle.wired_workers.specs.Kits.{Entry, Exit, IsEnteringAt, IsLeavingAt, IsWorkingThere, forwardings, receivings}
 use Rattle.run_parts.specs.WorkerParts.{AreWorkerParts}

@@ -1,5 +1,5 @@
 -- How a link is closed: by a closing mark in each of its pipes, one a band.
-use Rattle.std.specs.Prelude.{◌≡◌, ◌+◌, ◌*◌, ◌<◌, ℕ, suc, Bool, true, List, Result, Ok, Err, length, slice_get, slice_index_or}
+use Rattle.std.specs.Prelude.{◌≡◌, ◌+◌, ◌*◌, ◌<◌, ℕ, Bool, true, List, Result, Ok, Err, slice_get, slice_index_or}
 use Rattle.process_packet.specs.declared.config.Config.{Config}
 use Rattle.router_rules.specs.Links.{has_two_bands, link_count, link_index}
 use Rattle.ruled_pipe.specs.Pipe.{Shape}

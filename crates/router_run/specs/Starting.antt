@@ -1,5 +1,5 @@
 -- How a router starts.
-use Rattle.std.specs.Prelude.{◌≡◌, ◌*◌, ℕ, List, map, length}
+use Rattle.std.specs.Prelude.{◌≡◌, ℕ, List, map, length}
 use Rattle.process_packet.specs.declared.config.Config.{Config}
 use Rattle.router_stages.specs.Forwarding.{Forwarding}
 use Rattle.router_stages.specs.Receiving.{Receiving}

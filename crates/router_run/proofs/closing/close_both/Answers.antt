@@ -1,5 +1,5 @@
-use Rattle.std.proofs.Common.{◌≡◌, ◌∙◌, ◌+◌, ◌*◌, ◌<◌, ℕ, length, suc, sym, ap, arith}
-use Rattle.router_rules.specs.Links.{has_two_bands, link_count}
+use Rattle.std.proofs.Common.{◌≡◌, ◌∙◌, ◌+◌, ◌*◌, ◌<◌, length, sym, ap, arith}
+use Rattle.router_rules.specs.Links.{has_two_bands}
 use Rattle.stage_parts.proofs.UsedLemmas.{used_high, used_low}
 use Rattle.router_run.proofs.closing.close_both.Goals as goal
 

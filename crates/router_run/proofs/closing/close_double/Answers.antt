@@ -1,4 +1,4 @@
-use Rattle.std.proofs.Common.{◌≡◌, ◌∙◌, ◌+◌, ◌<◌, ℕ, Bool, true, false, length, refl, sym, arith}
+use Rattle.std.proofs.Common.{◌∙◌, ◌+◌, ◌<◌, true, false, length, sym, arith}
 use Rattle.std.proofs.lemmas.Bool.{false≢true}
 use Rattle.router_run.proofs.ClosingLemmas.{closed_read, double_already, double_full, double_pushed, double_tried, high_then, used_after}
 use Rattle.router_run.proofs.closing.close_double.Goals as goal

@@ -1,4 +1,4 @@
-use Rattle.std.proofs.Common.{◌≡◌, ◌∙◌, Err, Ok, Result, ap, subst}
+use Rattle.std.proofs.Common.{◌∙◌, Err, Result, ap, subst}
 use Rattle.router_ends.specs.Shutting.{ClosesAt}
 use Rattle.router_ends.specs.declared.shutter.CloseFault.{CloseFault}
 use Rattle.router_run.proofs.ClosingLemmas.{long_stays, others_stay, pushed_now, refused_now, there_before}

@@ -1,5 +1,5 @@
-use Rattle.std.proofs.Common.{◌≡◌, ◌∙◌, false, true, refl, sym}
-use Rattle.router_run.proofs.ClosingLemmas.{closed_read, single_already, single_full, single_pushed, single_tried}
+use Rattle.std.proofs.Common.{◌∙◌}
+use Rattle.router_run.proofs.ClosingLemmas.{closed_read, single_already, single_pushed, single_tried}
 use Rattle.router_run.proofs.closing.close_single.Goals as goal
 
 pub returns-then-is_closed-clause-closes : goal.returns-then-is_closed-clause-closes

@@ -1,7 +1,5 @@
-use Rattle.std.proofs.Common.{Some, length, sym, ◌∙◌, ap, subst}
+use Rattle.std.proofs.Common.{sym, subst}
 use Rattle.router_ends.specs.Rows.{AreEndsOf}
-use Rattle.router_rules.specs.Links.{link_count}
-use Rattle.router_rules.specs.declared.shared.Shared.{Shared}
 use Rattle.stage_parts.specs.Outlets.{senders}
 use Rattle.wired_workers.proofs.OkLemmas.{of_ok}
 use Rattle.wired_workers.proofs.middle.slow_path_with.Goals as goal
