@@ -1,6 +1,6 @@
 //! The router that datagrams of tests and benches cross.
 
-ghost use Rattle.std.specs.Prelude.{◌≡◌, IfOk};
+ghost use Rattle.std.specs.Prelude.{◌≡◌, [], ◌∷◌, map, IfOk};
 ghost use Rattle.router_rules.specs.Links.{link_count};
 
 use cmac_core::Cmac;
@@ -24,6 +24,7 @@ fn link(id: u16, net: u8, kind: LinkKind, bands: Bands) -> Link
     ensures id { result.id ≡ id }
     ensures local { result.local.port ≡ 40000 }
     ensures remote { result.remote.port ≡ 40000 }
+    ensures bands { result.bands ≡ bands }
 {
     Link {
         id,
@@ -37,7 +38,8 @@ fn link(id: u16, net: u8, kind: LinkKind, bands: Bands) -> Link
 /// The first datagram's router, of 1-ff00:0:110, with one processor, a parent and a core link, and a child
 /// link, link 2, of these bands. It is made without its text: a reader of texts makes each proof above it dear.
 pub fn router(alloc: Global, bands: Bands) -> Result<Config, AllocError>
-    ensures { IfOk result (λ c. (link_count c ≡ 4) × (c.processors ≡ 1)) }
+    ensures counts { IfOk result (λ c. (link_count c ≡ 4) × (c.processors ≡ 1)) }
+    ensures bands { IfOk result (λ c. map (λ l. l.bands) c.links.items ≡ Bands.One ∷ bands ∷ Bands.One ∷ []) }
 {
     let links = vec![in alloc;
         link(1, 1, LinkKind::Parent, Bands::One),
