@@ -2,8 +2,9 @@
 """Runs the gate, and then prints the processor time that it took: of each crate, the proof, its tests and its wrong bodies.
 
 What an earlier run on this machine passed is taken as it is, where the kit's gate does so; with `--anew` all is done
-again, which is what a gate without that word always does. The table goes to standard error, in seconds of user and
-system time of the processes that the gate waited for.
+again, which is what a gate without that word always does. With `--again NAME..` the gate runs over these crates and
+those below them alone, and does again what is of these. The table goes to standard error, in seconds of user and system
+time of the processes that the gate waited for.
 """
 
 import collections
@@ -69,12 +70,30 @@ def table():
     yield "all", *(round(sum(taken for (_, of), taken in seconds.items() if of == part)) for part in parts)
 
 
+def forget(rt, crates):
+    """Has the gate take nothing of these crates from earlier runs."""
+    give, of_edit, keep_tried = rt.Kept.give, rt.Kept.of_edit, rt.Kept.keep_tried
+
+    def name_of(kept, edit, of):
+        crate = os.path.basename(os.path.dirname(os.path.dirname(edit)))
+        return "" if crate in crates else of_edit(kept, edit, of)
+
+    rt.Kept.give = lambda kept, crate, *of: crate.name not in crates and give(kept, crate, *of)
+    rt.Kept.of_edit = name_of
+    rt.Kept.keep_tried = lambda kept, name, *of: keep_tried(kept, name, *of) if name else None
+
+
 def main():
     path = os.path.realpath(shutil.which("rt"))
     with open(path, encoding="utf-8") as file:
         if "--anew" not in file.read():
             sys.argv = [it for it in sys.argv if it != "--anew"]
+    again = "--again" in sys.argv
+    sys.argv = [it for it in sys.argv if it != "--again"]
+    names = sys.argv[1:]
     rt = load(path)
+    if again:
+        forget(rt, names)
     subprocess.Popen._try_wait = wait_for
     rt.in_lanes = noting_edits(rt.in_lanes)
     status = rt.main(sys.argv[1:])
