@@ -1,8 +1,6 @@
-//! Why the program `router` ends before its work is done, and with which status after text of its own.
+//! Why the program `router` ends before its work is done.
 #![tactic(auto)]
 
 mod fault;
-mod status;
 
 pub use fault::Fault;
-pub use status::status_of_words;

@@ -3,11 +3,13 @@
 //! steps of the pipeline, one a line; `router check --config FILE` tells whether a configuration is good.
 #![tactic(auto)]
 
+ghost use Rattle.std.specs.Prelude.{◌≡◌, true, false};
+
 use command_words::{Order, WordsFault, read_words};
 use process_packet::{Config, Underlay};
 use router_config::{ConfigFault, fault_words, read_config};
 use router_engine::{replay_lines, route_lines};
-use router_faults::{Fault, status_of_words};
+use router_faults::Fault;
 use router_lines::{ArrivalContext, usual_source};
 use std::alloc::Global;
 use std::io::BufReader;
@@ -146,6 +148,15 @@ where
     }
 }
 
+/// The exit status after the command line's own text was printed: 2 for words that give no order, 0 for help
+/// and the version, which were asked for.
+fn status_of(is_error: bool) -> u8
+    ensures error { is_error ≡ true → result ≡ 2 }
+    ensures help { is_error ≡ false → result ≡ 0 }
+{
+    if is_error { 2 } else { 0 }
+}
+
 fn main(rt: HostRuntime) -> ExitCode {
     // The descriptor of a standard stream that was closed before goes to what is opened next. That may be
     // no socket, whose datagrams would be read as commands: so these take them, to the end.
@@ -160,7 +171,7 @@ fn main(rt: HostRuntime) -> ExitCode {
     // Help is printed as the words' fault; where that fails, the output's fault is the answer.
     let fault = match fault {
         Fault::Words(WordsFault::Told(error)) => match error.print(&rt) {
-            Ok(()) => return ExitCode::from(status_of_words(error.use_stderr())),
+            Ok(()) => return ExitCode::from(status_of(error.use_stderr())),
             Err(error) => Fault::of_output(error),
         },
         other => other,
