@@ -9,11 +9,11 @@ use Rattle.ruled_pipe.specs.declared.entry.Mark.TheVariants.{Close, End}
 use Rattle.ruled_pipe.specs.Producer.{Sender}
 use Rattle.ruled_pipe.specs.Pipe.{Shape}
 use Rattle.stage_laws.specs.Ends.{load_in, pushes}
-use Rattle.stage_parts.specs.Outlet.{Offering, IsMarked, NoClose, is_closing}
+use Rattle.stage_parts.specs.Outlet.{Offering, IsMarked, NoClose, is_closing, offering}
 use Rattle.stage_parts.specs.Outlets.{AreFresh, senders}
 use Rattle.router_ends.specs.Rows.{AreEndsOf, IsBundle, fresh_ends}
 use Rattle.router_ends.specs.Settled.{IsFinal, AreFinished}
-use Rattle.router_ends.specs.Handing.{AreMarked, Finishes, NeverClosed}
+use Rattle.router_ends.specs.Handing.{AreMarked, Finishes, HaveEvents, NeverClosed}
 
 new_ends : (T : Type 0) (p : ℕ) (shapes : List Shape) → AreEndsOf {T = T} p shapes (fresh_ends {T = T} p shapes)
 new_ends T p [] = tt
@@ -45,11 +45,22 @@ module _ {T : Type 0} where
   fresh_more [] o f a b c = (a, b, c, tt)
   fresh_more (x ∷ os) o f a b c = (f.0, f.1, f.2, fresh_more os o f.3 a b c)
 
-  pub outlets_more : (os : List (Offering T)) (xs : List (Sender T)) (e : Sender T) (o : Offering T) → senders os ≡ xs → AreFresh os → o.sender ≡ e → o.ended ≡ false → (e.offers ≡ []) × (e.refusals ≡ []) → (senders (os ++ o ∷ []) ≡ xs ++ e ∷ []) × AreFresh (os ++ o ∷ [])
-  outlets_more os xs e o same fresh is owed new = (
-    senders_more os o ∙ (ap (λ (l : List (Sender T)). l ++ o.sender ∷ []) same ∙ ap (λ (x : Sender T). xs ++ x ∷ []) is),
-    fresh_more os o fresh owed (ap (λ (x : Sender T). x.offers) is ∙ new.0) (ap (λ (x : Sender T). x.refusals) is ∙ new.1),
-  )
+  events_more : (there : ℕ → Bool) (k n : ℕ) (os : List (Offering T)) (o : Offering T) → HaveEvents there k os → n ≡ k + length os → o.wakes ≡ there n → HaveEvents there k (os ++ o ∷ [])
+  events_more there k n [] o have at is = let same : n ≡ k = omega arith in (is ∙ ap there same, tt)
+  events_more there k n (x ∷ os) o have at is = (have.0, events_more there (suc k) n os o have.1 (omega arith) is)
+
+  -- one end more in a worker's hands, which is the one at place n
+  pub outlets_more : (there : ℕ → Bool) (n : ℕ) (wakes : Bool) (os new : List (Offering T)) (xs : List (Sender T)) (e : Sender T) (o : Offering T) → new ≡ os ++ o ∷ [] → n ≡ length os
+      → (senders os ≡ xs) × AreFresh os × HaveEvents there 0 os → o ≡ offering e false wakes → wakes ≡ there n → (e.offers ≡ []) × (e.refusals ≡ []) → (senders new ≡ xs ++ e ∷ []) × AreFresh new × HaveEvents there 0 new
+  outlets_more there n wakes os new xs e o more at were is event none =
+      let sender = ap (λ (x : Offering T). x.sender) is in
+      let P : List (Offering T) → Type 0 = λ l. (senders l ≡ xs ++ e ∷ []) × AreFresh l × HaveEvents there 0 l in subst
+      P
+      (sym more) (
+        senders_more os o ∙ (ap (λ (l : List (Sender T)). l ++ o.sender ∷ []) were.0 ∙ ap (λ (x : Sender T). xs ++ x ∷ []) sender),
+        fresh_more os o were.1 (ap (λ (x : Offering T). x.ended) is) (ap (λ (x : Sender T). x.offers) sender ∙ none.0) (ap (λ (x : Sender T). x.refusals) sender ∙ none.1),
+        events_more there 0 n os o were.2 (omega arith) (ap (λ (x : Offering T). x.wakes) is ∙ event),
+      )
 
   pub marked_more : (os : List (Offering T)) (o : Offering T) → AreMarked os → IsMarked o.sender o.ended → AreMarked (os ++ o ∷ [])
   marked_more [] o a is = (is, tt)

@@ -1,5 +1,5 @@
 -- Bundles of ends in the workers' hands.
-use Rattle.std.specs.Prelude.{◌≡◌, ℕ, Bool, false, List, [], ◌∷◌, slice_get, Some}
+use Rattle.std.specs.Prelude.{◌≡◌, ℕ, suc, Bool, false, List, [], ◌∷◌, slice_get, Some}
 use Rattle.pipeline_laws.specs.Deeds.{has_mark}
 use Rattle.ruled_pipe.specs.Producer.{Sender}
 use Rattle.ruled_pipe.specs.Pipe.{Shape}
@@ -14,6 +14,11 @@ module _ {T : Type 0} where
   abbrev pub AreMarked : List (Offering T) → Type 0
   AreMarked [] = Unit {0}
   AreMarked (o ∷ os) = IsMarked o.sender o.ended × AreMarked os
+
+  -- from a place on, those have an event at whose places there is one
+  abbrev pub HaveEvents : (ℕ → Bool) → ℕ → List (Offering T) → Type 0
+  HaveEvents there k [] = Unit {0}
+  HaveEvents there k (o ∷ os) = (o.wakes ≡ there k) × HaveEvents there (suc k) os
 
   -- none of them ever closed its pipe
   abbrev pub NeverClosed : List (Sender T) → Type 0

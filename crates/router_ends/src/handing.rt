@@ -1,7 +1,7 @@
 //! A bundle in a worker's hands, and as it comes back.
 
-ghost use Rattle.std.specs.Prelude.{◌≡◌, ◌≤◌, ◌<◌, [], ℕ, List, IfOk, length};
-ghost use Rattle.router_ends.specs.Handing.{AreMarked, NeverClosed};
+ghost use Rattle.std.specs.Prelude.{◌≡◌, ◌≤◌, ◌<◌, ◌/◌, [], ℕ, List, IfOk, is_some, length, slice_get};
+ghost use Rattle.router_ends.specs.Handing.{AreMarked, HaveEvents, NeverClosed};
 ghost use Rattle.router_ends.specs.Rows.{AreEndsOf, IsBundle, fresh_ends};
 ghost use Rattle.ruled_pipe.specs.Pipe.{Shape};
 ghost use Rattle.stage_parts.specs.Outlets.{AreFresh, senders};
@@ -12,7 +12,9 @@ use std::alloc::{AllocError, Global};
 use std::sync::Arc;
 
 // The event of a number, for one end more; none where there is no such event.
-fn event_at(events: &[Event], number: usize) -> Result<Option<Event>, AllocError> {
+fn event_at(events: &[Event], number: usize) -> Result<Option<Event>, AllocError>
+    ensures { IfOk result (λ e. is_some e ≡ is_some (slice_get events.now number)) }
+{
     match events.get(number) {
         Some(event) => Ok(Some(Arc::try_clone(event)?)),
         None => Ok(None),
@@ -31,6 +33,7 @@ pub fn outlets<T: Drop>(
     requires pipes { 0 < pipes }
     ensures same { IfOk result (λ o. senders o.items ≡ bundle.ends) }
     ensures fresh { IfOk result (λ o. AreFresh o.items) }
+    ensures wakes { IfOk result (λ o. HaveEvents (λ k. is_some (slice_get events.now (k / pipes))) 0 o.items) }
     ensures ends { IfOk result (λ o. (p : ℕ) (shapes : List Shape) → bundle.ends ≡ fresh_ends p shapes → AreEndsOf p shapes (senders o.items)) }
 {
     let items = bundle.into_items();

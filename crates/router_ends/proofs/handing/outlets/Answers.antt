@@ -1,7 +1,6 @@
-use Rattle.std.proofs.Common.{rules, ◌≡◌, List, [], ◌∷◌, ◌++◌, length, sym, ap, subst, ◌∙◌, append_assoc, append-nil, arith}
+use Rattle.std.proofs.Common.{rules, ◌≡◌, ◌/◌, ℕ, Bool, is_some, slice_get, [], ◌∷◌, ◌++◌, length, sym, ap, ◌∙◌, append_assoc, append-nil, arith}
 use Rattle.std.specs.Vec.Iter.{into_iter_items}
-use Rattle.stage_parts.specs.Outlet.{Offering}
-use Rattle.stage_parts.specs.Outlets.{AreFresh, senders}
+use Rattle.stage_parts.specs.Outlets.{senders}
 use Rattle.router_ends.proofs.HandingLemmas.{ends_of_new, fresh_one, nothing_left, outlets_more}
 use Rattle.router_ends.proofs.handing.outlets.Goals as goal
 
@@ -17,15 +16,15 @@ loop-end-preserved g c =
     let x = c.in-Some.end in
     let steps = c.in-Some.ensures.steps.0 in
     let split = ap (λ l. at.yielded ++ l) (sym steps) ∙ at.invariant.3 ∙ at.invariant.5 in
-    let P : List (Offering g.row.T.Denot) → Type 0 = λ l. (senders l ≡ at.yielded ++ x ∷ []) × AreFresh l in
-    let more = outlets_more at.outlets.items at.yielded x c.of.result at.invariant.0 at.invariant.1 (ap (λ (o : Offering g.row.T.Denot). o.sender) c.of.ensures) (ap (λ (o : Offering g.row.T.Denot). o.ended) c.of.ensures) (fresh_one c.args.bundle.ends at.yielded _ x c.requires.bundle split) in
-    let here = subst P (sym c.push_reserved.ensures.items) more in (
+    let there : ℕ → Bool = λ k. is_some (slice_get c.args.events.now (k / c.args.pipes)) in
+    let here = outlets_more there c.len-in-loop-end.result _ at.outlets.items _ at.yielded x c.of.result c.push_reserved.ensures.items (let n = c.len-in-loop-end.ensures in omega arith) (at.invariant.0, at.invariant.1, at.invariant.6) c.of.ensures c.in_ok-event.ensures (fresh_one c.args.bundle.ends at.yielded _ x c.requires.bundle split) in (
       here.0,
       here.1,
       rw c.push_reserved.ensures.capacity at.invariant.2,
       append_assoc at.yielded (x ∷ []) _ ∙ rw (← steps) at.invariant.3,
       (let was = at.invariant.4 in let gone = c.in-Some.ensures.steps.1 in let short = ap length steps in omega arith),
       at.invariant.5,
+      here.2,
     )
 
 pub returns-clause-ends : goal.returns-clause-ends

@@ -1,6 +1,7 @@
-use Rattle.std.proofs.Common.{◌≡◌, ◌++◌, ◌≤◌, length, vec_capacity}
+use Rattle.std.proofs.Common.{◌≡◌, ◌++◌, ◌≤◌, ◌/◌, is_some, length, slice_get, vec_capacity}
 use Rattle.std.specs.Vec.Iter.{into_iter_items, into_iter_len}
 use Rattle.stage_parts.specs.Outlets.{AreFresh, senders}
+use Rattle.router_ends.specs.Handing.{HaveEvents}
 use Rattle.router_ends.proofs.handing.outlets.Given as goal
 
 abbrev pub invariant-loop-end : goal.invariant-loop-end
@@ -11,3 +12,4 @@ invariant-loop-end g l =
     × (l.yielded ++ into_iter_items l.end-iterator ≡ into_iter_items l.initial.end-iterator)
     × (into_iter_len l.end-iterator ≡ length (into_iter_items l.end-iterator))
     × (into_iter_items l.initial.end-iterator ≡ l.fn.bundle.ends)
+    × HaveEvents (λ k. is_some (slice_get l.fn.events (k / l.fn.pipes))) 0 l.outlets.items
