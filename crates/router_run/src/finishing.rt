@@ -17,7 +17,7 @@ ghost use Rattle.router_run.specs.Run.{HasRun, IsParted, IsSized, crew_of, share
 use crate::parting::{part_forwarders, part_processors, part_receivers, part_slow};
 use packet_ledger::{Book, Share};
 use process_packet::Totals;
-use router_ends::{Ends, Shutter, bare_shutters, gather_all, gather_one, mark_all};
+use router_ends::{Ends, Line, Shutter, bare_shutters, gather_all, gather_one, mark_all};
 use router_rules::{Shared, causes_are_apart, link_count, links_stand_in_order, rules_are_lawful};
 use router_stages::{Forwarder, Processor, Receiver, SlowPath};
 use ruled_pipe::Consumer;
@@ -28,7 +28,7 @@ use std::marker::Model;
 use std::rt::Clock;
 use std::sync::Wait;
 use std::thread::Threads;
-use wired_workers::{Line, Pipes, notify_all};
+use wired_workers::{Pipes, notify_all};
 use worker_threads::{Handle, Orders, join_all};
 
 /// What a run came to.

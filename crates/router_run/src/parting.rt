@@ -13,12 +13,11 @@ ghost use Rattle.run_laws.specs.Ended.{takers_of};
 ghost use Rattle.run_parts.specs.Room.{IsRoomy};
 
 use packet_ledger::Share;
-use router_ends::{Ends, bare};
+use router_ends::{Ends, Line, bare};
 use router_stages::{Forwarder, Processor, Receiver, SlowPath};
 use ruled_pipe::Consumer;
 use stage_parts::{EgressPacket, Gate, Packet, Router, Sink, SlowPathRequest, Source};
 use std::sync::Wait;
-use wired_workers::Line;
 
 /// The receivers' ends, sources and shares.
 pub fn part_receivers<N: Router, S: Source + Drop, R: Wait + Copy>(

@@ -12,7 +12,7 @@ ghost use Rattle.run_parts.specs.WorkerParts.{AreWorkerParts};
 ghost use Rattle.wired_workers.specs.Rest.{AreNewShares, IsRest};
 
 use packet_ledger::Share;
-use router_ends::{Ends, Shutter, shutters};
+use router_ends::{Ends, Line, Shutter, shutters};
 use router_rules::{Shared, link_count};
 use router_stages::{Processor, SlowPath};
 use ruled_pipe::{Consumer, Producer};
@@ -21,8 +21,8 @@ use std::alloc::{AllocError, Global};
 use std::sync::atomic::AtomicU64;
 use std::sync::{Arc, Wait};
 use wired_workers::{
-    AllPipes, Deciding, Entering, Events, Leaving, Line, Pipes, all_entering, all_leaving,
-    all_pipes, deciding_of,
+    AllPipes, Deciding, Entering, Events, Leaving, Pipes, all_entering, all_leaving, all_pipes,
+    deciding_of,
 };
 
 /// The pipes, and what the workers are made of, before any device is taken.

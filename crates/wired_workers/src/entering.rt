@@ -14,10 +14,9 @@ ghost use Rattle.wired_workers.specs.Dealing.{IsUnlooked};
 ghost use Rattle.wired_workers.specs.Kits.{IsEnteringAt, receivings};
 ghost use Rattle.wired_workers.specs.Rest.{AreNewShares, HaveGone, IsRest};
 
-use crate::line::Line;
 use crate::waking::Events;
 use packet_ledger::Share;
-use router_ends::{Ends, outlets};
+use router_ends::{Ends, Line, outlets};
 use router_rules::{Shared, link_count};
 use router_stages::Receiver;
 use ruled_pipe::{Consumer, Pipe};

@@ -12,9 +12,8 @@ ghost use Rattle.wired_workers.specs.Dealing.{IsLong};
 ghost use Rattle.wired_workers.specs.Kits.{IsLeavingAt, forwardings};
 ghost use Rattle.wired_workers.specs.Rest.{AreNewShares, IsRest};
 
-use crate::line::Line;
 use packet_ledger::Share;
-use router_ends::Ends;
+use router_ends::{Ends, Line};
 use router_rules::{Shared, link_count};
 use router_stages::{Band, Forwarder};
 use ruled_pipe::{Consumer, Pipe, Producer};

@@ -4,14 +4,12 @@
 
 mod entering;
 mod leaving;
-mod line;
 mod middle;
 mod pipes;
 mod waking;
 
 pub use entering::{Entering, all_entering, receivers_of};
 pub use leaving::{Leaving, all_leaving, forwarders_of};
-pub use line::Line;
 pub use middle::{Deciding, deciding_of};
 pub use pipes::{AllPipes, FreePipes, Pipes, all_pipes};
 pub use waking::{Events, events_for, notify_all, notify_one};

@@ -12,11 +12,10 @@ ghost use Rattle.wired_workers.specs.Dealing.{IsBundleOf, IsLong, IsNewEnd, pipi
 ghost use Rattle.wired_workers.specs.Kits.{IsWorkingThere};
 ghost use Rattle.wired_workers.specs.Rest.{AreNewShares, HaveGone, IsRest};
 
-use crate::line::Line;
 use crate::pipes::Pipes;
 use crate::waking::Events;
 use packet_ledger::Share;
-use router_ends::{Ends, outlets};
+use router_ends::{Ends, Line, outlets};
 use router_rules::{Shared, link_count};
 use router_stages::{Processor, SlowPath};
 use ruled_pipe::{Consumer, Pipe, Producer};
