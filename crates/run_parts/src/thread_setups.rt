@@ -7,7 +7,8 @@ use std::alloc::{AllocError, Global};
 use wired_workers::Events;
 use worker_threads::{Handle, Orders, Work};
 
-/// Orders for the threads of workers of one kind, each with its worker's event if it has one, room for the workers and for the threads' handles.
+/// Orders for the threads of workers of one kind, each with its worker's event if it has one, and room for
+/// the workers and for the threads' handles.
 #[derive(Drop)]
 pub struct ThreadSetup<N: Router, W: Work<N>> {
     pub workers: Vec<W>,

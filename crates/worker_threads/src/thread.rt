@@ -46,8 +46,8 @@ struct Pace {
 // After this many turns in a row that did something, a thread naps once before it sleeps.
 const SEVERAL: u32 = 2;
 
-// After a wait that one turn alone did something after, so many such turns are each followed by a wait at
-// once: where packets come one by one, a turn between would find nothing.
+// Where just one turn did something between two waits, packets come one by one, and a further turn would
+// find nothing: so many of the next turns that do something are each followed by a wait at once.
 const ALONE: u32 = 15;
 
 impl Pace {
