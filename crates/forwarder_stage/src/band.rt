@@ -10,7 +10,6 @@ use std::marker::Model;
 use std::sync::Wait;
 
 /// A consumer that counts the end marks that it took, and keeps whether a closing mark was taken.
-#[derive(Drop)]
 pub struct Band<N: Router> {
     consumer: Consumer<EgressPacket<N>>,
     producers: usize,
@@ -29,6 +28,18 @@ impl<N: Router> Model for Band<N> {
     ghost view = { λ b. band b.consumer b.shut };
 
     ghost invariant = { λ b. (b.producers ≡ b.consumer.producers) × (b.ends ≡ min (ends_in b.consumer.taken) b.producers) };
+}
+
+// Not derived: a derived drop is proved again in each crate that drops one.
+impl<N: Router> Drop for Band<N> {
+    fn drop(self) {
+        let Band {
+            consumer: _,
+            producers: _,
+            ends: _,
+            shut: _,
+        } = self;
+    }
 }
 
 fn closes(mark: Mark) -> bool

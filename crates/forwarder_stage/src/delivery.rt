@@ -16,7 +16,6 @@ use std::marker::Model;
 use std::sync::{Arc, Wait};
 
 /// A link's sink, the ends of the links' pipes of free buffers, and the counts.
-#[derive(Drop)]
 pub struct Delivery<N: Router, R, K: Sink> {
     pub(crate) rt: R,
     pub(crate) shared: Arc<Shared, Global>,
@@ -36,6 +35,19 @@ impl<N: Router, R, K: Sink> Model for Delivery<N, R, K> {
     ghost view = { λ d. record { config = (arc_value d.shared).config; sink = d.sink; free = d.free.items; share = d.share } };
 
     ghost invariant = { λ d. (N.config ≡ Some (arc_value d.shared).config) × (length d.free.items ≡ link_count (arc_value d.shared).config) };
+}
+
+// Not derived: a derived drop is proved again in each crate that drops one.
+impl<N: Router, R: Drop, K: Sink + Drop> Drop for Delivery<N, R, K> {
+    fn drop(self) {
+        let Delivery {
+            rt: _,
+            shared: _,
+            sink: _,
+            free: _,
+            share: _,
+        } = self;
+    }
 }
 
 // Counts what was handed to a sink.

@@ -21,7 +21,6 @@ use std::sync::{Arc, Wait};
 
 /// Takes what leaves from the pipes of its link, the high band's first, and hands it to the link's sink.
 /// What comes after a closing mark in a pipe is swept.
-#[derive(Drop)]
 pub struct Forwarder<N: Router, R, K: Sink> {
     rt: R,
     link: u16,
@@ -40,6 +39,20 @@ impl<N: Router, R, K: Sink> Model for Forwarder<N, R, K> {
     ghost view = { λ f. record { link = f.link; low = f.low; high = f.high; began = f.began; side = f.delivery } };
 
     ghost invariant = { λ f. KeepsForwarding K.told K.failed f.low f.high f.began f.delivery };
+}
+
+// Not derived: a derived drop is proved again in each crate that drops one.
+impl<N: Router, R: Drop, K: Sink + Drop> Drop for Forwarder<N, R, K> {
+    fn drop(self) {
+        let Forwarder {
+            rt: _,
+            link: _,
+            low: _,
+            high: _,
+            began: _,
+            delivery: _,
+        } = self;
+    }
 }
 
 impl<N: Router, R: Wait + Copy, K: Sink> Forwarder<N, R, K> {

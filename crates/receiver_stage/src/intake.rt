@@ -20,7 +20,6 @@ use std::marker::Model;
 use std::sync::{Arc, Wait};
 
 /// A receiver's side of its link: its buffers, its ends of the processors' pipes, and its counts.
-#[derive(Drop)]
 pub struct Intake<N: Router, R> {
     pub(crate) rt: R,
     pub(crate) shared: Arc<Shared, Global>,
@@ -42,6 +41,21 @@ impl<N: Router, R> Model for Intake<N, R> {
     ghost view = { λ i. record { room = i.pool.room; side = record { config = (arc_value i.shared).config; link = i.link; interface = i.interface; stock = i.pool.stock; processors = i.processors.items; share = i.share } } };
 
     ghost invariant = { λ i. (N.config ≡ Some (arc_value i.shared).config) × StandsIn N.config i.link i.interface × (length i.processors.items ≡ (arc_value i.shared).config.processors) };
+}
+
+// Not derived: a derived drop is proved again in each crate that drops one.
+impl<N: Router, R: Drop> Drop for Intake<N, R> {
+    fn drop(self) {
+        let Intake {
+            rt: _,
+            shared: _,
+            link: _,
+            interface: _,
+            pool: _,
+            processors: _,
+            share: _,
+        } = self;
+    }
 }
 
 impl<N: Router, R: Wait + Copy> Intake<N, R> {

@@ -12,7 +12,6 @@ use std::mem;
 use std::sync::Wait;
 
 /// The buffer into which datagrams are read, at times one in reserve, and the pipe of the free ones.
-#[derive(Drop)]
 pub struct Pool<R> {
     rt: R,
     room: ReadBuffer,
@@ -26,6 +25,18 @@ impl<R> Model for Pool<R> {
     ghost Value = { Pooled };
 
     ghost view = { λ p. record { room = p.room; stock = stock p.spare p.free } };
+}
+
+// Not derived: a derived drop is proved again in each crate that drops one.
+impl<R: Drop> Drop for Pool<R> {
+    fn drop(self) {
+        let Pool {
+            rt: _,
+            room: _,
+            spare: _,
+            free: _,
+        } = self;
+    }
 }
 
 // The buffer of an entry; none of a mark.

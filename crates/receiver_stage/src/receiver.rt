@@ -29,7 +29,6 @@ const LAST_NUMBER: u64 = 1 << 56;
 
 /// Takes datagrams from the source of a link, numbers them from 1 on, and passes them on to the
 /// processors of their flows.
-#[derive(Drop)]
 pub struct Receiver<N: Router, R, S: Source> {
     stop: Arc<AtomicU64, Global>,
     number: u64,
@@ -46,6 +45,19 @@ impl<N: Router, R, S: Source> Model for Receiver<N, R, S> {
     ghost view = { λ r. record { number = r.number; source = r.source; ended = r.ended; side = r.intake.side } };
 
     ghost invariant = { λ r. KeepsReceiving (S.told r.source) r.number r.ended r.intake.side };
+}
+
+// Not derived: a derived drop is proved again in each crate that drops one.
+impl<N: Router, R: Drop, S: Source + Drop> Drop for Receiver<N, R, S> {
+    fn drop(self) {
+        let Receiver {
+            stop: _,
+            number: _,
+            source: _,
+            intake: _,
+            ended: _,
+        } = self;
+    }
 }
 
 impl<N: Router, R: Wait + Copy, S: Source> Receiver<N, R, S> {

@@ -9,7 +9,6 @@ use std::marker::Model;
 
 /// Producers in a row: one worker's, in the order of their pipes, or one pipe's, in the order of their
 /// numbers. Contracts see them with how many there is room for.
-#[derive(Drop)]
 pub struct Ends<T> {
     items: Vec<Producer<T>>,
 }
@@ -21,6 +20,13 @@ impl<T> Model for Ends<T> {
     ghost Value = { Row T };
 
     ghost view = { λ e. record { ends = e.items.items; room = vec_capacity e.items } };
+}
+
+// Not derived: a derived drop is proved again in each crate that drops one.
+impl<T: Drop> Drop for Ends<T> {
+    fn drop(self) {
+        let Ends { items: _ } = self;
+    }
 }
 
 impl<T: Drop> Ends<T> {
@@ -46,7 +52,8 @@ impl<T: Drop> Ends<T> {
         ensures ends { result.items ≡ self.ends }
         ensures room { vec_capacity result ≡ self.room }
     {
-        self.items
+        let Ends { items } = self;
+        items
     }
 
     /// Takes the last one off. The room stays.

@@ -19,7 +19,6 @@ pub enum CloseFault {
 
 /// A producer that pushes marks alone: a closing mark at most, and its end mark last. A pipe that is not
 /// used gets neither.
-#[derive(Drop)]
 pub struct Shutter<T> {
     producer: Producer<T>,
     used: bool,
@@ -35,6 +34,18 @@ impl<T> Model for Shutter<T> {
     ghost view = { λ s. shutting s.producer s.used s.closed s.ended };
 
     ghost invariant = { λ s. IsShutting (shutting s.producer s.used s.closed s.ended) };
+}
+
+// Not derived: a derived drop is proved again in each crate that drops one.
+impl<T: Drop> Drop for Shutter<T> {
+    fn drop(self) {
+        let Shutter {
+            producer: _,
+            used: _,
+            closed: _,
+            ended: _,
+        } = self;
+    }
 }
 
 impl<T: Drop> Shutter<T> {

@@ -20,7 +20,6 @@ use std::marker::Model;
 use std::sync::{Arc, Wait};
 
 /// The ends of the links' pipes, two of each link, and of their pipes of free buffers, with the counts.
-#[derive(Drop)]
 pub struct Exits<N: Router, R> {
     pub(crate) rt: R,
     pub(crate) shared: Arc<Shared, Global>,
@@ -40,6 +39,19 @@ impl<N: Router, R> Model for Exits<N, R> {
     ghost view = { λ e. record { config = (arc_value e.shared).config; links = e.links.items; free = e.free.items; share = e.share } };
 
     ghost invariant = { λ e. (N.config ≡ Some (arc_value e.shared).config) × (length e.links.items ≡ 2 * link_count (arc_value e.shared).config) × (length e.free.items ≡ link_count (arc_value e.shared).config) };
+}
+
+// Not derived: a derived drop is proved again in each crate that drops one.
+impl<N: Router, R: Drop> Drop for Exits<N, R> {
+    fn drop(self) {
+        let Exits {
+            rt: _,
+            shared: _,
+            links: _,
+            free: _,
+            share: _,
+        } = self;
+    }
 }
 
 // The place of the pipe for what leaves.

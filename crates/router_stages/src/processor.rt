@@ -21,7 +21,6 @@ use std::marker::Model;
 use std::sync::{Arc, Wait};
 
 /// Takes packets from its pipe, and passes each on as the rules decide, once the gate admits it.
-#[derive(Drop)]
 pub struct Processor<N: Router, R, G: Gate> {
     rt: R,
     gate: Arc<G, Global>,
@@ -41,6 +40,21 @@ impl<N: Router, R, G: Gate> Model for Processor<N, R, G> {
     ghost view = { λ p. record { gate = arc_value p.gate; index = p.index; taker = p.from; hand = p.hand; slow = p.slow; side = p.exits } };
 
     ghost invariant = { λ p. KeepsWorking N.config p.from p.hand p.slow p.exits };
+}
+
+// Not derived: a derived drop is proved again in each crate that drops one.
+impl<N: Router, R: Drop, G: Gate + Drop> Drop for Processor<N, R, G> {
+    fn drop(self) {
+        let Processor {
+            rt: _,
+            gate: _,
+            index: _,
+            from: _,
+            hand: _,
+            slow: _,
+            exits: _,
+        } = self;
+    }
 }
 
 fn both(a: bool, b: bool) -> Turn

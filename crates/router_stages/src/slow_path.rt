@@ -21,7 +21,6 @@ use std::sync::{Arc, Wait};
 
 /// Takes requests from its pipe, and sends the answer to each back by the link by which its packet
 /// came.
-#[derive(Drop)]
 pub struct SlowPath<N: Router, R> {
     rt: R,
     from: Inlet<SlowPathRequest<N>>,
@@ -36,6 +35,17 @@ impl<N: Router, R> Model for SlowPath<N, R> {
     ghost view = { λ p. record { taker = p.from; side = p.exits } };
 
     ghost invariant = { λ p. KeepsAnswering N.config p.from p.exits };
+}
+
+// Not derived: a derived drop is proved again in each crate that drops one.
+impl<N: Router, R: Drop> Drop for SlowPath<N, R> {
+    fn drop(self) {
+        let SlowPath {
+            rt: _,
+            from: _,
+            exits: _,
+        } = self;
+    }
 }
 
 impl<N: Router, R: Wait + Copy> Exits<N, R> {

@@ -1,22 +1,27 @@
 //! The consumer's end.
 
-ghost use Rattle.std.specs.Prelude.{◌≡◌, ℕ, ◌<◌, ◌++◌, ◌∷◌, [], IfOk, IfSome, MatchOption, length};
+ghost use Rattle.std.specs.Prelude.{◌≡◌, ℕ, ◌<◌, ◌++◌, ◌∷◌, List, [], IfOk, IfSome, MatchOption, length};
 ghost use Rattle.std.specs.Arc.{arc_value};
 ghost use Rattle.crossbeam_queue.specs.Passes.{IsPassOf, IsSamePass, ruled_capacity};
 ghost use Rattle.ruled_pipe.specs.Rule.{known_by, consumer, size_of};
 ghost use Rattle.ruled_pipe.specs.Consumer.{looked, new_taker, took};
+ghost use Rattle.ruled_pipe.specs.Gathered.{IsWhole};
+ghost use Rattle.ruled_pipe.specs.Pipe.{AreAllOf};
+ghost use Rattle.ruled_pipe.specs.declared.entry.Entry.{Entry};
 
 use crate::entry::Entry;
+use crate::gathered::take_all;
 use crate::notes::{Added, Notes};
 use crate::pace::{Pace, ROOM};
-use crate::rule::{Queue, Seat, Takes};
+use crate::pipe::Pipe;
+use crate::producer::Producer;
+use crate::rule::{Queue, Seat, Takes, Whole};
 use std::alloc::{AllocError, Global};
 use std::marker::{Brand, Model};
 use std::sync::{Arc, Wait};
 
 /// The consumer's end of a pipe. Contracts see it as its pipe, how many producers the pipe has, its
 /// capacity, what it took, and for each empty look how much it had taken before.
-#[derive(Drop)]
 pub struct Consumer<T> {
     pub(crate) queue: Arc<Queue<T>, Global>,
     pub(crate) seat: Seat<T>,
@@ -39,6 +44,19 @@ impl<T> Model for Consumer<T> {
     ghost invariant = { λ c. IsPassOf (arc_value c.queue) c.seat × (known_by c.seat ≡ consumer c.producers (size_of (ruled_capacity (arc_value c.queue)) c.producers) (known_by c.seat).taken []) };
 }
 
+// Not derived: a derived drop is proved again in each crate that drops one.
+impl<T: Drop> Drop for Consumer<T> {
+    fn drop(self) {
+        let Consumer {
+            queue: _,
+            seat: _,
+            looks: _,
+            pace: _,
+            producers: _,
+        } = self;
+    }
+}
+
 impl<T: Drop> Consumer<T> {
     /// Takes the entry at the front. At `None` the queue was empty at one moment of the call, and the
     /// look is noted. It takes no memory. Where many looks in a row found an entry, and few are held, it
@@ -56,6 +74,23 @@ impl<T: Drop> Consumer<T> {
                 None
             }
         }
+    }
+
+    // It leaves its pipe, and takes in the producers, which have left too.
+    pub(crate) fn leave(self, pipe: &Pipe<T>, producers: Vec<Producer<T>>)
+        requires { AreAllOf pipe.now producers.items self }
+        ensures { (held : List (Entry T)) × IsWhole pipe.now.capacity producers.items self.taken held }
+    {
+        let Consumer {
+            queue: _,
+            mut seat,
+            looks: _,
+            pace: _,
+            producers: _,
+        } = self;
+        let queue: &Queue<T> = &pipe.queue;
+        take_all(queue, &mut seat, producers);
+        queue.learn_as::<Whole>(&mut seat);
     }
 }
 

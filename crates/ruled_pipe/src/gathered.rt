@@ -4,14 +4,13 @@ ghost use Rattle.std.specs.Prelude.{◌≡◌, ◌++◌, ◌∷◌, [], List, le
 ghost use Rattle.crossbeam_queue.specs.Passes.{IsPassOf};
 ghost use Rattle.ruled_pipe.specs.declared.entry.Entry.{Entry};
 ghost use Rattle.ruled_pipe.specs.Rule.{known_by, consumer};
-ghost use Rattle.ruled_pipe.specs.Producer.{AllFull};
 ghost use Rattle.ruled_pipe.specs.Pipe.{AreAllOf, AreOrdered, EachFull, offers_of};
 ghost use Rattle.ruled_pipe.specs.Gathered.{IsWhole, IsSettled, EachEndsWithMark, ends_in};
 
 use crate::consumer::Consumer;
 use crate::pipe::Pipe;
 use crate::producer::Producer;
-use crate::rule::{Leaves, Queue, Seat, Whole};
+use crate::rule::{Queue, Seat};
 use std::marker::Model;
 use std::snapshot::Snapshot;
 
@@ -57,16 +56,7 @@ impl<T: Drop> Pipe<T> {
         ensures whole { (held : List (Entry T)) × IsWhole self.capacity result.senders result.taker.taken held }
     {
         let gathered = (Snapshot::of(&producers), Snapshot::of(&consumer));
-        let Consumer {
-            queue: _,
-            mut seat,
-            looks: _,
-            pace: _,
-            producers: _,
-        } = consumer;
-        let queue: &Queue<T> = &self.queue;
-        take_all(queue, &mut seat, producers);
-        queue.learn_as::<Whole>(&mut seat);
+        consumer.leave(&self, producers);
         Gathered {
             producers: gathered.0,
             consumer: gathered.1,
@@ -75,7 +65,7 @@ impl<T: Drop> Pipe<T> {
 }
 
 // Takes in the producers, in the order of their numbers.
-fn take_all<T: Drop>(queue: &Queue<T>, seat: &mut Seat<T>, producers: Vec<Producer<T>>)
+pub(crate) fn take_all<T: Drop>(queue: &Queue<T>, seat: &mut Seat<T>, producers: Vec<Producer<T>>)
     requires queue { IsPassOf queue.now seat.old }
     requires producers { AreOrdered seat.old.table_id producers.items }
     requires fresh { let v = known_by seat.old in v ≡ consumer v.made v.size v.taken [] }
@@ -84,23 +74,6 @@ fn take_all<T: Drop>(queue: &Queue<T>, seat: &mut Seat<T>, producers: Vec<Produc
     ensures full { EachFull producers.items }
 {
     for producer in producers {
-        take_in(queue, seat, producer);
+        producer.leave(queue, seat);
     }
-}
-
-// Takes in a producer that has left.
-fn take_in<T: Drop>(queue: &Queue<T>, seat: &mut Seat<T>, producer: Producer<T>)
-    requires queue { IsPassOf queue.now seat.old × (producer.pipe ≡ seat.old.table_id) }
-    requires next { let v = known_by seat.old in (v ≡ consumer v.made v.size v.taken v.known) × (length v.known ≡ producer.number) }
-    ensures queue { IsPassOf queue.now seat.new × (seat.new.table_id ≡ seat.old.table_id) }
-    ensures known { let v = known_by seat.old in known_by seat.new ≡ consumer v.made v.size v.taken (v.known ++ producer.offers ∷ []) }
-    ensures full { AllFull producer.producers producer.number producer.capacity producer.offers producer.refusals }
-{
-    let Producer {
-        queue: _,
-        seat: own,
-        notes: _,
-        number: _,
-    } = producer;
-    queue.absorb::<Leaves>(seat, own);
 }

@@ -16,7 +16,6 @@ use std::sync::Arc;
 
 /// A pipe, to gather its ends into. Contracts see it as its name, the number of its producers and its
 /// capacity.
-#[derive(Drop)]
 pub struct Pipe<T> {
     pub(crate) queue: Arc<Queue<T>, Global>,
     producers: usize,
@@ -30,6 +29,16 @@ impl<T> Model for Pipe<T> {
     ghost Value = { Shape };
 
     ghost view = { λ p. record { pipe = (arc_value p.queue).table.shared.table_id; producers = p.producers; capacity = ruled_capacity (arc_value p.queue) } };
+}
+
+// Not derived: a derived drop is proved again in each crate that drops one.
+impl<T: Drop> Drop for Pipe<T> {
+    fn drop(self) {
+        let Pipe {
+            queue: _,
+            producers: _,
+        } = self;
+    }
 }
 
 impl<T: Drop> Pipe<T> {

@@ -4,18 +4,17 @@ ghost use Rattle.std.specs.Prelude.{◌≡◌, ◌<◌, ◌≤◌, ◌+◌, ◌+
 ghost use Rattle.std.specs.Arc.{arc_value};
 ghost use Rattle.crossbeam_queue.specs.Passes.{IsPassOf, ruled_capacity};
 ghost use Rattle.ruled_pipe.specs.Rule.{known_by, consumer, size_of};
-ghost use Rattle.ruled_pipe.specs.Producer.{entry, refusal, offered, refused, WasFull, new_sender};
+ghost use Rattle.ruled_pipe.specs.Producer.{entry, refusal, offered, refused, AllFull, WasFull, new_sender};
 
 use crate::entry::{Entry, Load, Mark, Refusal};
 use crate::notes::{Added, Notes};
-use crate::rule::{Adds, Offers, Queue, Seat};
+use crate::rule::{Adds, Leaves, Offers, Queue, Seat};
 use std::alloc::{AllocError, Global};
 use std::marker::{Brand, Model};
 use std::sync::{Arc, Wait};
 
 /// A producer's end of a pipe. Contracts see it as its pipe, its number, how many producers the pipe
 /// has, the pipe's capacity, what it offered and was accepted, and its refusals.
-#[derive(Drop)]
 pub struct Producer<T> {
     pub(crate) queue: Arc<Queue<T>, Global>,
     pub(crate) seat: Seat<T>,
@@ -35,6 +34,18 @@ impl<T> Model for Producer<T> {
     ghost view = { λ p. record { pipe = p.seat.table_id; number = p.number; producers = (known_by p.seat).size.producers; capacity = ruled_capacity (arc_value p.queue); offers = (known_by p.seat).offers; refusals = p.notes } };
 
     ghost invariant = { λ p. IsPassOf (arc_value p.queue) p.seat × (known_by p.seat ≡ producer p.number (size_of (ruled_capacity (arc_value p.queue)) (known_by p.seat).size.producers) (known_by p.seat).offers) × AllFull (known_by p.seat).size.producers p.number (ruled_capacity (arc_value p.queue)) (known_by p.seat).offers p.notes × (p.number < (known_by p.seat).size.producers) };
+}
+
+// Not derived: a derived drop is proved again in each crate that drops one.
+impl<T: Drop> Drop for Producer<T> {
+    fn drop(self) {
+        let Producer {
+            queue: _,
+            seat: _,
+            notes: _,
+            number: _,
+        } = self;
+    }
 }
 
 /// The pipe was full, and gives back what was pushed.
@@ -86,6 +97,23 @@ impl<T: Drop> Producer<T> {
                 Err(entry.load)
             }
         }
+    }
+
+    // It leaves its pipe: the seat of another end takes it in.
+    pub(crate) fn leave(self, queue: &Queue<T>, seat: &mut Seat<T>)
+        requires queue { IsPassOf queue.now seat.old × (self.pipe ≡ seat.old.table_id) }
+        requires next { let v = known_by seat.old in (v ≡ consumer v.made v.size v.taken v.known) × (length v.known ≡ self.number) }
+        ensures queue { IsPassOf queue.now seat.new × (seat.new.table_id ≡ seat.old.table_id) }
+        ensures known { let v = known_by seat.old in known_by seat.new ≡ consumer v.made v.size v.taken (v.known ++ self.offers ∷ []) }
+        ensures full { AllFull self.producers self.number self.capacity self.offers self.refusals }
+    {
+        let Producer {
+            queue: _,
+            seat: own,
+            notes: _,
+            number: _,
+        } = self;
+        queue.absorb::<Leaves>(seat, own);
     }
 }
 

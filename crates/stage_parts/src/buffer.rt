@@ -12,7 +12,6 @@ pub const BUFFER_LEN: usize = 9217;
 
 /// The bytes of a buffer, and what is known of the datagram in them. It keeps its place in memory: what
 /// one worker hands to the next is its owner, a single pointer.
-#[derive(Drop)]
 pub(crate) struct Storage {
     pub(crate) bytes: Vec<u8>,
     pub(crate) len: usize,
@@ -26,6 +25,24 @@ pub(crate) struct Storage {
     pub(crate) answer: bool,
     pub(crate) egress: u16,
     pub(crate) to: Option<Underlay>,
+}
+
+// Not derived: a derived drop is proved again in each crate that drops one.
+impl Drop for Storage {
+    fn drop(self) {
+        let Storage {
+            bytes: _,
+            len: _,
+            link: _,
+            interface: _,
+            number: _,
+            source: _,
+            moment: _,
+            answer: _,
+            egress: _,
+            to: _,
+        } = self;
+    }
 }
 
 /// Memory for one datagram. Contracts see its bytes, all 9,217.

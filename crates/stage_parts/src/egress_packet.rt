@@ -11,7 +11,6 @@ use router_rules::{Outgoing, is_urgent};
 use std::marker::{Model, PhantomData};
 
 /// A packet that leaves, or the answer to one, in the buffer of the packet that arrived.
-#[derive(Drop)]
 pub struct EgressPacket<N: Router> {
     pub(crate) storage: Box<Storage>,
     pub(crate) of: PhantomData<N>,
@@ -28,6 +27,13 @@ impl<N: Router> Model for EgressPacket<N> {
     ghost view = { λ o. record { arrived = o.storage.value.link; number = o.storage.value.number; answer = o.storage.value.answer; link = o.storage.value.egress; parcel = record { came_by = o.storage.value.interface; to = o.storage.value.to; bytes = take o.storage.value.len o.storage.value.bytes.items } } };
 
     ghost invariant = { λ o. (length o.storage.value.bytes.items ≡ 9217) × (o.storage.value.len ≤ 9217) × StandsIn N.config o.storage.value.link o.storage.value.interface };
+}
+
+// Not derived: a derived drop is proved again in each crate that drops one.
+impl<N: Router> Drop for EgressPacket<N> {
+    fn drop(self) {
+        let EgressPacket { storage: _, of: _ } = self;
+    }
 }
 
 impl<N: Router> EgressPacket<N> {

@@ -10,7 +10,6 @@ use std::marker::Model;
 use std::sync::Wait;
 
 /// A consumer that counts the end marks that it took. Contracts see it as the consumer.
-#[derive(Drop)]
 pub struct Inlet<T> {
     consumer: Consumer<T>,
     producers: usize,
@@ -27,6 +26,17 @@ impl<T> Model for Inlet<T> {
     ghost view = { λ i. i.consumer };
 
     ghost invariant = { λ i. (i.producers ≡ i.consumer.producers) × (i.ends ≡ ends_in i.consumer.taken) × (i.ends ≤ i.producers) };
+}
+
+// Not derived: a derived drop is proved again in each crate that drops one.
+impl<T: Drop> Drop for Inlet<T> {
+    fn drop(self) {
+        let Inlet {
+            consumer: _,
+            producers: _,
+            ends: _,
+        } = self;
+    }
 }
 
 // Whether it is an end mark, as 1 or 0.

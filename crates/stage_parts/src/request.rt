@@ -19,7 +19,6 @@ use std::marker::Model;
 
 /// A packet without a fault, on its way to the slow path, and what its sender is to be told by
 /// SCMP.
-#[derive(Drop)]
 pub struct SlowPathRequest<N: Router> {
     pub(crate) packet: Packet<N>,
     pub(crate) problem: Problem,
@@ -37,6 +36,16 @@ impl<N: Router> Model for SlowPathRequest<N> {
     ghost view = { λ q. asking q.packet q.problem };
 
     ghost invariant = { λ q. first_fault q.packet.datagram.bytes ≡ None };
+}
+
+// Not derived: a derived drop is proved again in each crate that drops one.
+impl<N: Router> Drop for SlowPathRequest<N> {
+    fn drop(self) {
+        let SlowPathRequest {
+            packet: _,
+            problem: _,
+        } = self;
+    }
 }
 
 // Writes the answer to the datagram at the front of a buffer over it.

@@ -27,7 +27,6 @@ use std::sync::atomic::AtomicU64;
 use std::sync::{Arc, Wait};
 
 /// All that a receiver is made of but its source.
-#[derive(Drop)]
 pub struct Entering<N: Router> {
     shared: Arc<Shared, Global>,
     stop: Arc<AtomicU64, Global>,
@@ -51,6 +50,21 @@ impl<N: Router> Model for Entering<N> {
     ghost view = { λ e. record { config = (arc_value e.shared).config; link = e.link; free = e.free; processors = e.processors.items } };
 
     ghost invariant = { λ e. (N.config ≡ Some (arc_value e.shared).config) × (e.link < link_count (arc_value e.shared).config) × (length e.processors.items ≡ (arc_value e.shared).config.processors) × AreFresh e.processors.items × (e.free.looks ≡ []) × (e.share ≡ new_share) };
+}
+
+// Not derived: a derived drop is proved again in each crate that drops one.
+impl<N: Router> Drop for Entering<N> {
+    fn drop(self) {
+        let Entering {
+            shared: _,
+            stop: _,
+            link: _,
+            first: _,
+            free: _,
+            processors: _,
+            share: _,
+        } = self;
+    }
 }
 
 impl<N: Router> Entering<N> {

@@ -23,7 +23,6 @@ use std::marker::Model;
 use std::sync::{Arc, Wait};
 
 /// All that a forwarder is made of but its sink.
-#[derive(Drop)]
 pub struct Leaving<N: Router> {
     shared: Arc<Shared, Global>,
     link: u16,
@@ -45,6 +44,20 @@ impl<N: Router> Model for Leaving<N> {
     ghost view = { λ e. record { config = (arc_value e.shared).config; link = e.link; low = e.low; high = e.high; free = e.free.items } };
 
     ghost invariant = { λ e. (N.config ≡ Some (arc_value e.shared).config) × (e.low.taker.taken ≡ []) × (e.low.shut ≡ false) × (e.high.taker.taken ≡ []) × (e.high.shut ≡ false) × (length e.free.items ≡ link_count (arc_value e.shared).config) × (e.share ≡ new_share) };
+}
+
+// Not derived: a derived drop is proved again in each crate that drops one.
+impl<N: Router> Drop for Leaving<N> {
+    fn drop(self) {
+        let Leaving {
+            shared: _,
+            link: _,
+            low: _,
+            high: _,
+            free: _,
+            share: _,
+        } = self;
+    }
 }
 
 impl<N: Router> Leaving<N> {

@@ -11,9 +11,9 @@ loop-producer-preserved g c =
     let at = c.loop-producer in
     let x = c.in-Some.producer in
     let steps = c.in-Some.ensures.steps.0 in (
-      (c.take_in.ensures.queue.0, c.take_in.ensures.queue.1 ∙ at.invariant.0.1),
-      known_next _ _ _ at.yielded x _ _ at.invariant.1 c.take_in.ensures.known,
-      full_next at.yielded x at.invariant.2 c.take_in.ensures.full,
+      (c.leave.ensures.queue.0, c.leave.ensures.queue.1 ∙ at.invariant.0.1),
+      known_next _ _ _ at.yielded x _ _ at.invariant.1 c.leave.ensures.known,
+      full_next at.yielded x at.invariant.2 c.leave.ensures.full,
       append_assoc at.yielded (x ∷ []) _ ∙ rw (← steps) at.invariant.3,
       (let was = at.invariant.4 in let gone = c.in-Some.ensures.steps.1 in let short = ap length steps in omega arith),
     )
@@ -41,14 +41,14 @@ returns-clause-known g c =
 pub loop-producer-init : goal.loop-producer-init
 loop-producer-init g c = ((c.requires.queue, refl), c.requires.fresh, (λ k d lt. absurd (omega arith)), refl, search rules)
 
-pub take_in-requires-clause-queue : goal.take_in-requires-clause-queue
-take_in-requires-clause-queue g c =
+pub leave-requires-clause-queue : goal.leave-requires-clause-queue
+leave-requires-clause-queue g c =
     let at = c.loop-producer in
     let stands = next_stands at.yielded _ _ _ _ c.in-Some.producer c.in-Some.ensures.steps.0 at.invariant.3 c.into_iter-producer-iterator.ensures.into_iter_gives.0 in
     (at.invariant.0.0, (c.requires.producers _ _ stands).0 ∙ sym at.invariant.0.1)
 
-pub take_in-requires-clause-next : goal.take_in-requires-clause-next
-take_in-requires-clause-next g c =
+pub leave-requires-clause-next : goal.leave-requires-clause-next
+leave-requires-clause-next g c =
     let at = c.loop-producer in
     let stands = next_stands at.yielded _ _ _ _ c.in-Some.producer c.in-Some.ensures.steps.0 at.invariant.3 c.into_iter-producer-iterator.ensures.into_iter_gives.0 in
     known_as_numbered _ _ _ at.yielded _ _ at.invariant.1 (c.requires.producers _ _ stands).1

@@ -1,30 +1,7 @@
-use Rattle.std.proofs.Common.{sym, ap, ◌∙◌}
-use Rattle.ruled_pipe.proofs.Steps.{whole_from}
-use Rattle.ruled_pipe.proofs.Ends.{whole_of}
-use Rattle.ruled_pipe.specs.Rule.{known_by}
-use Rattle.ruled_pipe.specs.Consumer.{Taker}
 use Rattle.ruled_pipe.proofs.pipe.Pipe.gather.Goals as goal
 
-pub learn_as-requires-clause-rule : goal.learn_as-requires-clause-rule
-learn_as-requires-clause-rule g c = whole_from _ _ _ _ _ _ c.take_all.ensures.known
-
 pub returns-clause-whole : goal.returns-clause-whole
-returns-clause-whole g c =
-    let told = c.learn_as.ensures.rule in (
-      told.0,
-      rw (c.of.ensures, c.of-2.ensures)
-          (whole_of c.args.self c.args.consumer c.args.producers.items told.0 (known_by c.consumer.inside.seat) (known_by c.take_all.new.seat) c.requires (rw (← c.consumer.view_is) c.consumer.invariant.1) c.take_all.ensures.known told.1 c.take_all.ensures.full),
-    )
+returns-clause-whole g c = let whole = c.leave.ensures in (whole.0, rw (c.of.ensures, c.of-2.ensures) whole.1)
 
 pub invariant_of-result : goal.invariant_of-result
-invariant_of-result g c =
-    let told = c.learn_as.ensures.rule in (
-      told.0,
-      rw (c.of.ensures, c.of-2.ensures, c.requires.2.2)
-          (whole_of c.args.self c.args.consumer c.args.producers.items told.0 (known_by c.consumer.inside.seat) (known_by c.take_all.new.seat) c.requires (rw (← c.consumer.view_is) c.consumer.invariant.1) c.take_all.ensures.known told.1 c.take_all.ensures.full),
-    )
-
-pub take_all-requires-clause-producers : goal.take_all-requires-clause-producers
-take_all-requires-clause-producers g c = λ k s at.
-    let one = c.requires.1 k s at in
-    (one.0 ∙ sym c.requires.2.0 ∙ sym (ap (λ (t : Taker g.row.T.Denot). t.pipe) c.consumer.view_is), one.1)
+invariant_of-result g c = let whole = c.leave.ensures in (whole.0, rw (c.of.ensures, c.of-2.ensures, c.requires.2.2) whole.1)
