@@ -18,7 +18,6 @@ use std::marker::Model;
 use thiserror::Error;
 
 /// A pipeline: a configuration, and what some steps led to.
-#[derive(Drop)]
 pub struct World {
     pub(crate) config: Config,
     pub(crate) state: State,
@@ -33,6 +32,16 @@ impl Model for World {
     ghost view = { λ w. record { config = w.config; world = w.state } };
 
     ghost invariant = { λ w. IsReached w.config w.state };
+}
+
+// Not derived: a derived drop is proved again in each crate that drops one.
+impl Drop for World {
+    fn drop(self) {
+        let World {
+            config: _,
+            state: _,
+        } = self;
+    }
 }
 
 /// No memory was left for the step with this index. Those before it were made.
