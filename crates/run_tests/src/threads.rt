@@ -27,11 +27,12 @@ struct Countdown<L: Ledger, R> {
 }
 
 impl<L: Ledger, R: Wait> Work<L> for Countdown<L, R> {
-    ghost use Rattle.std.specs.Prelude.{◌≡◌, ◌+◌, ◌≤◌, ◌^◌};
+    ghost use Rattle.std.specs.Prelude.{◌≡◌};
+    ghost use Rattle.packet_ledger.specs.Share.{HasRoom};
 
     ghost same = { λ a b. Unit {0} };
 
-    ghost may_turn = { λ a. a.share.counts.received + 1 ≤ 2 ^ 100 };
+    ghost may_turn = { λ a. HasRoom a.share.counts };
 
     ghost turned = { λ turn a b. Unit {0} };
 

@@ -1,6 +1,6 @@
 //! What all threads of a run share.
 
-ghost use Rattle.std.specs.Prelude.{◌≡◌};
+ghost use Rattle.std.specs.Prelude.{◌≡◌, IfOk, false, is_some, true};
 
 use packet_ledger::{Book, Ledger};
 use router_stages::STOP;
@@ -28,7 +28,10 @@ pub struct Orders<N: Ledger> {
 
 impl<N: Ledger> Orders<N> {
     /// Orders by a word that says `HOLD`.
-    pub fn new(word: Arc<AtomicU64, Global>, book: Arc<Book<N>, Global>) -> Orders<N> {
+    pub fn new(word: Arc<AtomicU64, Global>, book: Arc<Book<N>, Global>) -> Orders<N>
+        ensures given { (result.word ≡ word) × (result.book ≡ book) }
+        ensures event { is_some result.event ≡ false }
+    {
         Orders {
             word,
             book,
@@ -38,7 +41,9 @@ impl<N: Ledger> Orders<N> {
 
     /// The same orders, for a thread of a worker that nobody notifies of pushes. It takes no memory; it
     /// fails where there are too many.
-    pub fn another(&self) -> Result<Orders<N>, AllocError> {
+    pub fn another(&self) -> Result<Orders<N>, AllocError>
+        ensures { IfOk result (λ o. is_some o.event ≡ false) }
+    {
         let word = Arc::try_clone(&self.word)?;
         let book = Arc::try_clone(&self.book)?;
         Ok(Orders::new(word, book))
@@ -46,7 +51,9 @@ impl<N: Ledger> Orders<N> {
 
     /// The same orders, for a thread of a worker of whose pipes each producer notifies the event after
     /// its pushes, marks among them. The worker sleeps on it.
-    pub fn another_with(&self, event: &Event) -> Result<Orders<N>, AllocError> {
+    pub fn another_with(&self, event: &Event) -> Result<Orders<N>, AllocError>
+        ensures { IfOk result (λ o. is_some o.event ≡ true) }
+    {
         let mut orders = self.another()?;
         orders.event = Some(Arc::try_clone(event)?);
         Ok(orders)

@@ -1,6 +1,6 @@
 //! What the loop of a thread asks of a worker, whichever it is.
 
-ghost use Rattle.std.specs.Prelude.{◌≡◌, true};
+ghost use Rattle.std.specs.Prelude.{◌≡◌, MatchBool};
 ghost use Rattle.stage_parts.specs.declared.turn.Turn.{Turn};
 
 use packet_ledger::{Book, Ledger};
@@ -30,7 +30,7 @@ pub trait Work<N: Ledger> {
 
     /// Whether each of its counts can still be raised.
     fn has_room(&self) -> bool
-        ensures { result ≡ true → may_turn self.now };
+        ensures { MatchBool result (may_turn self.now) (may_turn self.now → ⊥) };
 
     fn make_turn(&mut self) -> Turn
         requires { may_turn self.old }
