@@ -405,9 +405,13 @@ def foretold(program, net, configs, packets, now):
                 if words[0] == "drop":
                     count[f"dropped {words[1]}"] += 1
                     continue
+                out, to, data = int(words[1]), words[2], bytes.fromhex(words[3])
+                if not out and (":" in address_of(to)[0]) != (":" in router["internal"][0]):
+                    # the internal socket can't send to a host of the other IP version
+                    count["dropped 17"] += 1
+                    continue
                 count["sent" if words[0] == "send" else "answered"] += 1
                 packets[at]["way"] += ((id(router), link, words[0], words[1]),)
-                out, to, data = int(words[1]), words[2], bytes.fromhex(words[3])
                 count[f"link {out}"] += 1
                 if out:
                     end = next(it for it in router["links"] if it["id"] == out)
