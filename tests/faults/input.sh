@@ -44,6 +44,8 @@ run() {
 
 # Starts the router, which takes its commands from descriptor 3.
 start() {
+    # Nothing of an earlier router is taken for this one's word that it is ready.
+    : > "$room/out"
     timeout 20 "$router" run --config "$config" < "$room/commands" > "$room/out" 2> "$room/err" &
     started=$!
     exec 3> "$room/commands"
