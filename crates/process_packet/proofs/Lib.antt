@@ -8,7 +8,6 @@ pub mod RowLemmas
 pub mod ParsedHeadersLemmas
 pub mod PassingLemmas
 pub mod LawLemmas
-pub mod AgreementLemmas
 pub mod ProblemLemmas
 pub mod Coming
 pub mod RowsPassed

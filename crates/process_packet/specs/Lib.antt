@@ -15,8 +15,6 @@ pub mod Departure
 pub mod ParsedHeaders
 pub mod Routed
 pub mod Laws
-pub mod Net
-pub mod Agreement
 pub mod Problems
 pub mod Shown
 pub mod Hosts

@@ -2,7 +2,6 @@
 //! bytes it leaves.
 #![tactic(auto)]
 
-mod agreement;
 mod arrival;
 mod arriving;
 mod authority;
@@ -17,7 +16,6 @@ mod laws;
 mod leaving;
 mod lookup;
 mod neighbours;
-mod net;
 mod packet_view;
 mod parsed_headers;
 mod path_hop;
@@ -28,7 +26,6 @@ mod scmp;
 mod totals;
 mod underlay;
 
-pub use agreement::agrees;
 pub use arrival::{Arrival, NoMemory, Routed};
 pub use cause::Cause;
 pub use config::Config;
@@ -41,7 +38,6 @@ pub use laws::{
     what_leaves_is_lawful,
 };
 pub use neighbours::{Bands, Link, Service, Sibling};
-pub use net::{End, Net, Wire};
 pub use parsed_headers::LONGEST_DATAGRAM;
 pub use refusal::header_cause;
 pub use request::trace_request;

@@ -40,14 +40,14 @@ impl Config {
     }
 
     /// The link of this router with a number.
-    pub(crate) fn own_link(&self, id: u16) -> Option<&Link>
+    pub fn own_link(&self, id: u16) -> Option<&Link>
         ensures { option_copied result ≡ own_link (network self.now) id }
     {
         self.links.iter().find(|link| link.id == id)
     }
 
     /// The interface of another router of this AS with a number.
-    pub(crate) fn sibling(&self, id: u16) -> Option<&Sibling>
+    pub fn sibling(&self, id: u16) -> Option<&Sibling>
         ensures { option_copied result ≡ sibling (network self.now) id }
     {
         self.siblings.iter().find(|sibling| sibling.id == id)

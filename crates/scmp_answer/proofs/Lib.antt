@@ -4,12 +4,5 @@ pub mod PlaceLemmas
 pub mod TableLemmas
 pub mod AnswerLemmas
 pub mod GoodLemmas
-pub mod LawfulAnswer
 pub mod ReplyLemmas
-pub mod BackStands
-pub mod ReturnLemmas
-pub mod LawfulWalk
-pub mod StopsLemmas
-pub mod CarriedLemmas
-pub mod WalkStops
 pub mod UnansweredLemmas

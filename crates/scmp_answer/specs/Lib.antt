@@ -3,9 +3,4 @@ pub mod Message
 pub mod WayBack
 pub mod Reply
 pub mod Outcome
-pub mod Returns
-pub mod Walked
-pub mod Stops
-pub mod Coming
-pub mod Visits
 pub mod Unanswered

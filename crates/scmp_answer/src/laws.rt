@@ -1,38 +1,6 @@
-//! What becomes of packets that set out lawfully, and of the answers to them: nothing here runs.
+//! What is never answered: nothing here runs.
 
-ghost use Rattle.scmp_answer.specs.Returns.{AnswersComeBack, AnswersStandToo, RoutersAnswerFromHome};
 ghost use Rattle.scmp_answer.specs.Unanswered.{ErrorsAreLeftUnanswered};
-ghost use Rattle.scmp_answer.specs.Walked.{LawfulStartsAreWalked, RequestsAreWalked};
-
-/// What takes the way back of a packet that is on a route, and is for where the route begins,
-/// is on the route travelled back.
-pub fn answers_stand_too()
-    ensures { AnswersStandToo }
-{}
-
-/// Wherever a packet is that set out at the route's first hop, an answer to it comes back to where
-/// it came from, if it may be answered at all.
-pub fn answers_come_back()
-    ensures { AnswersComeBack }
-{}
-
-/// What sets out lawfully is delivered to its destination's host or service address after at most 128
-/// stops. An answer to it goes straight back from the first stop, and from each later one it is carried to
-/// the source host.
-pub fn lawful_starts_are_walked()
-    ensures { LawfulStartsAreWalked }
-{}
-
-/// A request that asks routers on its way to answer is delivered too, or ends at one that answers it; and
-/// answers to it come back as to any other packet.
-pub fn requests_are_walked()
-    ensures { RequestsAreWalked }
-{}
-
-/// The address from which a router answers is one of its AS.
-pub fn routers_answer_from_home()
-    ensures { RoutersAnswerFromHome }
-{}
 
 /// No SCMP error message is answered: wherever an answer of type 1 or 4 comes to and isn't sent on there, it is
 /// dropped, whatever the problem.

@@ -5,8 +5,8 @@ use Rattle.scion_packet.specs.Packet.{Packet}
 use Rattle.process_packet.specs.declared.neighbours.Link.{Link}
 use Rattle.process_packet.specs.declared.underlay.Underlay.{Underlay}
 use Rattle.process_packet.specs.Network.{own_link}
-use Rattle.process_packet.specs.Net.{Agrees, AreOfOneAS, Net, Router, end_at, router_at}
-use Rattle.process_packet.specs.declared.net.End.{End}
+use Rattle.walk_laws.specs.Net.{Agrees, AreOfOneAS, Net, Router, end_at, router_at}
+use Rattle.walk_laws.specs.declared.net.End.{End}
 use Rattle.walk_laws.proofs.NetLemmas.{IsWired, joined_ends}
 use Rattle.walk_laws.specs.Stands.{PacketAt}
 use Rattle.walk_laws.specs.Stop.{IsCarried}

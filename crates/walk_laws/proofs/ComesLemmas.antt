@@ -11,7 +11,7 @@ use Rattle.process_packet.specs.declared.underlay.Underlay.{Underlay}
 use Rattle.process_packet.specs.Network.{is_local, is_owner, is_remote, sibling}
 use Rattle.process_packet.specs.PacketState.{PacketState, chained_id, entry, entry_place, ingress_of, is_along, is_external, is_first_of_path}
 use Rattle.process_packet.specs.Underlay.{same_ip}
-use Rattle.process_packet.specs.Net.{Agrees, AreOfOneAS, Net, Router}
+use Rattle.walk_laws.specs.Net.{Agrees, AreOfOneAS, Net, Router}
 use Rattle.walk_laws.specs.Domain.{IsOf}
 use Rattle.walk_laws.proofs.NetLemmas.{ListsAt, listed_at}
 use Rattle.walk_laws.specs.Route.{IsHopOf, IsOn, IsRoute, Route, way_in}

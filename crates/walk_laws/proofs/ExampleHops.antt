@@ -7,7 +7,7 @@ use Rattle.segment_switch.specs.declared.kind.LinkKind.TheVariants.{Child}
 use Rattle.walk_laws.specs.Example.{address, beta_0, link_to, example_key, example_net, first_router, last_router, middle_router, info_along}
 use Rattle.walk_laws.specs.ExampleHops.{example_against, example_hops, example_stretch, info_against}
 use Rattle.walk_laws.specs.PathSegments.{AreWired, HasItsKey, PathSegment, IsBeaconed, fields_of, keys_of, entry_at}
-use Rattle.process_packet.specs.Net.{Router, router_at}
+use Rattle.walk_laws.specs.Net.{Router, router_at}
 
 abbrev of_info : InfoField → PathSegment
 of_info i = record { info = i; beta = 0x1234; is_core = false; made = example_hops }

@@ -14,7 +14,7 @@ use Rattle.walk_laws.specs.PathSegments.{AreUnexpired, IsBeaconed, IsPathOver, m
 use Rattle.walk_laws.specs.Examples.{moment}
 use Rattle.process_packet.specs.Hosts.{IsReachedAt}
 use Rattle.walk_laws.specs.LawfulStart.{IsIpHost, IsKnown, LawfulStart}
-use Rattle.process_packet.specs.Net.{Router}
+use Rattle.walk_laws.specs.Net.{Router}
 use Rattle.walk_laws.specs.Domain.{Domain}
 use Rattle.walk_laws.proofs.ExampleHops.{along_is}
 

@@ -7,7 +7,7 @@ use Rattle.hop_check.specs.Beaconing.{AreBeaconed}
 use Rattle.walk_laws.specs.Example.{address, example_key, link_to}
 use Rattle.walk_laws.specs.ExampleTurn.{down, family, one_child, other_child, parent, turn, up}
 use Rattle.walk_laws.specs.PathSegments.{AreWired, HasItsKey, IsBeaconed, IsPathOver, fields_of, keys_of, kind_before, kind_after, entry_at, met, part}
-use Rattle.process_packet.specs.Net.{Router, router_at}
+use Rattle.walk_laws.specs.Net.{Router, router_at}
 use Rattle.walk_laws.specs.Domain.{Domain}
 
 one_key : (r : ℕ) (x : Router) → router_at family r ≡ Some x → x.network.key ≡ example_key

@@ -11,8 +11,8 @@ use Rattle.process_packet.specs.Network.{own_link}
 use Rattle.hop_check.specs.Beaconing.{hop_at}
 use Rattle.walk_laws.specs.Stretch.{IsStretch, Stretch, beta_met, key_met, made_at, segment_of}
 use Rattle.walk_laws.specs.PathSegments.{AreWired, AsEntry, PathSegment, IsBeaconed, IsMet, fields_of, keys_of, entry_at, met, no_path_segment, no_entry, part, route_over, segments_of, stretch_of}
-use Rattle.process_packet.specs.Net.{Agrees, Joined, Net, Router, end_at, opposite, router_at}
-use Rattle.process_packet.specs.declared.net.End.{End}
+use Rattle.walk_laws.specs.Net.{Agrees, Joined, Net, Router, end_at, opposite, router_at}
+use Rattle.walk_laws.specs.declared.net.End.{End}
 use Rattle.walk_laws.specs.Configured.{AreNumbered}
 use Rattle.walk_laws.specs.Domain.{IsOf}
 use Rattle.walk_laws.proofs.NetLemmas.{IsWired, joined_ends}

@@ -12,7 +12,7 @@ use Rattle.hop_check.specs.Beaconing.{beta_at, hop_at}
 use Rattle.walk_laws.specs.PathSegments.{AreUnexpired, AsEntry, HaveByteMacs, PathSegment, IsBeaconed, IsJoint, IsMet, IsPathOver, entry_at, fields_of, met, part, route_over, segments_of}
 use Rattle.walk_laws.specs.Stretch.{HopsHold}
 use Rattle.process_packet.specs.Network.{own_link}
-use Rattle.process_packet.specs.Net.{Agrees, Joined, Net, Router, end_at, router_at}
+use Rattle.walk_laws.specs.Net.{Agrees, Joined, Net, Router, end_at, router_at}
 use Rattle.walk_laws.specs.Configured.{AreNumbered}
 use Rattle.walk_laws.specs.Domain.{Domain, IsOf}
 use Rattle.walk_laws.specs.Route.{AreJoined, Crosses, IsBefore, IsHopOf, IsOn, IsRoute, Joins, Route, after, hop_of, info_of, last_in, way_in, way_out}

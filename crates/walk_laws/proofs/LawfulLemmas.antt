@@ -9,7 +9,7 @@ use Rattle.field_rows.specs.Place.{IsBytes}
 use Rattle.walk_laws.specs.Stretch.{beta_met}
 use Rattle.walk_laws.specs.PathSegments.{HaveByteMacs, IsMet, PathSegment, entry_at, met, part, route_over, segments_of, stretch_of}
 use Rattle.walk_laws.specs.LawfulStart.{AsksNothing, SetsOutOn, last_met}
-use Rattle.process_packet.specs.Net.{Agrees, Net, router_at}
+use Rattle.walk_laws.specs.Net.{Agrees, Net, router_at}
 use Rattle.walk_laws.specs.Configured.{AreNumbered}
 use Rattle.walk_laws.specs.Route.{Crosses, IsOn, IsRoute, Route, after, end_of, info_of}
 use Rattle.walk_laws.specs.Stands.{PacketAt, IsHostOf, IsUnasked, hops_at, with_id_of}

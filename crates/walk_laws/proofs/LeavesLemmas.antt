@@ -15,7 +15,7 @@ use Rattle.process_packet.specs.Rows.{Sent, is_pair_lawful, known_pair}
 use Rattle.process_packet.specs.Request.{is_request}
 use Rattle.process_packet.specs.PacketView.{with_id}
 use Rattle.process_packet.specs.PacketState.{PacketState, arrival_kind, chained_id, egress, egress_alert, entry_place, hop, is_along, is_first_of_path, is_last_of_path, next_place, packet}
-use Rattle.process_packet.specs.Net.{Agrees, Joined, Net, Router, end_at, router_at}
+use Rattle.walk_laws.specs.Net.{Agrees, Joined, Net, Router, end_at, router_at}
 use Rattle.walk_laws.specs.Domain.{IsOf}
 use Rattle.walk_laws.proofs.NetLemmas.{ListsAt, listed_at}
 use Rattle.walk_laws.specs.Route.{IsBefore, Crosses, IsHopOf, IsOn, IsRoute, Route, after, way_in, way_out}

@@ -7,9 +7,9 @@ use Rattle.segment_switch.specs.declared.kind.LinkKind.{LinkKind}
 use Rattle.segment_switch.specs.declared.kind.LinkKind.TheVariants.{Core, Parent, Child}
 use Rattle.process_packet.specs.declared.neighbours.Link.{Link}
 use Rattle.process_packet.specs.declared.neighbours.Sibling.{Sibling}
-use Rattle.process_packet.specs.declared.net.End.{End}
-use Rattle.process_packet.specs.declared.net.Wire.{Wire}
-use Rattle.process_packet.specs.Net.{Agrees, AreApart, IsWire, Joined, Lists, Net, Router, opposite, router_at}
+use Rattle.walk_laws.specs.declared.net.End.{End}
+use Rattle.walk_laws.specs.declared.net.Wire.{Wire}
+use Rattle.walk_laws.specs.Net.{Agrees, AreApart, IsWire, Joined, Lists, Net, Router, opposite, router_at}
 use Rattle.process_packet.specs.Network.{own_link, sibling}
 
 -- ---- joined ends

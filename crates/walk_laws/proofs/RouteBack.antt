@@ -7,7 +7,7 @@ use Rattle.scion_packet.specs.Places.{mirrored}
 use Rattle.scion_packet.specs.Reversed.{cleared_hop, reversed_info}
 use Rattle.segment_switch.specs.Pairs.{changes_over, goes_straight}
 use Rattle.process_packet.specs.Network.{own_link}
-use Rattle.process_packet.specs.Net.{Joined, Net, end_at}
+use Rattle.walk_laws.specs.Net.{Joined, Net, end_at}
 use Rattle.walk_laws.specs.Route.{AreJoined, Crosses, IsBefore, IsHopOf, IsOn, IsRoute, Joins, Route, after, hop_of, id_before, id_after, info_of, last_in, reversed_route, way_back, way_in, way_out}
 use Rattle.walk_laws.proofs.BackLemmas.{back_count, back_hop, back_info, back_len, back_size, in_back, out_back, over_back, straight_back}
 

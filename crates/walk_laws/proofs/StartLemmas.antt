@@ -2,7 +2,7 @@
 use Rattle.std.proofs.Common.{ℕ, false, sym, ap, subst, ◌∙◌, arith, inl, inr}
 use Rattle.scion_packet.specs.Path.{Place, place_at}
 use Rattle.process_packet.specs.PacketState.{is_first_of_path}
-use Rattle.process_packet.specs.Net.{Agrees, Net}
+use Rattle.walk_laws.specs.Net.{Agrees, Net}
 use Rattle.walk_laws.specs.Domain.{IsOf}
 use Rattle.walk_laws.specs.Route.{IsOn, IsRoute, Route, after, info_of}
 use Rattle.walk_laws.specs.Start.{SetsOut, outset}

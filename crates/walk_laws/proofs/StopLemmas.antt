@@ -18,7 +18,7 @@ use Rattle.process_packet.specs.Network.{Network, is_local, own_link}
 use Rattle.process_packet.specs.Rows.{Verdict, delivered, known_pair}
 use Rattle.process_packet.specs.Request.{is_request}
 use Rattle.process_packet.specs.PacketState.{hop, ingress, ingress_alert, PacketState, arrival_kind, chained_id, changed_over, entry_place, is_along, is_external, is_first_of_path, packet}
-use Rattle.process_packet.specs.Net.{Agrees, Net, Router, router_at}
+use Rattle.walk_laws.specs.Net.{Agrees, Net, Router, router_at}
 use Rattle.walk_laws.specs.Domain.{IsOf}
 use Rattle.walk_laws.specs.Route.{IsBefore, IsHopOf, IsOn, IsRoute, Joins, Route, after, info_of, last_in, way_in}
 use Rattle.process_packet.proofs.Coming.{ComesAsItShould}

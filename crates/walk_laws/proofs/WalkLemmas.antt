@@ -13,7 +13,7 @@ use Rattle.process_packet.specs.PacketState.{arrives}
 use Rattle.process_packet.proofs.LawLemmas.{is_moved, told}
 use Rattle.scion_packet.specs.Path.{Place, Segment, count_hops, hop_number}
 use Rattle.scion_packet.specs.Places.{is_last_of_path, no_segment}
-use Rattle.process_packet.specs.Net.{Agrees, Net, Router, router_at}
+use Rattle.walk_laws.specs.Net.{Agrees, Net, Router, router_at}
 use Rattle.walk_laws.specs.Route.{IsOn, IsRoute, Route}
 use Rattle.walk_laws.specs.Stands.{PacketAt, IsUnasked, Stands, place_of}
 use Rattle.walk_laws.specs.Stop.{IsAsked, verdict_at, progress}

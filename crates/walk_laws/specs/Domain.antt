@@ -1,6 +1,6 @@
 -- An AS, and its routers.
 use Rattle.std.specs.Prelude.{◌≡◌, ℕ}
-use Rattle.process_packet.specs.Net.{Router}
+use Rattle.walk_laws.specs.Net.{Router}
 
 -- an AS, by its isolation domain and its number
 pub record Domain : Type 0 where

@@ -6,7 +6,7 @@ use Rattle.segment_switch.specs.declared.kind.LinkKind.TheVariants.{Parent, Chil
 use Rattle.walk_laws.specs.Example.{address, beaconed, link_to, router_in}
 use Rattle.walk_laws.specs.ExampleHops.{entry_of_as}
 use Rattle.walk_laws.specs.PathSegments.{PathSegment}
-use Rattle.process_packet.specs.Net.{Net, Router, end_at}
+use Rattle.walk_laws.specs.Net.{Net, Router, end_at}
 
 abbrev pub one_child : Router
 one_child = router_in 0xff0000000111 (address 9 1 30000) (link_to 17 Parent (address 1 2 40000) (address 1 1 40000) ∷ []) []

@@ -5,7 +5,7 @@ use Rattle.walk_laws.specs.ExampleHops.{example_against, example_path, example_s
 use Rattle.walk_laws.specs.ExampleTurn.{family, turn}
 use Rattle.walk_laws.specs.PathSegments.{IsBeaconed, IsPathOver}
 use Rattle.walk_laws.specs.LawfulStart.{LawfulStart}
-use Rattle.process_packet.specs.Net.{Agrees}
+use Rattle.walk_laws.specs.Net.{Agrees}
 
 -- a quarter of an hour after the segments were made
 abbrev pub moment : ℕ

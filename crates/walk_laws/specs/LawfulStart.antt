@@ -10,7 +10,7 @@ use Rattle.process_packet.specs.Rows.{Sent}
 use Rattle.walk_laws.specs.Stretch.{beta_met}
 use Rattle.walk_laws.specs.PathSegments.{AreUnexpired, HaveByteMacs, PathSegment, IsMet, IsPathOver, met, part, route_over, segments_of, stretch_of}
 use Rattle.process_packet.specs.Hosts.{IsReachedAt}
-use Rattle.process_packet.specs.Net.{Agrees, Net, Router, router_at}
+use Rattle.walk_laws.specs.Net.{Agrees, Net, Router, router_at}
 use Rattle.walk_laws.specs.Configured.{AreNumbered}
 use Rattle.walk_laws.specs.Domain.{IsOf}
 use Rattle.walk_laws.specs.Domain.{domain_of}

@@ -1,3 +1,5 @@
+pub mod Net
+pub mod Agreement
 pub mod Domain
 pub mod Route
 pub mod Stands

@@ -11,7 +11,7 @@ use Rattle.process_packet.specs.declared.neighbours.Link.{Link}
 use Rattle.process_packet.specs.Network.{own_link}
 use Rattle.hop_check.specs.Beaconing.{AreBeaconed}
 use Rattle.walk_laws.specs.Stretch.{Stretch, beta_met, key_met, segment_of}
-use Rattle.process_packet.specs.Net.{Joined, Net, Router, end_at, router_at}
+use Rattle.walk_laws.specs.Net.{Joined, Net, Router, end_at, router_at}
 use Rattle.walk_laws.specs.Domain.{Domain, IsOf}
 use Rattle.walk_laws.specs.Route.{IsBefore, Route}
 

@@ -11,7 +11,7 @@ use Rattle.segment_switch.specs.declared.kind.LinkKind.{LinkKind}
 use Rattle.process_packet.specs.declared.neighbours.Link.{Link}
 use Rattle.process_packet.specs.Network.{own_link}
 use Rattle.process_packet.specs.PacketState.{egress_of, ingress_of}
-use Rattle.process_packet.specs.Net.{Joined, Net, Router, end_at, router_at}
+use Rattle.walk_laws.specs.Net.{Joined, Net, Router, end_at, router_at}
 use Rattle.walk_laws.specs.Domain.{Domain, IsOf}
 
 pub record Route : Type 0 where

@@ -11,7 +11,7 @@ use Rattle.process_packet.specs.Network.{is_local, own_link}
 use Rattle.process_packet.specs.Request.{is_request}
 use Rattle.process_packet.specs.Underlay.{longest_datagram}
 use Rattle.process_packet.specs.PacketState.{entry_place, is_first_of_path}
-use Rattle.process_packet.specs.Net.{Net, Router, router_at}
+use Rattle.walk_laws.specs.Net.{Net, Router, router_at}
 use Rattle.walk_laws.specs.Domain.{Domain, IsOf}
 use Rattle.walk_laws.specs.Route.{IsBefore, IsOn, Route, after, end_of, hop_of, id_before, info_of, last_in, way_in}
 

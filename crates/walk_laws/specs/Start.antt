@@ -2,7 +2,7 @@
 use Rattle.std.specs.Prelude.{◌≡◌, ◌<◌, ℕ, length, Some}
 use Rattle.scion_packet.specs.Path.{Place, place_at}
 use Rattle.scion_packet.specs.Places.{info_there}
-use Rattle.process_packet.specs.Net.{Agrees, Net, Router, router_at}
+use Rattle.walk_laws.specs.Net.{Agrees, Net, Router, router_at}
 use Rattle.walk_laws.specs.Domain.{IsOf}
 use Rattle.walk_laws.specs.Route.{IsRoute, Route, info_of}
 use Rattle.walk_laws.specs.Stands.{PacketAt, IsOnItsWay, IsUnasked, Stands, hops_at, with_id_of}

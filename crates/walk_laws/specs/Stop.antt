@@ -10,7 +10,7 @@ use Rattle.process_packet.specs.Network.{Network, own_link}
 use Rattle.process_packet.specs.Rows.{Sent, Verdict, delivered, traceroute_reply}
 use Rattle.process_packet.specs.Request.{is_request}
 use Rattle.process_packet.specs.PacketState.{PacketState, packet}
-use Rattle.process_packet.specs.Net.{Agrees, AreOfOneAS, Joined, Net, Router, end_at, router_at}
+use Rattle.walk_laws.specs.Net.{Agrees, AreOfOneAS, Joined, Net, Router, end_at, router_at}
 use Rattle.walk_laws.specs.Route.{IsOn, IsRoute, Route, hop_of}
 use Rattle.process_packet.specs.Shown.{is_for_us, turned}
 use Rattle.walk_laws.specs.Stands.{PacketAt, Stands, place_of}

@@ -6,7 +6,7 @@ use Rattle.scion_packet.specs.Places.{is_last_of_path}
 use Rattle.process_packet.specs.declared.underlay.Underlay.{Underlay}
 use Rattle.process_packet.specs.Rows.{Sent, delivered}
 use Rattle.process_packet.specs.PacketState.{packet}
-use Rattle.process_packet.specs.Net.{Agrees, Net, Router, router_at}
+use Rattle.walk_laws.specs.Net.{Agrees, Net, Router, router_at}
 use Rattle.walk_laws.specs.Route.{IsRoute, Route}
 use Rattle.process_packet.specs.Shown.{turned}
 use Rattle.walk_laws.specs.Stands.{PacketAt, IsUnasked, Stands, place_of}

@@ -2,13 +2,14 @@
 //! hop fields' MACs were made by OpenSSL.
 
 ghost use Rattle.std.specs.Prelude.{◌≡◌, ◌<◌, IsTrue, IfOk, length};
-ghost use Rattle.process_packet.specs.Net.{Agrees, net_of};
+ghost use Rattle.walk_laws.specs.Net.{Agrees, net_of};
 
-use process_packet::{Arrival, End, Ip, Net, NoMemory, Problem, Routed, Underlay, Wire, agrees};
+use net_walks::{Stop, walk};
+use process_packet::{Arrival, Ip, NoMemory, Problem, Routed, Underlay};
 use router_config::read_config;
-use scmp_answer::{Stop, walk};
 use std::alloc::Global;
 use std::process::Abort;
+use walk_laws::{End, Net, Wire, agrees};
 
 const FIRST: &str =
     "version = 1\nisd_as = \"1-ff00:0:111\"\nkey = \"000102030405060708090a0b0c0d0e0f\"\n\

@@ -2,7 +2,7 @@
 
 ghost use Rattle.std.specs.Prelude.{◌≡◌};
 
-use process_packet::{End, Wire};
+use walk_laws::{End, Wire};
 
 /// A link of the router of a number.
 pub fn end(router: usize, link: u16) -> End

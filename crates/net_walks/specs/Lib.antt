@@ -1,0 +1,5 @@
+pub mod Returns
+pub mod Walked
+pub mod Stops
+pub mod Coming
+pub mod Visits

@@ -1,5 +1,0 @@
-use Rattle.std.proofs.Common.{rules}
-use Rattle.process_packet.proofs.agreement.is_wire.Goals as goal
-
-pub returns-then-are_joined : goal.returns-then-are_joined
-returns-then-are_joined c = search rules

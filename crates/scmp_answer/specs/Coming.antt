@@ -1,6 +1,0 @@
--- A datagram that comes to a router next.
-use Rattle.scmp_answer.specs.Stops.{Came, came_to}
-use Rattle.scmp_answer.specs.declared.walking.Coming.{Coming}
-
-abbrev pub coming : Coming → Came
-coming c = came_to c.router c.arrival
