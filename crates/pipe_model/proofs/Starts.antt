@@ -16,21 +16,11 @@ use Rattle.router_rules.specs.Links.{link_count, link_index}
 use Rattle.router_rules.specs.Rules.{Arrives, kinds, rules}
 use Rattle.pipe_model.specs.Begun.{AreArrivals, AreFrom, AreNumbered, arriving, entry_of, sources_of}
 use Rattle.pipe_parts.specs.Arrivals.{arrived_in, source, source_entry, sources_from}
+use Rattle.pipe_steps.proofs.SourceLemmas.{length-sources_from}
 use Rattle.pipe_model.specs.Headline.{IsReached}
 
 abbrev Lists : Type 0
 Lists = List (Vec Came Global)
-
-pub length-sources_from : (a : ℕ) (ls : Lists) → length (sources_from a ls) ≡ length ls
-length-sources_from a [] = refl
-length-sources_from a (xs ∷ ls) = ap suc (length-sources_from (a + 1) ls)
-
--- one source more
-pub sources_from_more : (a : ℕ) (ls : Lists) (xs : Vec Came Global) → sources_from a (ls ++ xs ∷ []) ≡ sources_from a ls ++ source (a + length ls) xs.items ∷ []
-sources_from_more a [] xs = let e : a ≡ a + 0 = omega arith in ap (λ (k : ℕ). source k xs.items ∷ []) e
-sources_from_more a (ys ∷ ls) xs =
-    let e : (a + 1) + length ls ≡ a + length (ys ∷ ls) = omega arith in
-    ap (λ (ps : List (Pipe kinds)). source a ys.items ∷ ps) (sources_from_more (a + 1) ls xs ∙ ap (λ (k : ℕ). sources_from (a + 1) ls ++ source k xs.items ∷ []) e)
 
 numbered : (c : Config) (a n : ℕ) (xs : List Came) → AreNumbered c a n xs → Numbered a n (items (map (source_entry a) xs))
 numbered c a n [] h = tt

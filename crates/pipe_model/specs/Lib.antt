@@ -1,4 +1,3 @@
-pub mod Step
 pub mod Pipeline
 pub mod Begun
 pub mod Shown

@@ -8,8 +8,8 @@ ghost use Rattle.pipeline_laws.specs.World.{Empty};
 ghost use Rattle.pipe_parts.specs.Items.{hand_in, item_in};
 ghost use Rattle.pipe_model.specs.Shown.{causes, is_number, totals_of};
 
-use crate::state::State;
 use pipe_parts::{Bytes, Entry, Fates, Hand, Hands, Pipe, Sent, is_packet, reason};
+use pipe_steps::State;
 use process_packet::{Config, Totals};
 use router_rules::{Outgoing, link_count};
 

@@ -2,20 +2,13 @@
 #![tactic(auto)]
 
 mod counting;
-mod deciding;
 mod laws;
-mod marking;
-mod passing;
 mod place;
-mod receiving;
-mod sending;
-mod state;
-mod step;
 mod world;
 
 pub use laws::arrivals_stay;
 pub use pipe_parts::Bytes;
+pub use pipe_steps::{Step, StepFault};
 pub use place::Place;
 pub use router_rules::{Outgoing, Queue, Worker};
-pub use step::{Step, StepFault};
 pub use world::{NoMemoryAt, World};

@@ -12,8 +12,8 @@ ghost use Rattle.pipe_parts.specs.Sent.{first};
 ghost use Rattle.pipe_model.specs.Finding.{has_in_hand, is_among};
 ghost use Rattle.pipe_model.specs.Shown.{named_in, stands_in};
 
-use crate::state::State;
 use pipe_parts::{Entry, Fates, Hand, Hands, Pipe, Sent, is_named, reason};
+use pipe_steps::State;
 use process_packet::{Cause, Config};
 use router_rules::{Worker, interface_at, link_count, slow_seat};
 

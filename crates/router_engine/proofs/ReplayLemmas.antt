@@ -14,8 +14,8 @@ use Rattle.pipeline_laws.specs.Next.{next}
 use Rattle.pipeline_laws.specs.World.{World}
 use Rattle.router_rules.specs.Rules.{kinds}
 use Rattle.pipe_model.specs.Pipeline.{Pipeline, rules_in, stepped, with_world}
-use Rattle.pipe_model.specs.Step.{step_in}
-use Rattle.pipe_model.specs.declared.step.Step.{Step}
+use Rattle.pipe_steps.specs.Step.{step_in}
+use Rattle.pipe_steps.specs.declared.step.Step.{Step}
 use Rattle.router_lines.specs.ArriveLine.{datagram_of_line}
 use Rattle.router_lines.specs.Gathered.{starting}
 use Rattle.router_lines.specs.Report.{not_now_text, report}

@@ -3,8 +3,8 @@ use Rattle.std.specs.Prelude.{ℕ, Bool, true, false, if◌then◌else◌, List,
 use Rattle.std.specs.Str.{bytes_eq}
 use Rattle.router_rules.specs.Worker.{queue_in, worker_in}
 use Rattle.router_rules.specs.declared.worker.Queue.{Queue}
-use Rattle.pipe_model.specs.declared.step.Step.{Step}
-use Rattle.pipe_model.specs.declared.step.Step.TheVariants as step
+use Rattle.pipe_steps.specs.declared.step.Step.{Step}
+use Rattle.pipe_steps.specs.declared.step.Step.TheVariants as step
 use Rattle.router_rules.specs.declared.worker.Worker.{Worker}
 use Rattle.pipeline_laws.specs.Next.{feeds}
 use Rattle.process_packet.specs.declared.config.Config.{Config}
