@@ -39,9 +39,16 @@ bin/path_probe: $(PROVED)
 try-net: bin/router bin/path_probe
 	examples/three-ases/try.sh
 
-# The merge gate.
+# The merge gate; last, the program that it built is given the tables of tests/lines. It needs python3 too.
 test:
+	rm -f $(PROGRAM)
 	$(RT) ci
+	$(MAKE) $(PROGRAM)
+	tests/lines/check.py $(PROGRAM)
+
+# Where the gate took an earlier run's results, it may have built no program.
+$(PROGRAM):
+	cd crates/router_program && $(RT) run -- --version
 
 # Times the decision beside plain Rust.
 bench-decision:
@@ -95,6 +102,12 @@ bin/walk_tests bin/pipeline_tests bin/stages_tests bin/run_tests: bin/%: $(PROVE
 	cd crates/$* && $(RT) test
 	mkdir -p bin
 	cp crates/$*/out/$*_tests bin/$*
+
+.PHONY: lines
+
+# Gives the program words, configurations and lines, and compares what it writes with tables; it needs python3 too.
+lines: bin/router
+	tests/lines/check.py
 
 .PHONY: docs-check
 

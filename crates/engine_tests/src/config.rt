@@ -1,12 +1,12 @@
-//! Configurations and addresses, and the faults of those that are none.
+//! The values of configurations and addresses, and a fault. `tests/lines` has the tables of faults.
 use crate::links::{link, underlay};
 use process_packet::{Bands, Config, Ip, Link, Service, Sibling, Underlay};
-use router_config::{ConfigFault, push_underlay, read_config, read_underlay};
+use router_config::{ConfigFault, fault_words, push_underlay, read_config, read_underlay};
 use sample_packets::CONFIGURATION as TEXT;
 use segment_switch::LinkKind;
 use std::process::Abort;
 
-/// The tag of an empty message under the rows' key, from RFC 4493.
+/// The tag of an empty message under the configuration's key, from RFC 4493.
 const EMPTY_TAG: [u8; 16] = [
     0xbb, 0x1d, 0x69, 0x29, 0xe9, 0x59, 0x37, 0x28, 0x7f, 0xa3, 0x7d, 0x12, 0x9b, 0x75, 0x67, 0x46,
 ];
@@ -48,13 +48,10 @@ fn reads_a_configuration(rt: HostRuntime) {
     drop(config);
 }
 
-/// The text with a part replaced. In both parts `⏎` stands for the end of a line.
-pub fn changed(rt: &(impl AllocGlobal + Abort), text: &str, old: &str, new: &str) -> String {
-    let old = old.replace(rt.alloc(), "⏎", "\n").expect(rt, "text");
-    let new = new.replace(rt.alloc(), "⏎", "\n").expect(rt, "text");
-    assert!(rt; text.contains(old.as_str()), "{old}");
-    text.replacen(rt.alloc(), old.as_str(), new.as_str(), 1)
-        .expect(rt, "text")
+/// The text with a part replaced.
+fn changed(rt: &(impl AllocGlobal + Abort), text: &str, old: &str, new: &str) -> String {
+    assert!(rt; text.contains(old), "{old}");
+    text.replacen(rt.alloc(), old, new, 1).expect(rt, "text")
 }
 
 /// The text in version 2: the internal network has one band, link 2 has two.
@@ -94,89 +91,19 @@ fn reads_the_second_version(rt: HostRuntime) {
     drop(config);
 }
 
-/// In each line: the number of the first fault, a part of the text, and what is in its place, where `⏎`
-/// stands for the end of a line. Version 2 tells the bands; where there are two faults, as in the last lines,
-/// the key that is read first decides. One text is proved sooner than a table of many.
-const FAULTS: &str = r#"1: version = 1 -> version =
-1: seed = 0 -> seed = 9223372036854775808
-2: version = 1 -> # version = 1
-2: isd_as -> isdas
-2: key = -> keys =
-2: seed = 0 -> seeds = 0
-2: number=2, at -> at
-2: version = 1 -> version = 2
-2: version = 1 -> version = 2⏎internal_bands = 1
-3: version = 1 -> version = "1"
-3: host_port = 30041 -> host_port = 30041.0
-3: "parent" -> "peer"
-3: sibling = [ -> sibling = 0 # [
-3: {number=2, at="10.0.0.9:30252"} -> 2
-3: seed = 0 -> seed = 0⏎buffers = true
-4: 1-ff00:0:110 -> 1-ff00:0
-4: 1-ff00:0:110 -> 65536-ff00:0:110
-4: 1-ff00:0:110 -> 0-ff00:0:110
-4: 1-ff00:0:110 -> 01-ff00:0:110
-4: 1-ff00:0:110 -> 1-0:0:0
-4: 1-ff00:0:110 -> 1-4294967296
-5: 4f3c" -> 4f3"
-6: 10.0.0.1:30000 -> 10.0.0.1
-6: 10.0.0.1:30000 -> 10.0.0.1:0
-6: 10.0.0.1:30000 -> [::1]:30000
-6: 10.2.0.2:40000 -> 10.2.0.2:65536
-7: {id=1, -> {id=0,
-7: {id=3, -> {id=1,
-7: {id=4 -> {id=2
-7: {number=2, -> {number=5, at="[0:0:0:0:0:0:0:1]:1"}, {number=5,
-8: version = 1 -> version = 3
-8: host_port = 30041 -> host_port = 0
-8: processors = 1 -> processors = 17
-8: capacity = 4 -> capacity = 0
-8: capacity = 4 -> capacity = 65537
-8: seed = 0 -> seed = -1
-8: seed = 0 -> seed = 4294967296
-8: seed = 0 -> seed = 0⏎buffers = 1
-8: seed = 0 -> seed = 0⏎buffers = 65537
-8: link = [ -> link = []⏎links = [
-8: link = [ -> link = [0,1,2,3,4,5,6,7,8,9,10,11,12,13,14,15,16,17,18,19,20,21,22,23,24,25,26,27,28,29,30,31,
-8: {id=3, -> {id=65536,
-8: {number=2, -> {number=32768,
-5: "2b7e151628aed2a6abf7158809cf4f3c"⏎internal = "10.0.0.1:30000" -> "2b"⏎internal = "10"
-3: kind="parent", local="10.1.0.1:40000" -> kind="x", local=""
-6: local="10.1.0.1:40000", remote="10.1.0.2:40000"},⏎{id=2 -> local="", remote=""},⏎{id=1
-"#;
-
+/// The fault by its number and in its words.
 #[test]
-fn answers_the_first_fault(rt: HostRuntime) {
-    for row in FAULTS.lines() {
-        let (number, change) = row.split_once(": ").expect(&rt, "number");
-        let (old, new) = change.split_once(" -> ").expect(&rt, "change");
-        let text = changed(&rt, TEXT, old, new);
-        let told = match read_config(rt.alloc(), text.as_str()) {
-            Ok(_) => 0,
-            Err(fault) => fault.number(),
-        };
-        assert!(&rt; number.parse().ok() == Some(told), "{row}");
-    }
-}
-
-/// In each line: a part of the text, and what may be in its place as well.
-const VARIANTS: &str = r#"1-ff00:0:110 -> 1-FF00:0:110
-1-ff00:0:110 -> 65535-4294967295
-2b7e -> 2B7E
-number=2 -> number=0
-number=2 -> number=32767
-seed = 0 -> seed = 4294967295⏎buffers = 65536⏎other = 1
-sibling = [{id=4, kind="child", at="10.0.0.2:30000"}] -> #
-service = [{number=2, at="10.0.0.9:30252"}] -> #
-"#;
-
-#[test]
-fn reads_what_may_vary(rt: HostRuntime) {
-    for row in VARIANTS.lines() {
-        let (old, new) = row.split_once(" -> ").expect(&rt, "change");
-        let text = changed(&rt, TEXT, old, new);
-        assert!(&rt; read_config(rt.alloc(), text.as_str()).is_ok(), "{row}");
-    }
+fn tells_a_fault(rt: HostRuntime) {
+    let alloc = rt.alloc();
+    assert!(&rt; fault_words(alloc, TEXT).expect(&rt, "memory").is_none());
+    let text = changed(&rt, TEXT, "version = 1", "version = 3");
+    let number = match read_config(alloc, text.as_str()) {
+        Ok(_) => 0,
+        Err(fault) => fault.number(),
+    };
+    assert!(&rt; number == 8);
+    let told = fault_words(alloc, text.as_str()).expect(&rt, "memory");
+    assert!(&rt; told.expect(&rt, "words").as_str() == "`version` is 3; wanted: 1 or 2");
 }
 
 /// An address and its text.
@@ -215,21 +142,6 @@ fn prints_what_it_reads(rt: HostRuntime) {
     // Both cases and leading zeros of a group are read; they aren't printed.
     let read = read_underlay("[FD00:0001:0020:300:4000:0:A:77]:65535");
     assert!(&rt; read == Some(ADDRESSES[2].1));
-}
-
-/// What is no address and port, the first of them the empty text.
-const NO_ADDRESSES: &str =
-    "|10.0.0.1|10.0.0.1:|10.0.0.1:0|10.0.0.1:65536|10.0.0.1:01|10.0.0.1:+1|10.0.0:1|\
-    10.0.0.0.1:1|10.0.0.01:1|10.0.0.256:1|10.0.0.-1:1| 10.0.0.1:1|10.0.0.1:1 |[::1]:5|\
-    [0:0:0:0:0:0:0]:5|[0:0:0:0:0:0:0:0:0]:5|[0:0:0:0:0:0:0:g]:5|[00000:0:0:0:0:0:0:0]:5|\
-    [0:0:0:0:0:0:0:0]|[0:0:0:0:0:0:0:0]5|[0:0:0:0:0:0:0:0]x:5|x[0:0:0:0:0:0:0:0]:5|\
-    [0:0:0:0:0:0:0:1.2]:5|[0:0:0:0:0:0:0:+1]:5|localhost:5";
-
-#[test]
-fn refuses_what_is_no_address(rt: HostRuntime) {
-    for text in NO_ADDRESSES.split("|") {
-        assert!(&rt; read_underlay(text) == None, "at {text:?}");
-    }
 }
 
 #[test]

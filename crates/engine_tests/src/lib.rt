@@ -1,6 +1,7 @@
 //! Tests of the engines of the router's commands, over readers and writers in memory, and of what they stand
 //! on: the decision and its answers, and what reads texts. They are kept apart from these crates, each of which
-//! would be proved a second time for its tests.
+//! would be proved a second time for its tests. What the program shows, in lines and words, is tried by
+//! `tests/lines` instead.
 #![tactic(auto)]
 
 #[cfg(test)]
@@ -13,24 +14,14 @@ mod decision;
 #[cfg(test)]
 mod links;
 #[cfg(test)]
-mod malicious;
-#[cfg(test)]
 mod replay;
 #[cfg(test)]
 mod route;
 #[cfg(test)]
-mod rows;
-#[cfg(test)]
 mod run;
-#[cfg(test)]
-mod schedules;
 #[cfg(test)]
 mod sound;
 #[cfg(test)]
 mod words;
-#[cfg(test)]
-mod words_of_faults;
-#[cfg(test)]
-mod worked;
 
 pub use calls::count_call;

@@ -1,0 +1,347 @@
+#!/usr/bin/env python3
+"""Gives the built program words, configurations and lines, and compares what it writes and how it ends with tables.
+
+The tables are the files beside this one. Each says at its head what its rows are; lines that begin with `# ` are
+comments. Besides, `router route` is given each beginning of the first datagram, and each datagram that differs from it
+in one byte. No router is started, and no network is needed.
+
+Use: tests/lines/check.py [PROGRAM], where PROGRAM is bin/router if it isn't named.
+"""
+
+import os
+import re
+import struct
+import subprocess
+import sys
+import tempfile
+
+HERE = os.path.dirname(os.path.abspath(__file__))
+TOP = os.path.dirname(os.path.dirname(HERE))
+SECONDS = 60
+MOST_SHOWN = 20
+
+# By link 1, at a second at which the first datagram is sent on. The configuration is always the file `c`.
+ROUTE = ["route", "--config", "c", "--link", "1", "--now", "1694499816"]
+REPLAY = ["replay", "--config", "c"]
+CHECK = ["check", "--config", "c"]
+
+
+# Tables.
+
+
+def rows_of(name):
+    """The lines of a file that are neither empty nor comments."""
+    with open(os.path.join(HERE, name), encoding="utf-8") as file:
+        rows = [line for line in file.read().split("\n") if line and line != "#" and not line.startswith("# ")]
+    if not rows:
+        sys.exit(f"{name} has no rows")
+    return rows
+
+
+def text_of(name):
+    """The text of a configuration, without its comments: a fault tells of a line by its number."""
+    return "".join(f"{row}\n" for row in rows_of(name))
+
+
+def bytes_of(name):
+    return bytes.fromhex("".join(rows_of(name)))
+
+
+def changed(text, old, new):
+    """The text with a part replaced. In both parts `⏎` stands for the end of a line."""
+    old, new = old.replace("⏎", "\n"), new.replace("⏎", "\n")
+    if old not in text:
+        sys.exit(f"there is no {old!r} to be changed")
+    return text.replace(old, new, 1)
+
+
+def unescaped(text):
+    """The bytes of a text in which `\\r` and `\\x..` stand for some."""
+    return text.encode("ascii").decode("unicode_escape").encode("latin-1")
+
+
+# The program.
+
+
+def writes(output):
+    """The end of a command that does all it was asked for: status, output, and a pattern of standard error."""
+    return 0, output, b""
+
+
+def faults(words, output=b""):
+    """The end of a command by a fault, after this output."""
+    return 1, output, re.escape(b"fault: " + words + b"\n")
+
+
+class Trial:
+    """Runs of the program in a folder of its own, and how many rows came out as they should."""
+
+    def __init__(self, program, folder):
+        self.program, self.folder = program, folder
+        self.passed, self.failed = 0, 0
+
+    def run(self, words, config, given=b""):
+        """The status, the output and standard error of a command, where `c` has this text, or isn't there for None."""
+        path = os.path.join(self.folder, "c")
+        if config is not None:
+            with open(path, "w", encoding="utf-8") as file:
+                file.write(config)
+        elif os.path.exists(path):
+            os.remove(path)
+        try:
+            done = subprocess.run(
+                [self.program, *words], cwd=self.folder, input=given, capture_output=True, timeout=SECONDS
+            )
+        except subprocess.TimeoutExpired:
+            return -1, b"", f"(no end within {SECONDS} seconds)".encode()
+        return done.returncode, done.stdout, done.stderr
+
+    def count(self, row, is_good, *told):
+        """Counts a row, and tells of the first ones that came out otherwise."""
+        if is_good:
+            self.passed += 1
+            return
+        self.failed += 1
+        if self.failed <= MOST_SHOWN:
+            print(row[:160])
+            for line in told:
+                print(f"  {line[:400]}")
+
+    def compare(self, row, wanted, words, config, given=b""):
+        """Counts a row by how a command ends."""
+        status, output, errors = self.run(words, config, given)
+        is_good = (status, output) == wanted[:2] and re.fullmatch(wanted[2], errors, re.DOTALL) is not None
+        self.count(row, is_good, f"wanted {wanted}", f"came   {(status, output, errors)}")
+
+
+# Words and configurations.
+
+
+def try_words(trial):
+    config = changed(text_of("router.toml"), "{id=3,", "{id=65535,")
+    links = b"".join(b"link %d sent -\n" % link for link in (0, 1, 2, 65535))
+    ends = {
+        "nothing": writes(b""),
+        "report": writes(links + b"received 0\nsent 0\nanswered 0\nwaiting 0\n"),
+        "ok": writes(b"ok\n"),
+        "no file": faults(b"file"),
+        "refused": (2, b"", b".+"),
+    }
+    for row in rows_of("words.txt"):
+        end, words = row.split(":", 1)
+        # where words are wrongly taken, a missing `c` shows it, and starts no router
+        trial.compare(row, ends[end], words.split(), None if end in ("no file", "refused") else config)
+
+
+def try_addresses(trial):
+    config = text_of("router.toml")
+    for row in rows_of("no-addresses.txt"):
+        # the text tells that a value is refused: without it, the same words are taken
+        refused = (2, b"", b".*ADDR an address and port.*")
+        trial.compare(row, refused, [*ROUTE, f"--from={row[1:-1]}"], config)
+
+
+def try_configs(trial):
+    sound = text_of("router.toml")
+    for row in rows_of("configs.txt"):
+        told, change = row.split(": ", 1)
+        fault = (1, b"", f"fault: config {told}: [^\n]+\n".encode())
+        trial.compare(row, writes(b"ok\n") if told == "ok" else fault, CHECK, changed(sound, *change.split(" -> ", 1)))
+
+
+def try_fault_words(trial):
+    sound = text_of("router.toml")
+    for row in rows_of("fault-words.txt"):
+        old, new, words = row.split(" -> ", 2)
+        pattern = re.escape(words[:-2]) + "[^\n]*" if words.endswith("..") else re.escape(words)
+        fault = (1, b"", f"fault: config [1-8]: {pattern}\n".encode())
+        trial.compare(row, fault, CHECK, changed(sound, old, new))
+
+
+# Worked datagrams.
+
+
+def made(base, length, changes):
+    """The bytes of the base, cut or filled with zeros to this length, with changes, each told as `offset=hex`."""
+    found = bytearray(base[:length].ljust(length, b"\0"))
+    for change in changes.split():
+        at, digits = change.split("=")
+        at, put = int(at), bytes.fromhex(digits)
+        found.extend(bytes(max(0, at + len(put) - len(found))))
+        found[at : at + len(put)] = put
+    return bytes(found)
+
+
+def quoting(answer, datagram):
+    """The answer with the datagram after its message's first bytes, as far as its payload length tells."""
+    end = 4 * answer[5] + int.from_bytes(answer[6:8], "big")
+    return (answer + datagram)[:end].ljust(end, b"\0")
+
+
+def try_datagrams(trial):
+    config, first, answer = text_of("router.toml"), bytes_of("first.hex"), bytes_of("answer.hex")
+    for row in rows_of("datagrams.txt"):
+        name, link, now, source, length, changes, begins, leaves = (column.strip() for column in row.split(";"))
+        datagram = made(first, int(length), changes)
+        if begins.startswith("send "):
+            begins += " " + made(datagram, len(datagram), leaves).hex()
+        elif begins.startswith("answer "):
+            begins += " " + quoting(made(answer, len(answer), leaves), datagram).hex()
+        words = ["route", "--config", "c", "--link", link, "--now", now, *([] if source == "-" else ["--from", source])]
+        trial.compare(name, writes(f"{begins}\n".encode()), words, config, f"{datagram.hex()}\n".encode())
+
+
+def try_longest(trial):
+    config, header, answer = text_of("router.toml"), bytes_of("long-header.hex"), bytes_of("long-answer.hex")
+    for length, line in ((9216, f"answer 1 - {answer.hex()}\n"), (9217, "drop 11\n")):
+        given = header.ljust(length, b"\x5a").hex().encode()
+        trial.compare(f"{length} bytes", writes(line.encode()), ROUTE, config, given)
+
+
+# Lines of `route` and of `replay`.
+
+
+def cases_of(name):
+    """The cases of a table: each with its name, changes of the configuration, its input, its output and its fault."""
+    rest_of_first, found = bytes_of("first.hex")[4:].hex(), []
+    for row in rows_of(name):
+        mark, _, text = row.partition(" ")
+        if mark == "=":
+            found.append({"name": text, "changes": [], "given": b"", "output": b"", "fault": None})
+        elif mark == ":":
+            found[-1]["changes"].append(text.split(" -> ", 1))
+        elif mark in ("<", "<."):
+            line = text[:-2] + rest_of_first if text.endswith("..") else text
+            found[-1]["given"] += unescaped(line) + (b"\n" if mark == "<" else b"")
+        elif mark == ">":
+            found[-1]["output"] += text.encode() + b"\n"
+        elif mark == "!":
+            found[-1]["fault"] = text.encode()
+        else:
+            sys.exit(f"{name}: no line of a case begins with {mark}")
+    return found
+
+
+def try_cases(trial, name, words, config):
+    for case in cases_of(name):
+        text = config
+        for old, new in case["changes"]:
+            text = changed(text, old, new)
+        wanted = faults(case["fault"], case["output"]) if case["fault"] else writes(case["output"])
+        trial.compare(f"{name}: {case['name']}", wanted, words, text, case["given"])
+
+
+def try_replay_faults(trial):
+    config = text_of("replay.toml")
+    for row in rows_of("replay-faults.txt"):
+        place, line = row.split(" ", 1)
+        line = unescaped(line[1:-1])
+        if place == "step":
+            # the lines before it are noted, and the one after it isn't read
+            given, noted = b"receive 1\n" + line + b"\nreceive 1\n", b"not now 1\n"
+        else:
+            given, noted = b"arrive 1 - 0 00\n" + line + b"\n", b""
+        trial.compare(row, faults(b"line 2", noted), REPLAY, config, given)
+
+
+# Malicious datagrams.
+
+
+def parts_of(datagram):
+    """The addresses, the path and the payload of a datagram whose header docs/FORMATS.md doesn't refuse, else None."""
+    if len(datagram) < 12 or datagram[0] >> 4 != 0 or datagram[8] != 1:
+        return None
+    hosts = 4 * ((datagram[9] >> 4 & 3) + 1) + 4 * ((datagram[9] & 3) + 1)
+    begin, end = 28 + hosts, 4 * datagram[5]
+    if not begin <= end <= len(datagram):
+        return None
+    return datagram[12:begin], datagram[begin:end], datagram[end:]
+
+
+def is_path(path):
+    """Whether docs/FORMATS.md doesn't refuse a path."""
+    if len(path) < 4:
+        return False
+    meta = int.from_bytes(path[:4], "big")
+    segment, hop = meta >> 30, meta >> 24 & 63
+    lengths = [meta >> 12 & 63, meta >> 6 & 63, meta & 63]
+    segments, hops = sum(length > 0 for length in lengths), sum(lengths)
+    if 0 in lengths[:segments] or not 1 <= hops <= 64 or len(path) != 4 + 8 * segments + 12 * hops:
+        return False
+    if segment >= segments or not sum(lengths[:segment]) <= hop < sum(lengths[: segment + 1]):
+        return False
+    return not any(path[4 + 8 * k] & 2 for k in range(segments))
+
+
+def is_checksum_right(addresses, message):
+    """Whether the words of an SCMP message and its pseudo header sum up to a multiple of 65,535."""
+    summed = addresses + struct.pack(">II", len(message), 202) + message + bytes(len(message) % 2)
+    return sum(struct.unpack(f">{len(summed) // 2}H", summed)) % 65535 == 0
+
+
+def message_of(line):
+    """The message of a line that is an answer by link 1, if it reads back and has the right checksum; else None."""
+    found = re.fullmatch(rb"answer 1 - ((?:[0-9a-f]{2})+)", line)
+    answer = bytes.fromhex(found[1].decode()) if found else b""
+    parts = parts_of(answer)
+    if not parts or answer[4] != 202:
+        return None
+    addresses, path, message = parts
+    is_whole = int.from_bytes(answer[6:8], "big") == len(message)
+    return message if is_whole and is_path(path) and is_checksum_right(addresses, message) else None
+
+
+def is_cut_well(line, cut, payload_at):
+    """Whether a datagram that is cut within its header is dropped as too short, and the sender of another is told that
+    the payload length is wrong, with all of it as the quote."""
+    if len(cut) < payload_at:
+        return line == b"drop 1"
+    message = message_of(line)
+    return message is not None and (message[:2], message[4:8], message[8:]) == (b"\x04\x13", bytes(4), cut)
+
+
+def is_good(line):
+    """Whether a line is one that docs/FORMATS.md has, and reads back where it is an answer."""
+    return re.fullmatch(rb"drop \d+|send \d+ \S+ (?:[0-9a-f]{2})+", line) or message_of(line) is not None
+
+
+def try_malicious(trial):
+    first = bytes_of("first.hex")
+    payload_at, cuts = 4 * first[5], [first[:end] for end in range(len(first))]
+    turns = [(at, turn) for at in range(len(first)) for turn in range(1, 256)]
+    turned = [first[:at] + bytes([first[at] ^ turn]) + first[at + 1 :] for at, turn in turns]
+    given = "".join(f"{datagram.hex()}\n" for datagram in cuts + turned).encode()
+    status, output, errors = trial.run(ROUTE, text_of("router.toml"), given)
+    lines = output.split(b"\n")
+    # one line for each, all of them ended, and nothing else; otherwise no line is known to be of its datagram
+    is_whole = (status, errors, lines.pop(), len(lines)) == (0, b"", b"", len(cuts + turned))
+    if not is_whole:
+        print(f"malicious datagrams: {len(lines)} lines, status {status}, {errors[:160]}")
+        lines = [b""] * len(cuts + turned)
+    for cut, line in zip(cuts, lines):
+        trial.count(f"the first {len(cut)} bytes", is_cut_well(line, cut, payload_at), f"came   {line}")
+    for (at, turn), line in zip(turns, lines[len(cuts) :]):
+        trial.count(f"byte {at} turned by {turn:02x}", is_good(line), f"came   {line}")
+
+
+def main():
+    program = os.path.abspath(sys.argv[1] if len(sys.argv) > 1 else os.path.join(TOP, "bin", "router"))
+    if not os.access(program, os.X_OK):
+        sys.exit(f"there is no program {program}: `make` builds it")
+    with tempfile.TemporaryDirectory() as folder:
+        trial = Trial(program, folder)
+        try_words(trial)
+        try_addresses(trial)
+        try_configs(trial)
+        try_fault_words(trial)
+        try_datagrams(trial)
+        try_longest(trial)
+        try_cases(trial, "routes.txt", ROUTE, text_of("router.toml"))
+        try_cases(trial, "replays.txt", REPLAY, text_of("replay.toml"))
+        try_replay_faults(trial)
+        try_malicious(trial)
+    print(f"{trial.passed} passed, {trial.failed} failed")
+    sys.exit(1 if trial.failed else 0)
+
+
+main()
