@@ -39,10 +39,15 @@ bin/path_probe: $(PROVED)
 try-net: bin/router bin/path_probe
 	examples/three-ases/try.sh
 
+# How many checks the gate makes side by side: one for each processor that has 4 GiB of memory. Each is one job, since
+# two jobs take more of the processors' time for the same check.
+LANES ?= $(shell awk -v cores=$$(nproc) '/^MemAvailable/ { n = int($$2 / 4194304) } \
+	END { if (n > cores) n = cores; print (n > 1 ? n : 1) }' /proc/meminfo)
+
 # The merge gate; last, the program that it built is given the tables of tests/lines. It needs python3 too.
 test:
 	rm -f $(PROGRAM)
-	$(RT) ci
+	RT_JOBS=$(LANES) $(RT) ci
 	$(MAKE) $(PROGRAM)
 	tests/lines/check.py $(PROGRAM)
 
@@ -133,7 +138,7 @@ nets: bin/router
 
 # The gate, from nothing, with the processor time of each crate's proof, tests and wrong bodies; it needs python3 too.
 gate-times:
-	tests/gate/times.py --anew
+	RT_JOBS=$(LANES) tests/gate/times.py --anew
 
 .PHONY: pictures
 
