@@ -1,5 +1,7 @@
 //! The events on which workers sleep, and who notifies which.
 
+ghost use Rattle.std.specs.Prelude.{◌≡◌, IfOk, length};
+
 use crossbeam_utils::sync::EventCount;
 use stage_parts::Event;
 use std::alloc::{AllocError, Global};
@@ -14,16 +16,21 @@ pub struct Events {
     pub forwarders: Vec<Event>,
 }
 
-fn so_many(alloc: Global, count: usize) -> Result<Vec<Event>, AllocError> {
+fn so_many(alloc: Global, count: usize) -> Result<Vec<Event>, AllocError>
+    ensures { IfOk result (λ v. length v.items ≡ count) }
+{
     let mut events = Vec::new(alloc);
-    for _ in 0..count {
+    for k in 0..count {
         events.push(Arc::new(alloc, EventCount::new())?)?;
     }
     Ok(events)
 }
 
 /// New events for a router with these numbers of links and processors. `Err` where no memory is left.
-pub fn events_for(alloc: Global, links: usize, processors: usize) -> Result<Events, AllocError> {
+pub fn events_for(alloc: Global, links: usize, processors: usize) -> Result<Events, AllocError>
+    ensures processors { IfOk result (λ e. length e.processors.items ≡ processors) }
+    ensures forwarders { IfOk result (λ e. length e.forwarders.items ≡ links) }
+{
     Ok(Events {
         processors: so_many(alloc, processors)?,
         slow: Arc::new(alloc, EventCount::new())?,

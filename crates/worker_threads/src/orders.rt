@@ -1,6 +1,7 @@
 //! What all threads of a run share.
 
 ghost use Rattle.std.specs.Prelude.{◌≡◌, IfOk, false, is_some, true};
+ghost use Rattle.std.specs.Arc.{arc_value};
 
 use packet_ledger::{Book, Ledger};
 use router_stages::STOP;
@@ -42,7 +43,8 @@ impl<N: Ledger> Orders<N> {
     /// The same orders, for a thread of a worker that nobody notifies of pushes. It takes no memory; it
     /// fails where there are too many.
     pub fn another(&self) -> Result<Orders<N>, AllocError>
-        ensures { IfOk result (λ o. is_some o.event ≡ false) }
+        ensures given { IfOk result (λ o. (arc_value o.word ≡ arc_value self.now.word) × (arc_value o.book ≡ arc_value self.now.book)) }
+        ensures event { IfOk result (λ o. is_some o.event ≡ false) }
     {
         let word = Arc::try_clone(&self.word)?;
         let book = Arc::try_clone(&self.book)?;
@@ -52,7 +54,8 @@ impl<N: Ledger> Orders<N> {
     /// The same orders, for a thread of a worker of whose pipes each producer notifies the event after
     /// its pushes, marks among them. The worker sleeps on it.
     pub fn another_with(&self, event: &Event) -> Result<Orders<N>, AllocError>
-        ensures { IfOk result (λ o. is_some o.event ≡ true) }
+        ensures given { IfOk result (λ o. (arc_value o.word ≡ arc_value self.now.word) × (arc_value o.book ≡ arc_value self.now.book)) }
+        ensures event { IfOk result (λ o. is_some o.event ≡ true) }
     {
         let mut orders = self.another()?;
         orders.event = Some(Arc::try_clone(event)?);
