@@ -23,13 +23,11 @@ use std::{env, fs, io};
 /// How many seconds an answer is waited for.
 const PATIENCE: u64 = 5;
 
-/// The router of one end of a link.
+/// A router, with the interface of its first link.
 #[derive(Drop)]
 struct Router {
-    isd: u16,
-    autonomous_system: u64,
-    internal: Underlay,
-    end: End,
+    config: Config,
+    interface: u16,
 }
 
 /// What this can't do.
@@ -43,19 +41,15 @@ fn router_of(config: Config) -> io::Result<Router> {
         return Err(refused("no link"));
     };
     let interface = link.id;
-    let Config {
-        isd,
-        autonomous_system,
-        key,
-        internal,
-        ..
-    } = config;
-    Ok(Router {
-        isd,
-        autonomous_system,
-        internal,
-        end: End { key, interface },
-    })
+    Ok(Router { config, interface })
+}
+
+/// The router's end of that link.
+fn end_of(router: &Router) -> End<'_> {
+    End {
+        key: &router.config.key,
+        interface: router.interface,
+    }
 }
 
 /// The router of the configuration that a file holds.
@@ -100,23 +94,21 @@ fn sockets_at<R: Net>(
 }
 
 /// A host of a router's AS.
-fn place_of(router: &Router, host: [u8; 4]) -> io::Result<Place> {
-    if router.autonomous_system >= 1 << 48 {
-        return Err(refused("no AS number"));
-    }
-    Ok(Place {
-        isd: router.isd,
-        autonomous_system: router.autonomous_system,
+fn place_of(router: &Router, host: [u8; 4]) -> Place {
+    Place {
+        isd: router.config.isd,
+        autonomous_system: router.config.autonomous_system,
         host,
-    })
+    }
 }
 
 /// Where the first router takes packets of its AS.
 fn entry_of(router: &Router) -> io::Result<SocketAddr> {
-    match router.internal.ip {
+    let internal = router.config.internal;
+    match internal.ip {
         Ip::V4(bytes) => Ok(SocketAddr::new(
             IpAddr::V4(Ipv4Addr::from_octets(bytes)),
-            router.internal.port,
+            internal.port,
         )),
         Ip::V6(_) => Err(refused("no IPv4 address")),
     }
@@ -173,23 +165,16 @@ struct Plan {
 }
 
 /// The path over these routers, beaconed now, between two hosts.
-fn plan_of(routers: Routers, from: [u8; 4], to: [u8; 4], now: u32) -> io::Result<Plan> {
-    let Routers {
-        first,
-        entering,
-        leaving,
-        last,
-    } = routers;
-    let entry = entry_of(&first);
-    let (from, to) = (place_of(&first, from), place_of(&last, to));
-    let up = segment_over(entering.end, first.end, 0x1234, now);
-    let down = segment_over(leaving.end, last.end, 0x5678, now);
+fn plan_of(routers: &Routers, from: [u8; 4], to: [u8; 4], now: u32) -> io::Result<Plan> {
+    let entry = entry_of(&routers.first)?;
+    let (entering, first) = (end_of(&routers.entering), end_of(&routers.first));
+    let (leaving, last) = (end_of(&routers.leaving), end_of(&routers.last));
     Ok(Plan {
-        from: from?,
-        to: to?,
-        entry: entry?,
-        up,
-        down,
+        from: place_of(&routers.first, from),
+        to: place_of(&routers.last, to),
+        entry,
+        up: segment_over(entering, first, 0x1234, now),
+        down: segment_over(leaving, last, 0x5678, now),
     })
 }
 
@@ -215,7 +200,7 @@ fn probe_of<R: Files + Net + Clock + AllocGlobal>(rt: &R, words: &[String]) -> i
         leaving.as_str(),
         last.as_str(),
     )?;
-    let plan = plan_of(routers, near.0, far.0, now)?;
+    let plan = plan_of(&routers, near.0, far.0, now)?;
     let (near, far) = sockets_at(rt, near, far)?;
     Ok(Probe { plan, near, far })
 }

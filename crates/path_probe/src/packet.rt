@@ -9,6 +9,7 @@ use hop_check::{beacon, chain};
 use path_fields::{Hop, Info, Path, write_path};
 use scion_header::{Address, Header, Host, write_header};
 use std::alloc::{AllocError, Global};
+use std::slice;
 
 /// Where the path begins: after the common header and two AS numbers with an IPv4 host each.
 const PATH_AT: usize = 36;
@@ -17,9 +18,9 @@ const PATH_AT: usize = 36;
 const PAYLOAD_AT: usize = 104;
 
 /// One end of a link between two ASes, with the key of its AS.
-#[derive(Drop)]
-pub struct End {
-    pub key: Cmac,
+#[derive(Clone, Copy)]
+pub struct End<'a> {
+    pub key: &'a Cmac,
     pub interface: u16,
 }
 
@@ -56,13 +57,16 @@ fn hop_of(ingress: u16, egress: u16) -> Hop {
 }
 
 /// The segment over a link from the core AS to another.
-pub fn segment_over(core: End, other: End, at_core: u16, timestamp: u32) -> Segment {
-    let mut hops = [hop_of(0, core.interface), hop_of(other.interface, 0)];
-    beacon(&[core.key, other.key], at_core, timestamp, &mut hops);
+pub fn segment_over(core: End<'_>, other: End<'_>, at_core: u16, timestamp: u32) -> Segment {
+    let mut first = [hop_of(0, core.interface)];
+    beacon(slice::from_ref(core.key), at_core, timestamp, &mut first);
+    let at_other = chain(at_core, &first[0].mac);
+    let mut second = [hop_of(other.interface, 0)];
+    beacon(slice::from_ref(other.key), at_other, timestamp, &mut second);
     Segment {
-        hops,
+        hops: [first[0], second[0]],
         at_core,
-        at_other: chain(at_core, &hops[0].mac),
+        at_other,
         timestamp,
     }
 }
