@@ -16,7 +16,6 @@ use std::mem;
 use std::sync::Wait;
 
 /// The sums of all that was posted, with the token that says so. Contracts see the sums.
-#[derive(Drop)]
 pub struct Sums<L: Ledger> {
     totals: Totals,
     token: Token,
@@ -35,6 +34,17 @@ impl<L: Ledger> Model for Sums<L> {
     ghost view = { λ s. s.totals };
 
     ghost invariant = { λ s. (s.token.table_id ≡ L.table) × (cell_view s.token ≡ keeper (65537 - L.workers) nothing s.totals) × AtMost (2 ^ 126) s.totals × (L.workers ≤ 65536) };
+}
+
+// Not derived: a derived drop is proved again in each crate that drops one.
+impl<L: Ledger> Drop for Sums<L> {
+    fn drop(self) {
+        let Sums {
+            totals: _,
+            token: _,
+            of: _,
+        } = self;
+    }
 }
 
 impl<L: Ledger> Sums<L> {

@@ -29,7 +29,6 @@ impl Model for Fate {
 }
 
 /// The fates of a run, in order.
-#[derive(Drop)]
 pub struct Fates {
     items: Vec<Fate>,
 }
@@ -42,6 +41,13 @@ impl Model for Fates {
     ghost Value = { List (Fate kinds) };
 
     ghost view = { λ f. f.items.items };
+}
+
+// Not derived: a derived drop is proved again in each crate that drops one.
+impl Drop for Fates {
+    fn drop(self) {
+        let Fates { items: _ } = self;
+    }
 }
 
 /// The fate of a packet or its answer. A mark has none.

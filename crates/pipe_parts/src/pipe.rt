@@ -16,7 +16,6 @@ use std::alloc::{AllocError, Global};
 use std::marker::Model;
 
 /// An item, with the worker that pushed it.
-#[derive(Drop)]
 pub struct Entry {
     from: WorkerIndex,
     item: Item,
@@ -32,6 +31,13 @@ impl Model for Entry {
     ghost use Rattle.pipe_parts.specs.Items.{item_in};
 
     ghost view = { λ e. record { from = worker_of e.from; item = item_in e.item } };
+}
+
+// Not derived: a derived drop is proved again in each crate that drops one.
+impl Drop for Entry {
+    fn drop(self) {
+        let Entry { from: _, item: _ } = self;
+    }
 }
 
 impl Entry {
@@ -85,7 +91,6 @@ impl Refusal {
 }
 
 /// A pipe. Besides all that was pushed it keeps counts and marks that would else be looked for in it.
-#[derive(Drop)]
 pub struct Pipe {
     history: Vec<Entry>,
     taken: usize,
@@ -113,6 +118,22 @@ impl Model for Pipe {
     ghost view = { history_of };
 
     ghost invariant = { IsKept };
+}
+
+// Not derived: a derived drop is proved again in each crate that drops one.
+impl Drop for Pipe {
+    fn drop(self) {
+        let Pipe {
+            history: _,
+            taken: _,
+            capacity: _,
+            refusals: _,
+            marked: _,
+            shut: _,
+            ends: _,
+            ended: _,
+        } = self;
+    }
 }
 
 /// Whether the worker is one of those that ended.

@@ -10,7 +10,6 @@ use cmac_core::Cmac;
 
 /// The configuration of a border router. Its type keeps each value's range, the limits of the lists,
 /// and that no interface and no service is listed twice.
-#[derive(Drop)]
 pub struct Config {
     /// The isolation domain of the local AS, at least 1.
     pub isd: u16,
@@ -58,4 +57,25 @@ pub struct Config {
     pub ghost services_are_whole: { IsTrue (list_all is_service services.items) },
     pub ghost interfaces_are_distinct: { IsTrue (are_distinct (map link_id links.items ++ map sibling_id siblings.items)) },
     pub ghost services_are_distinct: { IsTrue (are_distinct (map service_number services.items)) },
+}
+
+// Not derived: a derived drop is proved again in each crate that drops one.
+impl Drop for Config {
+    fn drop(self) {
+        let Config {
+            isd: _,
+            autonomous_system: _,
+            key: _,
+            internal: _,
+            internal_bands: _,
+            host_port: _,
+            processors: _,
+            capacity: _,
+            seed: _,
+            buffers: _,
+            links: _,
+            siblings: _,
+            services: _,
+        } = self;
+    }
 }

@@ -25,7 +25,6 @@ pub enum Next {
 
 /// Gives the answers of a list in order, and then `End`. Contracts see what it will answer, what it
 /// answered and how often it failed.
-#[derive(Drop)]
 pub struct ListSource {
     answers: Vec<Next>,
     given: usize,
@@ -43,6 +42,18 @@ impl Model for ListSource {
     ghost view = { λ s. record { coming = coming s.given s.answers.items; told = gone s.given s.ends s.answers.items; failed = s.failed } };
 
     ghost invariant = { λ s. (s.given ≤ length s.answers.items) × (1 ≤ s.ends → s.given ≡ length s.answers.items) };
+}
+
+// Not derived: a derived drop is proved again in each crate that drops one.
+impl Drop for ListSource {
+    fn drop(self) {
+        let ListSource {
+            answers: _,
+            given: _,
+            ends: _,
+            failed: _,
+        } = self;
+    }
 }
 
 // Gives an answer, with its bytes at the front of the buffer.

@@ -17,7 +17,6 @@ use std::marker::Model;
 use std::net::UdpSocket;
 
 /// Sends by a socket that isn't connected. Contracts see the ends of its link, and how often it failed.
-#[derive(Drop)]
 pub struct UdpSink {
     socket: UdpSocket,
     ends: Ends,
@@ -30,6 +29,17 @@ impl Model for UdpSink {
     ghost Value = { Sending };
 
     ghost view = { λ s. record { ends = s.ends; failed = s.failed } };
+}
+
+// Not derived: a derived drop is proved again in each crate that drops one.
+impl Drop for UdpSink {
+    fn drop(self) {
+        let UdpSink {
+            socket: _,
+            ends: _,
+            failed: _,
+        } = self;
+    }
 }
 
 /// Whether the system took the datagram. Where it had no room, it is waited for once.

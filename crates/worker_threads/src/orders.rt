@@ -20,11 +20,21 @@ pub const GIVE_UP: u64 = 3;
 
 /// The word that tells the threads what to do, which the receivers also read, the book into which
 /// workers post, and for a thread the event that is notified of pushes into its worker's pipes.
-#[derive(Drop)]
 pub struct Orders<N: Ledger> {
     pub word: Arc<AtomicU64, Global>,
     pub book: Arc<Book<N>, Global>,
     pub event: Option<Event>,
+}
+
+// Not derived: a derived drop is proved again in each crate that drops one.
+impl<N: Ledger> Drop for Orders<N> {
+    fn drop(self) {
+        let Orders {
+            word: _,
+            book: _,
+            event: _,
+        } = self;
+    }
 }
 
 impl<N: Ledger> Orders<N> {
