@@ -3,8 +3,6 @@
 
 mod arrived;
 mod border;
-#[cfg(test)]
-mod tests;
 mod told;
 
 ghost use Rattle.std.specs.Prelude.{◌≡◌, ◌≤◌, length};
