@@ -3,6 +3,8 @@
 
 mod arrived;
 mod border;
+#[cfg(test)]
+mod tests;
 mod told;
 
 ghost use Rattle.std.specs.Prelude.{◌≡◌, ◌≤◌, length};
