@@ -153,3 +153,8 @@ pub starts : {S G K : Type 0} (failed : K → ℕ) (a b : Config) (links : ℕ) 
     → a ≡ b → MatchResult r (λ x. Begins failed a ss ks x) (λ f. f ≡ Thread) → MatchResult r (λ x. Begins failed b ss ks x) (λ f. GivesBack links f ss ks)
 starts failed a b links ss ks (Ok x) e ran = subst (λ (c : Config). Begins failed c ss ks x) e ran
 starts {S = S} {K = K} failed a b links ss ks (Err f) e ran = subst (λ (x : StartFault S K). GivesBack links x ss ks) (sym ran) tt
+
+-- what stands ready, by another name of its configuration
+pub parts_as : {G : Type 0} (a b : Config) (p : Piping) (inner_rooms : List (Row (Arrival kinds))) (outer_rooms : List (Row (Outgoing kinds))) (es : List Entry) (ws : List (Working G)) (s : Answering) (xs : List Exit) (hs : List (Shutting (Outgoing kinds)))
+    → a ≡ b → AreWorkerParts b p inner_rooms outer_rooms es ws s xs hs → AreWorkerParts a p inner_rooms outer_rooms es ws s xs hs
+parts_as a b p inner_rooms outer_rooms es ws s xs hs e are = subst (λ (c : Config). AreWorkerParts c p inner_rooms outer_rooms es ws s xs hs) (sym e) are

@@ -128,21 +128,19 @@ module _ {S G K : Type 0} where
       sinks_are = writes;
     }
 
--- ---- what stands in a running router, seen by another name of its configuration
+-- ---- a running router, seen as its parts
 
-module _ {S G K : Type 0} where
-  pub crew_as : (a b : Config) (p : Piping) (w : Crew S G K) → a ≡ b → IsCrew b p w → IsCrew a p w
-  crew_as a b p w e is = subst (λ (c : Config). IsCrew c p w) (sym e) is
-
-  module _ (told : S → Option (List Heard)) (shown : K → Option (List Told)) (failed : K → ℕ) where
-    pub run_as : (a b : Config) (p : Piping) (w : Crew S G K) (r : Run S G K) (totals : Totals) (sent : List ℕ) (sources : List S) (sinks : List K) → a ≡ b → record { config = b; pipes = p; crew = w } ≡ r
-        → HasRun told shown failed (record { config = a; pipes = p; crew = w }) totals sent sources sinks → HasRun told shown failed r totals sent sources sinks
-    run_as a b p w r totals sent sources sinks e f ran =
-        subst (λ (x : Run S G K). HasRun told shown failed x totals sent sources sinks) f
-        (subst (λ (c : Config). HasRun told shown failed (record { config = c; pipes = p; crew = w }) totals sent sources sinks) e ran)
+module _ {S G K : Type 0} (told : S → Option (List Heard)) (shown : K → Option (List Told)) (failed : K → ℕ) where
+  pub run_as : (q r : Run S G K) (totals : Totals) (sent : List ℕ) (sources : List S) (sinks : List K) → q ≡ r → HasRun told shown failed q totals sent sources sinks → HasRun told shown failed r totals sent sources sinks
+  run_as q r totals sent sources sinks e ran = subst (λ (x : Run S G K). HasRun told shown failed x totals sent sources sinks) e ran
 
 pub left_as : {T : Type 0} (n m : ℕ) (ss : List Shape) (rs : List (Row T)) → n ≡ m → HaveLeft m 0 ss rs → HaveLeft n 0 ss rs
 left_as n m ss rs e left = subst (λ (k : ℕ). HaveLeft k 0 ss rs) (sym e) left
+
+-- ---- what stands in a running router, by another name of its configuration
+
+pub crew_as : {S G K : Type 0} (a b : Config) (p : Piping) (w : Crew S G K) → a ≡ b → IsCrew b p w → IsCrew a p w
+crew_as a b p w e is = subst (λ (c : Config). IsCrew c p w) (sym e) is
 
 pub worker_slots_as : (a b : Config) (r : WorkerSlots) → a ≡ b → HaveWorkerSlots (link_count b) b.processors r → HaveWorkerSlots (link_count a) a.processors r
 worker_slots_as a b r e have = subst (λ (c : Config). HaveWorkerSlots (link_count c) c.processors r) (sym e) have

@@ -25,7 +25,6 @@ use Rattle.run_laws.specs.Crew.{Crew}
 use Rattle.run_laws.specs.Ended.{HasMarked, outer_rows, takers_of}
 use Rattle.run_parts.specs.Room.{HaveSpace, IsRoomy, Space}
 use Rattle.router_run.specs.Run.{IsParted, IsSized, shares_in}
-use Rattle.router_run.proofs.PartLemmas.{one_after}
 use Rattle.wired_workers.proofs.RestLemmas.{each_first}
 
 -- ---- numbers
@@ -71,6 +70,10 @@ module _ {T : Type 0} where
   pub next_room : (n m : ℕ) (old new : List (Row T)) (r : Row T) → old ≡ r ∷ new → Each (IsRoomy n) old → m ≡ n → (r.ends ≡ []) × (m ≤ r.room)
   next_room n m old new r is all e = let first = (each_first (IsRoomy n) old new r is all).0 in (first.0, le_as m n r.room e first.1)
 
+-- the same number by another name
+pub all_at : {X : Type 0} (P : ℕ → X → Type 0) (n m : ℕ) (xs : List X) → m ≡ n → Each (P n) xs → Each (P m) xs
+all_at P n m xs e all = subst (λ (k : ℕ). Each (P k) xs) (sym e) all
+
 -- ---- what stands ready, seen otherwise
 
 pub sized_as : {S G K : Type 0} (links processors : ℕ) (v w : Crew S G K) → v ≡ w → IsSized links processors w → IsSized links processors v
@@ -78,6 +81,13 @@ sized_as links processors v w e is = subst (λ (x : Crew _ _ _). IsSized links p
 
 pub space_as : (links processors : ℕ) (v w : Space) → v ≡ w → HaveSpace links processors w → HaveSpace links processors v
 space_as links processors v w e is = subst (λ (x : Space). HaveSpace links processors x) (sym e) is
+
+-- of as many workers as there are
+pub own_size : {S G K : Type 0} (links processors : ℕ) (w : Crew S G K) → IsSized links processors w → IsSized (length w.receivers) (length w.processors) w
+own_size links processors w is = subst (λ (n : ℕ). IsSized n (length w.processors) w) (sym is.receivers.1) (subst (λ (n : ℕ). IsSized links n w) (sym is.workers.1) is)
+
+pub own_space : {S G K : Type 0} (links processors : ℕ) (w : Crew S G K) (r : Space) → IsSized links processors w → HaveSpace links processors r → HaveSpace (length w.receivers) (length w.processors) r
+own_space links processors w r is have = subst (λ (n : ℕ). HaveSpace n (length w.processors) r) (sym is.receivers.1) (subst (λ (n : ℕ). HaveSpace links n r) (sym is.workers.1) have)
 
 -- the only slow path's ends
 pub slow_long : (n : ℕ) (xs : List Answering) (x : Answering) → xs ≡ x ∷ [] → Each (λ (a : Answering). length a.side.links ≡ n) xs → length x.side.links ≡ n
@@ -103,38 +113,33 @@ module _ {S G K : Type 0} where
       ∙ (ap (λ (zs : List Held). zs ++ (ps ++ (s ∷ fs))) (a ∙ ap (λ (zs : List Held). zs ++ rs) e)
       ∙ (ap (λ (zs : List Held). rs ++ (ps ++ (zs ++ fs))) (sym slow) ∙ ap shares_in seen))))))
 
-  rows_parted : (w : Crew S G K) (x : Answering) (first second all : List (Row (Outgoing kinds))) (last : Row (Outgoing kinds)) → w.slow ≡ x ∷ []
-      → rows_of first ≡ map (λ (p : Working G). senders p.side.links) w.processors → rows_of second ≡ rows_of first ++ senders x.side.links ∷ []
-      → all ≡ second ++ last ∷ [] → last.ends ≡ shutter_ends w.shutters → rows_of all ≡ outer_rows w
-  rows_parted w x first second all last one a b d same =
+  rows_parted : (w : Crew S G K) (x : Answering) (first all : List (Row (Outgoing kinds))) → w.slow ≡ x ∷ []
+      → rows_of first ≡ map (λ (p : Working G). senders p.side.links) w.processors → rows_of all ≡ rows_of first ++ (senders x.side.links ∷ shutter_ends w.shutters ∷ [])
+      → rows_of all ≡ outer_rows w
+  rows_parted w x first all one a b =
       let Ends = List (Sender (Outgoing kinds)) in
       let ps : List Ends = map (λ (p : Working G). senders p.side.links) w.processors in
       let s : Ends = senders x.side.links in
       let slow : map (λ (a : Answering). senders a.side.links) w.slow ≡ s ∷ [] = ap (map (λ (a : Answering). senders a.side.links)) one in
-      one_after (λ (r : Row (Outgoing kinds)). r.ends) second all last d
-      ∙ (ap (λ (zs : List Ends). zs ++ last.ends ∷ []) b
-      ∙ (append_assoc (rows_of first) (s ∷ []) (last.ends ∷ [])
-      ∙ (ap (λ (zs : List Ends). zs ++ (s ∷ last.ends ∷ [])) a
-      ∙ (ap (λ (z : Ends). ps ++ (s ∷ z ∷ [])) same
-      ∙ ap (λ (zs : List Ends). ps ++ (zs ++ shutter_ends w.shutters ∷ [])) (sym slow)))))
+      b ∙ (ap (λ (zs : List Ends). zs ++ (s ∷ shutter_ends w.shutters ∷ [])) a
+      ∙ ap (λ (zs : List Ends). ps ++ (zs ++ shutter_ends w.shutters ∷ [])) (sym slow))
 
   asked_parted : (w : Crew S G K) (x : Answering) (asked : Taker (SlowPathRequest kinds)) → w.slow ≡ x ∷ [] → asked ≡ x.taker → (a : Answering) → w.slow ≡ a ∷ [] → asked ≡ a.taker
   asked_parted w x asked one is a other = let same : x ∷ [] ≡ a ∷ [] = sym one ∙ other in let e : x ≡ a = cc in is ∙ ap (λ (y : Answering). y.taker) e
 
-  pub is_parted : (v w : Crew S G K) (x : Answering) (inner_bundles : List (Row (Arrival kinds))) (inner : List (Taker (Arrival kinds))) (middle : List (Sender (SlowPathRequest kinds))) (asked : Taker (SlowPathRequest kinds)) (first second all : List (Row (Outgoing kinds))) (last : Row (Outgoing kinds)) (outer : List (Taker (Outgoing kinds)))
+  pub is_parted : (v w : Crew S G K) (x : Answering) (inner_bundles : List (Row (Arrival kinds))) (inner : List (Taker (Arrival kinds))) (middle : List (Sender (SlowPathRequest kinds))) (asked : Taker (SlowPathRequest kinds)) (first all : List (Row (Outgoing kinds))) (outer : List (Taker (Outgoing kinds)))
       → v ≡ w → v.slow ≡ x ∷ []
       → rows_of inner_bundles ≡ map (λ (r : Receiving S). senders r.side.processors) v.receivers
       → inner ≡ map (λ (p : Working G). p.taker) v.processors → middle ≡ map (λ (p : Working G). p.slow.sender) v.processors → asked ≡ x.taker
-      → rows_of first ≡ map (λ (p : Working G). senders p.side.links) v.processors → rows_of second ≡ rows_of first ++ senders x.side.links ∷ []
-      → all ≡ second ++ last ∷ [] → last.ends ≡ shutter_ends v.shutters → outer ≡ takers_of v.forwarders
+      → rows_of first ≡ map (λ (p : Working G). senders p.side.links) v.processors → rows_of all ≡ rows_of first ++ (senders x.side.links ∷ shutter_ends v.shutters ∷ []) → outer ≡ takers_of v.forwarders
       → IsParted w inner_bundles inner middle asked all outer
-  is_parted v w x inner_bundles inner middle asked first second all last outer seen one ib i m q a b d same o =
+  is_parted v w x inner_bundles inner middle asked first all outer seen one ib i m q a b o =
       let parted : IsParted v inner_bundles inner middle asked all outer = record {
         inner_bundles_are = ib;
         inner_are = i;
         middle_are = m;
         asked_is = asked_parted v x asked one q;
-        outer_bundles_are = rows_parted v x first second all last one a b d same;
+        outer_bundles_are = rows_parted v x first all one a b;
         outer_are = o;
       } in
       subst (λ (y : Crew S G K). IsParted y inner_bundles inner middle asked all outer) seen parted

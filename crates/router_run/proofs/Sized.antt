@@ -20,7 +20,6 @@ use Rattle.wired_workers.specs.Piping.{Piping, are_used}
 use Rattle.run_laws.specs.Ended.{IsBack}
 use Rattle.run_laws.proofs.Ends.{ends_long, same_ends}
 use Rattle.run_laws.proofs.Rows.{back_long, working_long}
-use Rattle.run_parts.specs.Room.{WorkerSlots, HaveWorkerSlots}
 use Rattle.router_run.specs.Run.{IsSized}
 
 long_of : {T : Type 0} (xs : List (Offering T)) → length (senders xs) ≡ length xs
@@ -94,9 +93,6 @@ module _ {S G K : Type 0} (c : Config) (p : Piping) (w : Crew S G K) (is : IsCre
 -- there is room for as many as these are read of
 pub mapped_fits : {X Y : Type 0} (f : X → Y) (xs : List X) (n room : ℕ) → length (map f xs) ≡ n → n ≤ room → length xs ≤ room
 mapped_fits f xs n room e fits = let l = length-map xs f in omega arith
-
-pub worker_slots_seen : (links processors : ℕ) (v w : WorkerSlots) → v ≡ w → HaveWorkerSlots links processors w → HaveWorkerSlots links processors v
-worker_slots_seen links processors v w e have = subst (λ (x : WorkerSlots). HaveWorkerSlots links processors x) (sym e) have
 
 pub is_sized : {S G K : Type 0} (c : Config) (p : Piping) (old new : Crew S G K) → IsCrew c p old → IsBack old new → IsSized (link_count c) c.processors new
 is_sized {S = S} {G = G} c p old new is back =

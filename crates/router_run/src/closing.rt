@@ -1,15 +1,21 @@
 //! Closing a link by its marks.
 
 ghost use Rattle.std.specs.Prelude.{◌≡◌, ◌+◌, ◌*◌, ◌<◌, ℕ, length, slice_get, slice_index_or, true, false};
+ghost use Rattle.std.specs.Arc.{arc_value};
+ghost use Rattle.pipeline_laws.specs.Item.{Outgoing};
 ghost use Rattle.router_ends.specs.Shutting.{AreOpen, Shutting, closed_at};
 ghost use Rattle.router_rules.specs.Links.{has_two_bands, link_count};
+ghost use Rattle.router_rules.specs.Rules.{kinds};
 ghost use Rattle.stage_parts.specs.Outlets.{is_used};
-ghost use Rattle.router_run.specs.Closing.{ClosesMarks, StayEnds, TriesAt};
+ghost use Rattle.router_run.specs.Closing.{Closing, ClosesMarks, StayEnds, TriesAt};
 
 use crate::fault::CloseFault;
 use router_ends::{Shutter, close_at};
 use router_rules::Shared;
-use std::sync::Wait;
+use stage_parts::{EgressPacket, Event, Router};
+use std::alloc::Global;
+use std::sync::{Arc, Wait};
+use wired_workers::notify_one;
 
 // Tries the closing mark of the pipe at a place, where it isn't there. Whether it is there now.
 fn close_one<T: Drop, R: Wait>(rt: &R, shutters: &mut Vec<Shutter<T>>, at: usize) -> bool
@@ -78,8 +84,8 @@ fn close_double<T: Drop, R: Wait>(
     }
 }
 
-/// Tries each closing mark of a link that isn't there yet, the high band's first.
-pub fn close_both<T: Drop, R: Wait>(
+// Tries each closing mark of a link that isn't there yet, the high band's first.
+fn close_both<T: Drop, R: Wait>(
     rt: &R,
     shared: &Shared,
     shutters: &mut Vec<Shutter<T>>,
@@ -97,5 +103,34 @@ pub fn close_both<T: Drop, R: Wait>(
         close_double(rt, shutters, low)
     } else {
         close_single(rt, shutters, low)
+    }
+}
+
+/// What closes the links while a router runs: its ends of their pipes, and the events of the forwarders.
+#[derive(Drop)]
+pub struct Controller<N: Router> {
+    pub shared: Arc<Shared, Global>,
+    pub shutters: Vec<Shutter<EgressPacket<N>>>,
+    pub forwarder_events: Vec<Event>,
+}
+
+impl<N: Router> Controller<N> {
+    /// Closes the link with an interface, and wakes its forwarder.
+    pub fn close<R: Wait>(&mut self, rt: &R, link: u16) -> Result<(), CloseFault>
+        requires count { length self.old.shutters.items ≡ 2 * link_count (arc_value self.old.shared).config }
+        requires used { (j : ℕ) (d : Shutting (Outgoing kinds)) → j < length self.old.shutters.items → (slice_index_or self.old.shutters.items j d).used ≡ is_used (has_two_bands (arc_value self.old.shared).config) j }
+        requires unended { AreOpen self.old.shutters.items }
+        ensures closing { Closing (arc_value self.old.shared).config link result self.old.shutters.items self.new.shutters.items }
+        ensures stay { StayEnds self.old.shutters.items self.new.shutters.items }
+        ensures shared { self.new.shared ≡ self.old.shared }
+    {
+        let number = self.shared.ports.number(link);
+        if usize::from(number) >= self.shared.ports.count() {
+            return Err(CloseFault::Unknown);
+        }
+        let closed = close_both(rt, &self.shared, &mut self.shutters, number);
+        // The forwarder may sleep before its empty pipes.
+        notify_one(self.forwarder_events.as_slice(), usize::from(number));
+        closed
     }
 }

@@ -1,33 +1,34 @@
 //! A router: started by one call, ended by another.
 
-ghost use Rattle.std.specs.Prelude.{◌≡◌, ◌+◌, ◌*◌, MatchResult, Some, [], length, vec_capacity};
+ghost use Rattle.std.specs.Prelude.{◌≡◌, ◌≤◌, ◌+◌, ◌*◌, ◌∷◌, MatchResult, Some, [], length, vec_capacity};
 ghost use Rattle.std.specs.Arc.{arc_value};
 ghost use Rattle.pipeline_laws.specs.Deeds.{Each};
 ghost use Rattle.router_laws.specs.Heard.{ToldNothing};
 ghost use Rattle.router_rules.specs.Links.{link_count};
 ghost use Rattle.router_run.specs.Closing.{Closing, IsSameRun};
 ghost use Rattle.wired_workers.specs.Dealing.{piping};
+ghost use Rattle.wired_workers.specs.Kits.{forwardings, receivings};
 ghost use Rattle.run_parts.specs.WorkerParts.{AreWorkerParts};
 ghost use Rattle.run_parts.specs.Room.{HaveWorkerSlots, HaveSpace};
 ghost use Rattle.router_run.specs.Run.{HasRun};
 ghost use Rattle.router_run.specs.Starting.{Begins, GivesBack};
 
-use crate::closing::close_both;
+use crate::closing::Controller;
 use crate::fault::{CloseFault, StartFault};
-use crate::finishing::{Report, Slots, Threaded, finish_all};
+use crate::finishing::{Report, Threaded, gather_pipes, join_workers, part_all, report_of};
 use packet_ledger::Blank;
 use process_packet::Config;
-use router_ends::Shutter;
-use router_rules::{Shared, link_count};
+use router_rules::{causes_are_apart, link_count, links_stand_in_order, rules_are_lawful};
 use router_stages::{Forwarder, Processor, Receiver, SlowPath};
-use run_parts::{Prepared, Space, ThreadSetups, WorkerParts, prepare};
-use stage_parts::{EgressPacket, Event, Gate, Router, Sink, Source};
+use run_laws::{crews_end, crews_return};
+use run_parts::{Base, Prepared, Reserve, WorkerParts, prepare};
+use stage_parts::{Event, Gate, Router, Sink, Source};
 use std::alloc::Global;
 use std::marker::Model;
 use std::rt::Clock;
-use std::sync::{Arc, Wait};
+use std::sync::Wait;
 use std::thread::Threads;
-use wired_workers::{Pipes, forwarders_of, notify_one, receivers_of};
+use wired_workers::{Common, Entering, Events, Leaving, Pipes, forwarders_of, receivers_of};
 use worker_threads::{Orders, Team, start_four};
 
 /// A running router. It has no `Drop`: it can only be finished. Contracts see its configuration, its pipes,
@@ -41,14 +42,19 @@ where
     R: Wait + Copy,
 {
     rt: R,
-    shared: Arc<Shared, Global>,
+    controller: Controller<N>,
     orders: Orders<N>,
-    forwarder_events: Vec<Event>,
     threads: Threaded<N, S, K, G, R>,
-    shutters: Vec<Shutter<EgressPacket<N>>>,
     pipes: Pipes<N>,
-    worker_slots: Slots<N, S, K, G, R>,
-    space: Space<N, S, K>,
+    reserve: Reserve<
+        N,
+        Receiver<N, R, S>,
+        Processor<N, R, G>,
+        SlowPath<N, R>,
+        Forwarder<N, R, K>,
+        S,
+        K,
+    >,
 }
 
 impl<N, S, K, G, R> Model for Running<N, S, K, G, R>
@@ -70,9 +76,9 @@ where
 
     ghost Value = { Run S G K };
 
-    ghost view = { λ r. record { config = (arc_value r.shared).config; pipes = piping r.pipes.inner.items r.pipes.middle r.pipes.outer.items; crew = crew_of (map (λ h. h.promise.0.value) r.threads.receivers.items) (map (λ h. h.promise.0.value) r.threads.processors.items) (map (λ h. h.promise.0.value) r.threads.slow.items) (map (λ h. h.promise.0.value) r.threads.forwarders.items) r.shutters.items } };
+    ghost view = { λ r. record { config = (arc_value r.controller.shared).config; pipes = piping r.pipes.inner.items r.pipes.middle r.pipes.outer.items; crew = crew_of (map (λ h. h.promise.0.value) r.threads.0.first.items) (map (λ h. h.promise.0.value) r.threads.0.second.items) (map (λ h. h.promise.0.value) r.threads.1.first.items) (map (λ h. h.promise.0.value) r.threads.1.second.items) r.controller.shutters.items } };
 
-    ghost invariant = { λ r. (N.workers ≡ 2 * link_count (arc_value r.shared).config + (arc_value r.shared).config.processors + 1) × IsCrew (arc_value r.shared).config (piping r.pipes.inner.items r.pipes.middle r.pipes.outer.items) (crew_of (map (λ h. h.promise.0.value) r.threads.receivers.items) (map (λ h. h.promise.0.value) r.threads.processors.items) (map (λ h. h.promise.0.value) r.threads.slow.items) (map (λ h. h.promise.0.value) r.threads.forwarders.items) r.shutters.items) × HaveLeft (link_count (arc_value r.shared).config) 0 r.pipes.inner.items r.pipes.inner_rooms.items × HaveLeft ((arc_value r.shared).config.processors + 2) 0 r.pipes.outer.items r.pipes.outer_rooms.items × HaveWorkerSlots (link_count (arc_value r.shared).config) (arc_value r.shared).config.processors r.worker_slots × HaveSpace (link_count (arc_value r.shared).config) (arc_value r.shared).config.processors r.space };
+    ghost invariant = { λ r. (N.workers ≡ 2 * link_count (arc_value r.controller.shared).config + (arc_value r.controller.shared).config.processors + 1) × IsCrew (arc_value r.controller.shared).config (piping r.pipes.inner.items r.pipes.middle r.pipes.outer.items) (crew_of (map (λ h. h.promise.0.value) r.threads.0.first.items) (map (λ h. h.promise.0.value) r.threads.0.second.items) (map (λ h. h.promise.0.value) r.threads.1.first.items) (map (λ h. h.promise.0.value) r.threads.1.second.items) r.controller.shutters.items) × HaveLeft (link_count (arc_value r.controller.shared).config) 0 r.pipes.inner.items r.pipes.inner_rooms.items × HaveLeft ((arc_value r.controller.shared).config.processors + 2) 0 r.pipes.outer.items r.pipes.outer_rooms.items × HaveWorkerSlots (link_count (arc_value r.controller.shared).config) (arc_value r.controller.shared).config.processors r.reserve.worker_slots × HaveSpace (link_count (arc_value r.controller.shared).config) (arc_value r.controller.shared).config.processors r.reserve.space };
 }
 
 /// Starts a router with this configuration: one thread a worker, over one source and one sink a link,
@@ -112,6 +118,85 @@ where
     }
 }
 
+// What the controller keeps of the events.
+fn of_forwarders(events: Events) -> Vec<Event> {
+    events.forwarders
+}
+
+// The receivers over their sources, and the processors, each kind in its team.
+fn front_of<N, S, G, R>(
+    rt: R,
+    receivers: Vec<Entering<N>>,
+    processors: Vec<Processor<N, R, G>>,
+    sources: Vec<S>,
+    teams: (Team<N, Receiver<N, R, S>>, Team<N, Processor<N, R, G>>),
+) -> (Team<N, Receiver<N, R, S>>, Team<N, Processor<N, R, G>>)
+where
+    N: Router,
+    S: Source + Drop,
+    G: Gate + Drop,
+    R: Wait + Copy,
+    requires count { length sources.items ≡ length receivers.items }
+    requires untold { Each (λ s. ToldNothing (S.told s)) sources.items }
+    requires room { (teams.0.workers.items ≡ []) × (length receivers.items ≤ vec_capacity teams.0.workers) }
+    ensures receivers { result.0.workers.items ≡ receivings receivers.items sources.items }
+    ensures processors { result.1.workers ≡ processors }
+    ensures rooms { (result.0.room ≡ teams.0.room) × (result.1.room ≡ teams.1.room) }
+{
+    let (receiving, working) = teams;
+    let receivers = receivers_of(rt, receivers, sources, receiving.workers);
+    (
+        Team {
+            workers: receivers,
+            orders: receiving.orders,
+            room: receiving.room,
+        },
+        Team {
+            workers: processors,
+            orders: working.orders,
+            room: working.room,
+        },
+    )
+}
+
+// The slow path, and the forwarders over their sinks, each kind in its team.
+fn rear_of<N, K, R>(
+    rt: R,
+    slow: SlowPath<N, R>,
+    forwarders: Vec<Leaving<N>>,
+    sinks: Vec<K>,
+    teams: (Team<N, SlowPath<N, R>>, Team<N, Forwarder<N, R, K>>),
+) -> (Team<N, SlowPath<N, R>>, Team<N, Forwarder<N, R, K>>)
+where
+    N: Router,
+    K: Sink + Drop,
+    R: Wait + Copy,
+    requires count { length sinks.items ≡ length forwarders.items }
+    requires untold { Each (λ k. ToldNothing (K.told k)) sinks.items }
+    requires slow_room { (teams.0.workers.items ≡ []) × (vec_capacity teams.0.workers ≡ 1) }
+    requires room { (teams.1.workers.items ≡ []) × (length forwarders.items ≤ vec_capacity teams.1.workers) }
+    ensures slow { result.0.workers.items ≡ slow ∷ [] }
+    ensures forwarders { result.1.workers.items ≡ forwardings K.failed forwarders.items sinks.items }
+    ensures rooms { (result.0.room ≡ teams.0.room) × (result.1.room ≡ teams.1.room) }
+{
+    let (answering, forwarding) = teams;
+    let mut answerers = answering.workers;
+    answerers.push_reserved(slow);
+    let forwarders = forwarders_of(rt, forwarders, sinks, forwarding.workers);
+    (
+        Team {
+            workers: answerers,
+            orders: answering.orders,
+            room: answering.room,
+        },
+        Team {
+            workers: forwarders,
+            orders: forwarding.orders,
+            room: forwarding.room,
+        },
+    )
+}
+
 // The workers over their devices, each in a thread of its own.
 fn run<N, S, K, G, R>(
     rt: R,
@@ -135,33 +220,30 @@ where
     K: Sink + Send + Drop + 'static,
     G: Gate + Send + Sync + Drop + 'static,
     R: Threads + Wait + Clock + Copy + Send + 'static,
-    requires worker_parts { AreWorkerParts (arc_value prepared.shared).config (piping prepared.worker_parts.pipes.inner.items prepared.worker_parts.pipes.middle prepared.worker_parts.pipes.outer.items) prepared.worker_parts.pipes.inner_rooms.items prepared.worker_parts.pipes.outer_rooms.items prepared.worker_parts.receivers.items prepared.worker_parts.processors.items prepared.worker_parts.slow prepared.worker_parts.forwarders.items prepared.worker_parts.shutters.items }
-    requires receivers { (prepared.thread_setups.receivers.workers.items ≡ []) × (vec_capacity prepared.thread_setups.receivers.workers ≡ link_count (arc_value prepared.shared).config) × (prepared.thread_setups.receivers.room.items ≡ []) × (vec_capacity prepared.thread_setups.receivers.room ≡ link_count (arc_value prepared.shared).config) }
-    requires processors { (prepared.thread_setups.processors.room.items ≡ []) × (vec_capacity prepared.thread_setups.processors.room ≡ (arc_value prepared.shared).config.processors) }
-    requires slow { (prepared.thread_setups.slow.workers.items ≡ []) × (vec_capacity prepared.thread_setups.slow.workers ≡ 1) × (prepared.thread_setups.slow.room.items ≡ []) × (vec_capacity prepared.thread_setups.slow.room ≡ 1) }
-    requires forwarders { (prepared.thread_setups.forwarders.workers.items ≡ []) × (vec_capacity prepared.thread_setups.forwarders.workers ≡ link_count (arc_value prepared.shared).config) × (prepared.thread_setups.forwarders.room.items ≡ []) × (vec_capacity prepared.thread_setups.forwarders.room ≡ link_count (arc_value prepared.shared).config) }
-    requires worker_slots { HaveWorkerSlots (link_count (arc_value prepared.shared).config) (arc_value prepared.shared).config.processors prepared.worker_slots }
-    requires space { HaveSpace (link_count (arc_value prepared.shared).config) (arc_value prepared.shared).config.processors prepared.space }
-    requires workers { N.workers ≡ 2 * link_count (arc_value prepared.shared).config + (arc_value prepared.shared).config.processors + 1 }
-    requires sources { Each (λ s. ToldNothing (S.told s)) sources.items × (length sources.items ≡ link_count (arc_value prepared.shared).config) }
-    requires sinks { Each (λ k. ToldNothing (K.told k)) sinks.items × (length sinks.items ≡ link_count (arc_value prepared.shared).config) }
-    ensures { MatchResult result (λ r. Begins K.failed (arc_value prepared.shared).config sources.items sinks.items r) (λ f. f ≡ StartFault.Thread) }
+    requires worker_parts { AreWorkerParts (arc_value prepared.base.common.shared).config (piping prepared.worker_parts.pipes.inner.items prepared.worker_parts.pipes.middle prepared.worker_parts.pipes.outer.items) prepared.worker_parts.pipes.inner_rooms.items prepared.worker_parts.pipes.outer_rooms.items prepared.worker_parts.receivers.items prepared.worker_parts.processors.items prepared.worker_parts.slow prepared.worker_parts.forwarders.items prepared.worker_parts.shutters.items }
+    requires receivers { (prepared.teams.front.0.workers.items ≡ []) × (vec_capacity prepared.teams.front.0.workers ≡ link_count (arc_value prepared.base.common.shared).config) × (prepared.teams.front.0.room.items ≡ []) × (vec_capacity prepared.teams.front.0.room ≡ link_count (arc_value prepared.base.common.shared).config) }
+    requires processors { (prepared.teams.front.1.room.items ≡ []) × (vec_capacity prepared.teams.front.1.room ≡ (arc_value prepared.base.common.shared).config.processors) }
+    requires slow { (prepared.teams.rear.0.workers.items ≡ []) × (vec_capacity prepared.teams.rear.0.workers ≡ 1) × (prepared.teams.rear.0.room.items ≡ []) × (vec_capacity prepared.teams.rear.0.room ≡ 1) }
+    requires forwarders { (prepared.teams.rear.1.workers.items ≡ []) × (vec_capacity prepared.teams.rear.1.workers ≡ link_count (arc_value prepared.base.common.shared).config) × (prepared.teams.rear.1.room.items ≡ []) × (vec_capacity prepared.teams.rear.1.room ≡ link_count (arc_value prepared.base.common.shared).config) }
+    requires worker_slots { HaveWorkerSlots (link_count (arc_value prepared.base.common.shared).config) (arc_value prepared.base.common.shared).config.processors prepared.reserve.worker_slots }
+    requires space { HaveSpace (link_count (arc_value prepared.base.common.shared).config) (arc_value prepared.base.common.shared).config.processors prepared.reserve.space }
+    requires workers { N.workers ≡ 2 * link_count (arc_value prepared.base.common.shared).config + (arc_value prepared.base.common.shared).config.processors + 1 }
+    requires sources { Each (λ s. ToldNothing (S.told s)) sources.items × (length sources.items ≡ link_count (arc_value prepared.base.common.shared).config) }
+    requires sinks { Each (λ k. ToldNothing (K.told k)) sinks.items × (length sinks.items ≡ link_count (arc_value prepared.base.common.shared).config) }
+    ensures { MatchResult result (λ r. Begins K.failed (arc_value prepared.base.common.shared).config sources.items sinks.items r) (λ f. f ≡ StartFault.Thread) }
 {
     let Prepared {
-        shared,
-        orders,
+        base,
         worker_parts,
-        thread_setups,
-        worker_slots,
-        space,
+        teams,
+        reserve,
     } = prepared;
-    let ThreadSetups {
-        receivers: receiving,
-        processors: working,
-        slow: answering,
-        forwarders: forwarding,
-        forwarder_events,
-    } = thread_setups;
+    let Base { common, orders } = base;
+    let Common {
+        shared,
+        stop: _,
+        events,
+    } = common;
     let WorkerParts {
         receivers,
         processors,
@@ -170,44 +252,21 @@ where
         shutters,
         pipes,
     } = worker_parts;
-    let receivers = Team {
-        workers: receivers_of(rt, receivers, sources, receiving.workers),
-        orders: receiving.orders,
-        room: receiving.room,
+    let controller = Controller {
+        shared,
+        shutters,
+        forwarder_events: of_forwarders(events),
     };
-    let processors = Team {
-        workers: processors,
-        orders: working.orders,
-        room: working.room,
-    };
-    let mut answerers = answering.workers;
-    answerers.push_reserved(slow);
-    let slow = Team {
-        workers: answerers,
-        orders: answering.orders,
-        room: answering.room,
-    };
-    let forwarders = Team {
-        workers: forwarders_of(rt, forwarders, sinks, forwarding.workers),
-        orders: forwarding.orders,
-        room: forwarding.room,
-    };
-    match start_four(rt, &orders, (receivers, processors), (slow, forwarders)) {
-        Ok((front, rear)) => Ok(Running {
+    let front = front_of(rt, receivers, processors, sources, teams.front);
+    let rear = rear_of(rt, slow, forwarders, sinks, teams.rear);
+    match start_four(rt, &orders, front, rear) {
+        Ok(threads) => Ok(Running {
             rt,
-            shared,
+            controller,
             orders,
-            forwarder_events,
-            threads: Threaded {
-                receivers: front.first,
-                processors: front.second,
-                slow: rear.first,
-                forwarders: rear.second,
-            },
-            shutters,
+            threads,
             pipes,
-            worker_slots,
-            space,
+            reserve,
         }),
         Err(_) => Err(StartFault::Thread),
     }
@@ -228,14 +287,7 @@ where
         ensures closing { Closing self.old.config link result self.old.crew.shutters self.new.crew.shutters }
         ensures same { IsSameRun self.old self.new }
     {
-        let number = self.shared.ports.number(link);
-        if usize::from(number) >= self.shared.ports.count() {
-            return Err(CloseFault::Unknown);
-        }
-        let closed = close_both(&self.rt, &self.shared, &mut self.shutters, number);
-        // The forwarder may sleep before its empty pipes.
-        notify_one(self.forwarder_events.as_slice(), usize::from(number));
-        closed
+        self.controller.close(&self.rt, link)
     }
 
     /// Ends the router: the workers come to their ends and are joined, and the pipes gathered. It takes
@@ -243,27 +295,22 @@ where
     pub fn finish(self) -> Report<S, K>
         ensures { HasRun S.told K.told K.failed self result.totals result.sent.items result.sources.items result.sinks.items }
     {
+        crews_end::<S, G, K>();
+        crews_return::<S, G, K>();
+        rules_are_lawful();
+        links_stand_in_order();
+        causes_are_apart();
         let Running {
             rt,
-            shared,
+            controller,
             orders,
-            forwarder_events,
             threads,
-            shutters,
             pipes,
-            worker_slots,
-            space,
+            reserve,
         } = self;
-        finish_all(
-            &rt,
-            &shared,
-            &orders,
-            forwarder_events.as_slice(),
-            threads,
-            shutters,
-            pipes,
-            worker_slots,
-            space,
-        )
+        let joined = join_workers(&rt, &orders, controller, threads, reserve.worker_slots);
+        let (ends, left) = part_all(joined, reserve.space);
+        gather_pipes(pipes, ends);
+        report_of(&rt, &orders.book, left)
     }
 }

@@ -1,13 +1,13 @@
 //! What a running router is made of, before its first thread: the pipes and workers, what they share, the
-//! setup of their threads, and room for all that comes back.
+//! teams that get a thread for each worker, and room for all that comes back.
 #![tactic(auto)]
 
 mod preparing;
 mod reserve;
-mod thread_setups;
+mod teams;
 mod worker_parts;
 
-pub use preparing::{Prepared, prepare};
-pub use reserve::{Space, WorkerSlots};
-pub use thread_setups::{ThreadSetup, ThreadSetups};
+pub use preparing::{Base, Prepared, prepare};
+pub use reserve::{EndsSpace, ReportSpace, Reserve, Space, WorkerSlots};
+pub use teams::Teams;
 pub use worker_parts::WorkerParts;

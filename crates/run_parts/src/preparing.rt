@@ -8,8 +8,8 @@ ghost use Rattle.wired_workers.specs.Rest.{AreNewShares};
 ghost use Rattle.run_parts.specs.Room.{HaveWorkerSlots, HaveSpace};
 ghost use Rattle.run_parts.specs.WorkerParts.{AreWorkerParts};
 
-use crate::reserve::{Space, WorkerSlots, space_for, worker_slots_for};
-use crate::thread_setups::{ThreadSetups, thread_setups_for};
+use crate::reserve::{Reserve, reserve_for};
+use crate::teams::{Teams, teams_for};
 use crate::worker_parts::{WorkerParts, make_all};
 use packet_ledger::{Blank, Book, Share};
 use process_packet::Config;
@@ -18,16 +18,14 @@ use stage_parts::{Gate, Router, both};
 use std::alloc::{AllocError, Global};
 use std::sync::atomic::AtomicU64;
 use std::sync::{Arc, Wait};
-use wired_workers::{Events, events_for};
+use wired_workers::{Common, events_for};
 use worker_threads::{HOLD, Orders, Work};
 
-/// What the workers share: the configuration, their orders with the book, its shares, and the events.
+/// What a run stands on: what its workers share, and the orders of their threads, with the book.
 #[derive(Drop)]
-struct Common<N: Router> {
-    shared: Arc<Shared, Global>,
-    orders: Orders<N>,
-    shares: Vec<Share<N>>,
-    events: Events,
+pub struct Base<N: Router> {
+    pub common: Common,
+    pub orders: Orders<N>,
 }
 
 fn book_for<N: Router>(
@@ -45,31 +43,61 @@ fn book_for<N: Router>(
     Ok(made)
 }
 
-fn common_for<N: Router>(
+// The orders that the threads hold at, and the shares of the book.
+fn orders_for<N: Router>(
+    alloc: Global,
+    blank: Blank,
+    links: usize,
+    processors: usize,
+) -> Result<(Orders<N>, Vec<Share<N>>), AllocError>
+    requires name { blank.table ≡ N.table }
+    requires few { (links ≤ 33) × (processors ≤ 16) }
+    requires workers { N.workers ≡ 2 * links + processors + 1 }
+    ensures { IfOk result (λ r. AreNewShares (2 * links + processors + 1) r.1.items) }
+{
+    let word = Arc::new(alloc, AtomicU64::new(HOLD))?;
+    let (book, shares) = book_for(alloc, blank, links, processors)?;
+    let book = Arc::new(alloc, book)?;
+    Ok((Orders::new(word, book), shares))
+}
+
+// What all workers share, over the word of their orders.
+fn common_for(
+    alloc: Global,
+    config: Config,
+    word: &Arc<AtomicU64, Global>,
+    links: usize,
+    processors: usize,
+) -> Result<Common, AllocError>
+    ensures { IfOk result (λ c. (arc_value c.shared).config ≡ config) }
+{
+    let shared = Arc::new(alloc, Shared::new(config))?;
+    let stop = Arc::try_clone(word)?;
+    let events = events_for(alloc, links, processors)?;
+    Ok(Common {
+        shared,
+        stop,
+        events,
+    })
+}
+
+fn base_for<N: Router>(
     alloc: Global,
     blank: Blank,
     config: Config,
     links: usize,
-) -> Result<Common<N>, AllocError>
+) -> Result<(Base<N>, Vec<Share<N>>), AllocError>
     requires name { blank.table ≡ N.table }
     requires links { links ≡ link_count config }
     requires few { links ≤ 33 }
     requires workers { N.workers ≡ 2 * link_count config + config.processors + 1 }
-    ensures shared { IfOk result (λ c. (arc_value c.shared).config ≡ config) }
-    ensures shares { IfOk result (λ c. AreNewShares (2 * link_count config + config.processors + 1) c.shares.items) }
+    ensures shared { IfOk result (λ b. (arc_value b.0.common.shared).config ≡ config) }
+    ensures shares { IfOk result (λ b. AreNewShares (2 * link_count config + config.processors + 1) b.1.items) }
 {
     let processors = usize::from(config.processors);
-    let shared = Arc::new(alloc, Shared::new(config))?;
-    let word = Arc::new(alloc, AtomicU64::new(HOLD))?;
-    let (book, shares) = book_for(alloc, blank, links, processors)?;
-    let book = Arc::new(alloc, book)?;
-    let events = events_for(alloc, links, processors)?;
-    Ok(Common {
-        shared,
-        orders: Orders::new(word, book),
-        shares,
-        events,
-    })
+    let (orders, shares) = orders_for(alloc, blank, links, processors)?;
+    let common = common_for(alloc, config, &orders.word, links, processors)?;
+    Ok((Base { common, orders }, shares))
 }
 
 /// All that is ready, for workers of any four kinds over sources `S` and sinks `K`.
@@ -84,12 +112,10 @@ where
     C: Work<N>,
     D: Work<N>,
 {
-    pub shared: Arc<Shared, Global>,
-    pub orders: Orders<N>,
+    pub base: Base<N>,
     pub worker_parts: WorkerParts<N, G, R>,
-    pub thread_setups: ThreadSetups<N, A, B, C, D>,
-    pub worker_slots: WorkerSlots<A, B, C, D>,
-    pub space: Space<N, S, K>,
+    pub teams: Teams<N, A, B, C, D>,
+    pub reserve: Reserve<N, A, B, C, D, S, K>,
 }
 
 /// It is given no device, so that each stays with the caller where memory runs out.
@@ -113,37 +139,27 @@ where
     requires name { blank.table ≡ N.table }
     requires config { N.config ≡ Some config }
     requires workers { N.workers ≡ 2 * link_count config + config.processors + 1 }
-    ensures shared { IfOk result (λ p. (arc_value p.shared).config ≡ config) }
+    ensures shared { IfOk result (λ p. (arc_value p.base.common.shared).config ≡ config) }
     ensures worker_parts { IfOk result (λ p. AreWorkerParts config (piping p.worker_parts.pipes.inner.items p.worker_parts.pipes.middle p.worker_parts.pipes.outer.items) p.worker_parts.pipes.inner_rooms.items p.worker_parts.pipes.outer_rooms.items p.worker_parts.receivers.items p.worker_parts.processors.items p.worker_parts.slow p.worker_parts.forwarders.items p.worker_parts.shutters.items) }
-    ensures receivers { IfOk result (λ p. (p.thread_setups.receivers.workers.items ≡ []) × (vec_capacity p.thread_setups.receivers.workers ≡ link_count config) × (p.thread_setups.receivers.room.items ≡ []) × (vec_capacity p.thread_setups.receivers.room ≡ link_count config)) }
-    ensures processors { IfOk result (λ p. (p.thread_setups.processors.room.items ≡ []) × (vec_capacity p.thread_setups.processors.room ≡ config.processors)) }
-    ensures slow { IfOk result (λ p. (p.thread_setups.slow.workers.items ≡ []) × (vec_capacity p.thread_setups.slow.workers ≡ 1) × (p.thread_setups.slow.room.items ≡ []) × (vec_capacity p.thread_setups.slow.room ≡ 1)) }
-    ensures forwarders { IfOk result (λ p. (p.thread_setups.forwarders.workers.items ≡ []) × (vec_capacity p.thread_setups.forwarders.workers ≡ link_count config) × (p.thread_setups.forwarders.room.items ≡ []) × (vec_capacity p.thread_setups.forwarders.room ≡ link_count config)) }
-    ensures worker_slots { IfOk result (λ p. HaveWorkerSlots (link_count config) config.processors p.worker_slots) }
-    ensures space { IfOk result (λ p. HaveSpace (link_count config) config.processors p.space) }
+    ensures receivers { IfOk result (λ p. (p.teams.front.0.workers.items ≡ []) × (vec_capacity p.teams.front.0.workers ≡ link_count config) × (p.teams.front.0.room.items ≡ []) × (vec_capacity p.teams.front.0.room ≡ link_count config)) }
+    ensures processors { IfOk result (λ p. (p.teams.front.1.room.items ≡ []) × (vec_capacity p.teams.front.1.room ≡ config.processors)) }
+    ensures slow { IfOk result (λ p. (p.teams.rear.0.workers.items ≡ []) × (vec_capacity p.teams.rear.0.workers ≡ 1) × (p.teams.rear.0.room.items ≡ []) × (vec_capacity p.teams.rear.0.room ≡ 1)) }
+    ensures forwarders { IfOk result (λ p. (p.teams.rear.1.workers.items ≡ []) × (vec_capacity p.teams.rear.1.workers ≡ link_count config) × (p.teams.rear.1.room.items ≡ []) × (vec_capacity p.teams.rear.1.room ≡ link_count config)) }
+    ensures worker_slots { IfOk result (λ p. HaveWorkerSlots (link_count config) config.processors p.reserve.worker_slots) }
+    ensures space { IfOk result (λ p. HaveSpace (link_count config) config.processors p.reserve.space) }
 {
     let links = link_count(&config);
     let processors = usize::from(config.processors);
-    let Common {
-        shared,
-        orders,
-        shares,
-        events,
-    } = common_for(alloc, blank, config, links)?;
-    let worker_parts = make_all(rt, alloc, &shared, &orders.word, gate, shares, &events);
-    let thread_setups = thread_setups_for(alloc, &orders, events, links, processors);
-    let room = both(
-        worker_slots_for(alloc, links, processors),
-        space_for(alloc, links, processors),
-    );
-    let workers = both(worker_parts, thread_setups);
-    let ((worker_parts, thread_setups), (worker_slots, space)) = both(workers, room)?;
+    let (base, shares) = base_for(alloc, blank, config, links)?;
+    let worker_parts = make_all(rt, alloc, &base.common, gate, shares);
+    let events = &base.common.events;
+    let teams = teams_for(alloc, &base.orders, events, links, processors);
+    let reserve = reserve_for(alloc, links, processors);
+    let (worker_parts, (teams, reserve)) = both(worker_parts, both(teams, reserve))?;
     Ok(Prepared {
-        shared,
-        orders,
+        base,
         worker_parts,
-        thread_setups,
-        worker_slots,
-        space,
+        teams,
+        reserve,
     })
 }

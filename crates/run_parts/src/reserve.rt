@@ -7,7 +7,7 @@ ghost use Rattle.run_parts.specs.Room.{HaveWorkerSlots, HaveSpace, IsRoomy};
 use packet_ledger::Share;
 use router_ends::Ends;
 use ruled_pipe::Consumer;
-use stage_parts::{EgressPacket, Packet, Router, SlowPathRequest};
+use stage_parts::{EgressPacket, Packet, Router, SlowPathRequest, both};
 use std::alloc::{AllocError, Global};
 use std::marker::Model;
 
@@ -31,20 +31,31 @@ impl<A, B, C, D> Model for WorkerSlots<A, B, C, D> {
     ghost invariant = { λ r. (r.receivers.items ≡ []) × (r.processors.items ≡ []) × (r.slow.items ≡ []) × (r.forwarders.items ≡ []) };
 }
 
-/// Room for the workers' ends and shares, and for what is reported.
+/// Room for the ends of the pipes of one kind: an empty row for each worker, and room for the filled rows
+/// and for the consumers.
 #[derive(Drop)]
-pub struct Space<N: Router, S, K> {
-    pub inner_rows: Vec<Ends<Packet<N>>>,
-    pub inner_bundles: Vec<Ends<Packet<N>>>,
-    pub inner_takers: Vec<Consumer<Packet<N>>>,
-    pub middle_row: Ends<SlowPathRequest<N>>,
-    pub outer_rows: Vec<Ends<EgressPacket<N>>>,
-    pub outer_bundles: Vec<Ends<EgressPacket<N>>>,
-    pub outer_takers: Vec<Consumer<EgressPacket<N>>>,
+pub struct EndsSpace<T> {
+    pub rows: Vec<Ends<T>>,
+    pub bundles: Vec<Ends<T>>,
+    pub takers: Vec<Consumer<T>>,
+}
+
+/// Room for the shares, for what each link sent, and for the devices.
+#[derive(Drop)]
+pub struct ReportSpace<N: Router, S, K> {
     pub shares: Vec<Share<N>>,
     pub sent: Vec<u128>,
     pub sources: Vec<S>,
     pub sinks: Vec<K>,
+}
+
+/// Room for the workers' ends and shares, and for what is reported.
+#[derive(Drop)]
+pub struct Space<N: Router, S, K> {
+    pub inner: EndsSpace<Packet<N>>,
+    pub middle_row: Ends<SlowPathRequest<N>>,
+    pub outer: EndsSpace<EgressPacket<N>>,
+    pub report: ReportSpace<N, S, K>,
 }
 
 impl<N: Router, S, K> Model for Space<N, S, K> {
@@ -53,9 +64,16 @@ impl<N: Router, S, K> Model for Space<N, S, K> {
 
     ghost Value = { Seen };
 
-    ghost view = { λ r. record { inner_rows = r.inner_rows.items; inner_bundles = vec_capacity r.inner_bundles; inner_takers = vec_capacity r.inner_takers; middle_row = r.middle_row; outer_rows = r.outer_rows.items; outer_bundles = vec_capacity r.outer_bundles; outer_takers = vec_capacity r.outer_takers; shares = vec_capacity r.shares; sent = vec_capacity r.sent; sources = vec_capacity r.sources; sinks = vec_capacity r.sinks } };
+    ghost view = { λ r. record { inner_rows = r.inner.rows.items; inner_bundles = vec_capacity r.inner.bundles; inner_takers = vec_capacity r.inner.takers; middle_row = r.middle_row; outer_rows = r.outer.rows.items; outer_bundles = vec_capacity r.outer.bundles; outer_takers = vec_capacity r.outer.takers; shares = vec_capacity r.report.shares; sent = vec_capacity r.report.sent; sources = vec_capacity r.report.sources; sinks = vec_capacity r.report.sinks } };
 
-    ghost invariant = { λ r. (r.inner_bundles.items ≡ []) × (r.inner_takers.items ≡ []) × (r.outer_bundles.items ≡ []) × (r.outer_takers.items ≡ []) × (r.shares.items ≡ []) × (r.sent.items ≡ []) × (r.sources.items ≡ []) × (r.sinks.items ≡ []) };
+    ghost invariant = { λ r. (r.inner.bundles.items ≡ []) × (r.inner.takers.items ≡ []) × (r.outer.bundles.items ≡ []) × (r.outer.takers.items ≡ []) × (r.report.shares.items ≡ []) × (r.report.sent.items ≡ []) × (r.report.sources.items ≡ []) × (r.report.sinks.items ≡ []) };
+}
+
+/// Room for all that comes back, of workers of any four kinds.
+#[derive(Drop)]
+pub struct Reserve<N: Router, A, B, C, D, S, K> {
+    pub worker_slots: WorkerSlots<A, B, C, D>,
+    pub space: Space<N, S, K>,
 }
 
 // An empty row for each worker, with room for an end of each pipe.
@@ -69,8 +87,8 @@ fn rows_of<T: Drop>(alloc: Global, workers: usize, pipes: usize) -> Result<Vec<E
     Ok(rows)
 }
 
-/// Room for the workers of a router with these numbers of links and processors.
-pub fn worker_slots_for<A: Drop, B: Drop, C: Drop, D: Drop>(
+// Room for the workers of a router with these numbers of links and processors.
+fn worker_slots_for<A: Drop, B: Drop, C: Drop, D: Drop>(
     alloc: Global,
     links: usize,
     processors: usize,
@@ -87,14 +105,6 @@ pub fn worker_slots_for<A: Drop, B: Drop, C: Drop, D: Drop>(
         slow,
         forwarders,
     })
-}
-
-// Room for the ends of the pipes of one kind: a row for each worker, their bundles, and the consumers.
-#[derive(Drop)]
-struct EndsSpace<T> {
-    rows: Vec<Ends<T>>,
-    bundles: Vec<Ends<T>>,
-    takers: Vec<Consumer<T>>,
 }
 
 fn ends_space_for<T: Drop>(
@@ -114,15 +124,6 @@ fn ends_space_for<T: Drop>(
         bundles,
         takers,
     })
-}
-
-// Room for the shares, for what each link sent, and for the devices.
-#[derive(Drop)]
-struct ReportSpace<N: Router, S, K> {
-    shares: Vec<Share<N>>,
-    sent: Vec<u128>,
-    sources: Vec<S>,
-    sinks: Vec<K>,
 }
 
 fn report_space_for<N: Router, S: Drop, K: Drop>(
@@ -147,8 +148,8 @@ fn report_space_for<N: Router, S: Drop, K: Drop>(
     })
 }
 
-/// Room for all else of such a router.
-pub fn space_for<N: Router, S: Drop, K: Drop>(
+// Room for all else of such a router.
+fn space_for<N: Router, S: Drop, K: Drop>(
     alloc: Global,
     links: usize,
     processors: usize,
@@ -161,16 +162,36 @@ pub fn space_for<N: Router, S: Drop, K: Drop>(
     let inner = ends_space_for(alloc, links, processors)?;
     let outer = ends_space_for(alloc, processors + 2, 2 * links)?;
     Ok(Space {
-        inner_rows: inner.rows,
-        inner_bundles: inner.bundles,
-        inner_takers: inner.takers,
+        inner,
         middle_row,
-        outer_rows: outer.rows,
-        outer_bundles: outer.bundles,
-        outer_takers: outer.takers,
-        shares: report.shares,
-        sent: report.sent,
-        sources: report.sources,
-        sinks: report.sinks,
+        outer,
+        report,
+    })
+}
+
+/// Room for all that comes back of a router with these numbers of links and processors.
+pub fn reserve_for<N, A, B, C, D, S, K>(
+    alloc: Global,
+    links: usize,
+    processors: usize,
+) -> Result<Reserve<N, A, B, C, D, S, K>, AllocError>
+where
+    N: Router,
+    A: Drop,
+    B: Drop,
+    C: Drop,
+    D: Drop,
+    S: Drop,
+    K: Drop,
+    requires few { (links ≤ 33) × (processors ≤ 16) }
+    ensures worker_slots { IfOk result (λ r. HaveWorkerSlots links processors r.worker_slots) }
+    ensures space { IfOk result (λ r. HaveSpace links processors r.space) }
+{
+    let worker_slots = worker_slots_for(alloc, links, processors);
+    let space = space_for(alloc, links, processors);
+    let (worker_slots, space) = both(worker_slots, space)?;
+    Ok(Reserve {
+        worker_slots,
+        space,
     })
 }

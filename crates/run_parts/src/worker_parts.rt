@@ -21,8 +21,8 @@ use std::alloc::{AllocError, Global};
 use std::sync::atomic::AtomicU64;
 use std::sync::{Arc, Wait};
 use wired_workers::{
-    AllPipes, Deciding, Entering, Events, Leaving, Pipes, all_entering, all_leaving, all_pipes,
-    deciding_of,
+    AllPipes, Common, Deciding, Entering, Inputs, Leaving, Pipes, Remaining, all_entering,
+    all_leaving, all_pipes, deciding_of,
 };
 
 /// The pipes, and what the workers are made of, before any device is taken.
@@ -47,63 +47,36 @@ struct AfterReceivers<N: Router, G: Gate + Drop, R: Wait + Copy> {
 fn after_receivers<N: Router, G: Gate + Drop, R: Wait + Copy>(
     rt: R,
     alloc: Global,
-    shared: &Arc<Shared, Global>,
+    common: &Common,
     gate: G,
     pipes: &Pipes<N>,
-    packets: Vec<Consumer<Packet<N>>>,
-    asking: Vec<Producer<SlowPathRequest<N>>>,
-    asked: Consumer<SlowPathRequest<N>>,
+    inputs: Inputs<N>,
     egress_packets: Vec<Consumer<EgressPacket<N>>>,
-    links: Line<Ends<EgressPacket<N>>>,
-    free: Line<Ends<Buffer>>,
-    shares: Line<Share<N>>,
-    events: &Events,
+    remaining: Remaining<N>,
 ) -> Result<AfterReceivers<N, G, R>, AllocError>
-    requires config { N.config ≡ Some (arc_value shared.now).config }
-    requires pipes { (length pipes.now.inner.items ≡ (arc_value shared.now).config.processors) × AreFor (link_count (arc_value shared.now).config) pipes.now.inner.items × (length pipes.now.outer.items ≡ 2 * link_count (arc_value shared.now).config) }
-    requires outer { AreFor ((arc_value shared.now).config.processors + 2) pipes.now.outer.items }
-    requires packets { packets.items ≡ new_takers pipes.now.inner.items }
-    requires middle { pipes.now.middle.producers ≡ (arc_value shared.now).config.processors }
-    requires asking { IsRest (IsNewEnd pipes.now.middle) 0 (arc_value shared.now).config.processors asking.items }
-    requires asked { IsTakerOf pipes.now.middle asked × (asked.taken ≡ []) }
+    requires config { N.config ≡ Some (arc_value common.now.shared).config }
+    requires pipes { (length pipes.now.inner.items ≡ (arc_value common.now.shared).config.processors) × AreFor (link_count (arc_value common.now.shared).config) pipes.now.inner.items × (length pipes.now.outer.items ≡ 2 * link_count (arc_value common.now.shared).config) }
+    requires outer { AreFor ((arc_value common.now.shared).config.processors + 2) pipes.now.outer.items }
+    requires packets { inputs.packets.items ≡ new_takers pipes.now.inner.items }
+    requires middle { pipes.now.middle.producers ≡ (arc_value common.now.shared).config.processors }
+    requires asking { IsRest (IsNewEnd pipes.now.middle) 0 (arc_value common.now.shared).config.processors inputs.asking.items }
+    requires asked { IsTakerOf pipes.now.middle inputs.asked × (inputs.asked.taken ≡ []) }
     requires egress_packets { egress_packets.items ≡ new_takers pipes.now.outer.items }
-    requires links { IsRest (IsBundleOf pipes.now.outer.items) 0 ((arc_value shared.now).config.processors + 2) links }
-    requires free { IsRest (IsLong (link_count (arc_value shared.now).config)) 0 ((arc_value shared.now).config.processors + 1 + link_count (arc_value shared.now).config) free }
-    requires shares { AreNewShares ((arc_value shared.now).config.processors + 1 + link_count (arc_value shared.now).config) shares }
-    ensures working { IfOk result (λ a. IsRest (IsWorkingThere (arc_value shared.now).config (piping pipes.now.inner.items pipes.now.middle pipes.now.outer.items)) 0 (arc_value shared.now).config.processors a.deciding.processors.items) }
-    ensures answering { IfOk result (λ a. IsAnsweringAt (arc_value shared.now).config (piping pipes.now.inner.items pipes.now.middle pipes.now.outer.items) a.deciding.slow) }
-    ensures leaving { IfOk result (λ a. IsRest (IsLeavingAt (arc_value shared.now).config pipes.now.outer.items) 0 (link_count (arc_value shared.now).config) a.forwarders.items) }
-    ensures shutting { IfOk result (λ a. AreShutters (are_used (arc_value shared.now).config) 0 ((arc_value shared.now).config.processors + 1) pipes.now.outer.items a.shutters.items) }
+    requires links { IsRest (IsBundleOf pipes.now.outer.items) 0 ((arc_value common.now.shared).config.processors + 2) remaining.links }
+    requires free { IsRest (IsLong (link_count (arc_value common.now.shared).config)) 0 ((arc_value common.now.shared).config.processors + 1 + link_count (arc_value common.now.shared).config) remaining.free }
+    requires shares { AreNewShares ((arc_value common.now.shared).config.processors + 1 + link_count (arc_value common.now.shared).config) remaining.shares }
+    ensures working { IfOk result (λ a. IsRest (IsWorkingThere (arc_value common.now.shared).config (piping pipes.now.inner.items pipes.now.middle pipes.now.outer.items)) 0 (arc_value common.now.shared).config.processors a.deciding.processors.items) }
+    ensures answering { IfOk result (λ a. IsAnsweringAt (arc_value common.now.shared).config (piping pipes.now.inner.items pipes.now.middle pipes.now.outer.items) a.deciding.slow) }
+    ensures leaving { IfOk result (λ a. IsRest (IsLeavingAt (arc_value common.now.shared).config pipes.now.outer.items) 0 (link_count (arc_value common.now.shared).config) a.forwarders.items) }
+    ensures shutting { IfOk result (λ a. AreShutters (are_used (arc_value common.now.shared).config) 0 ((arc_value common.now.shared).config.processors + 1) pipes.now.outer.items a.shutters.items) }
     ensures unmarked { IfOk result (λ a. AreOpen a.shutters.items) }
 {
     // At most 33, which bounds the controller's ends.
-    let _ = link_count(&shared.config);
-    let mut links = links;
-    let mut free = free;
-    let mut shares = shares;
-    let deciding = deciding_of(
-        rt,
-        alloc,
-        shared,
-        gate,
-        pipes,
-        packets,
-        asking,
-        asked,
-        &mut links,
-        &mut free,
-        &mut shares,
-        events,
-    )?;
-    let closing = shutters(alloc, shared, links.next());
-    let leaving = all_leaving(
-        alloc,
-        shared,
-        &pipes.outer,
-        egress_packets,
-        &mut free,
-        &mut shares,
-    );
+    let _ = link_count(&common.shared.config);
+    let mut remaining = remaining;
+    let deciding = deciding_of(rt, alloc, common, gate, pipes, inputs, &mut remaining)?;
+    let closing = shutters(alloc, &common.shared, remaining.links.next());
+    let leaving = all_leaving(alloc, common, &pipes.outer, egress_packets, &mut remaining);
     let ends = both(leaving, closing);
     let (decided, (forwarders, shutters)) = both(Ok(deciding), ends)?;
     Ok(AfterReceivers {
@@ -117,51 +90,44 @@ fn after_receivers<N: Router, G: Gate + Drop, R: Wait + Copy>(
 pub fn make_all<N: Router, G: Gate + Drop, R: Wait + Copy>(
     rt: R,
     alloc: Global,
-    shared: &Arc<Shared, Global>,
-    stop: &Arc<AtomicU64, Global>,
+    common: &Common,
     gate: G,
     shares: Vec<Share<N>>,
-    events: &Events,
 ) -> Result<WorkerParts<N, G, R>, AllocError>
-    requires config { N.config ≡ Some (arc_value shared.now).config }
-    requires shares { AreNewShares (2 * link_count (arc_value shared.now).config + (arc_value shared.now).config.processors + 1) shares.items }
-    ensures { IfOk result (λ m. AreWorkerParts (arc_value shared.now).config (piping m.pipes.inner.items m.pipes.middle m.pipes.outer.items) m.pipes.inner_rooms.items m.pipes.outer_rooms.items m.receivers.items m.processors.items m.slow m.forwarders.items m.shutters.items) }
+    requires config { N.config ≡ Some (arc_value common.now.shared).config }
+    requires shares { AreNewShares (2 * link_count (arc_value common.now.shared).config + (arc_value common.now.shared).config.processors + 1) shares.items }
+    ensures { IfOk result (λ m. AreWorkerParts (arc_value common.now.shared).config (piping m.pipes.inner.items m.pipes.middle m.pipes.outer.items) m.pipes.inner_rooms.items m.pipes.outer_rooms.items m.receivers.items m.processors.items m.slow m.forwarders.items m.shutters.items) }
 {
     let AllPipes {
         pipes,
         to_processors,
-        packets,
-        asking,
-        asked,
+        inputs,
         to_links,
         egress_packets,
         free,
-    } = all_pipes(&rt, alloc, shared)?;
-    let mut shares = Line::of(shares);
+    } = all_pipes(&rt, alloc, &common.shared)?;
+    let mut remaining = Remaining {
+        links: Line::of(to_links),
+        free: Line::of(free.bundles),
+        shares: Line::of(shares),
+    };
     let receivers = all_entering(
         alloc,
-        shared,
-        stop,
+        common,
         &pipes.inner,
         to_processors,
         free.takers,
-        &mut shares,
-        events,
+        &mut remaining.shares,
     )?;
     let after = after_receivers(
         rt,
         alloc,
-        shared,
+        common,
         gate,
         &pipes,
-        packets,
-        asking,
-        asked,
+        inputs,
         egress_packets,
-        Line::of(to_links),
-        Line::of(free.bundles),
-        shares,
-        events,
+        remaining,
     )?;
     let AfterReceivers {
         deciding,

@@ -14,7 +14,7 @@ ghost use Rattle.wired_workers.specs.Dealing.{IsUnlooked};
 ghost use Rattle.wired_workers.specs.Kits.{IsEnteringAt, receivings};
 ghost use Rattle.wired_workers.specs.Rest.{AreNewShares, HaveGone, IsRest};
 
-use crate::waking::Events;
+use crate::common::Common;
 use packet_ledger::Share;
 use router_ends::{Ends, Line, outlets};
 use router_rules::{Shared, link_count};
@@ -91,37 +91,34 @@ impl<N: Router> Entering<N> {
 // What the next receiver shares with others, and its first buffer.
 fn begun(
     alloc: Global,
-    shared: &Arc<Shared, Global>,
-    stop: &Arc<AtomicU64, Global>,
+    common: &Common,
 ) -> Result<(Arc<Shared, Global>, Arc<AtomicU64, Global>, Buffer), AllocError>
-    ensures { IfOk result (λ r. arc_value r.0 ≡ arc_value shared.now) }
+    ensures { IfOk result (λ r. arc_value r.0 ≡ arc_value common.now.shared) }
 {
-    let shared = Arc::try_clone(shared)?;
-    let stop = Arc::try_clone(stop)?;
+    let shared = Arc::try_clone(&common.shared)?;
+    let stop = Arc::try_clone(&common.stop)?;
     let first = Buffer::new(alloc)?;
     Ok((shared, stop, first))
 }
 
 fn entering_at<N: Router>(
     alloc: Global,
-    shared: &Arc<Shared, Global>,
-    stop: &Arc<AtomicU64, Global>,
+    common: &Common,
     link: u16,
     bundle: Ends<Packet<N>>,
     free: Consumer<Buffer>,
     share: Share<N>,
-    events: &Events,
 ) -> Result<Entering<N>, AllocError>
-    requires config { N.config ≡ Some (arc_value shared.now).config }
-    requires link { link < link_count (arc_value shared.now).config }
-    requires bundle { IsBundle bundle.ends × (length bundle.ends ≡ (arc_value shared.now).config.processors) }
+    requires config { N.config ≡ Some (arc_value common.now.shared).config }
+    requires link { link < link_count (arc_value common.now.shared).config }
+    requires bundle { IsBundle bundle.ends × (length bundle.ends ≡ (arc_value common.now.shared).config.processors) }
     requires free { free.looks ≡ [] }
     requires share { share ≡ new_share }
-    ensures config { IfOk result (λ e. (e.config ≡ (arc_value shared.now).config) × (e.link ≡ link)) }
+    ensures config { IfOk result (λ e. (e.config ≡ (arc_value common.now.shared).config) × (e.link ≡ link)) }
     ensures processors { IfOk result (λ e. (p : ℕ) (shapes : List Shape) → bundle.ends ≡ fresh_ends p shapes → AreEndsOf p shapes (senders e.processors)) }
 {
-    let processors = outlets(alloc, bundle, events.processors.as_slice(), 1);
-    let (processors, (shared, stop, first)) = both(processors, begun(alloc, shared, stop))?;
+    let processors = outlets(alloc, bundle, common.events.processors.as_slice(), 1);
+    let (processors, (shared, stop, first)) = both(processors, begun(alloc, common))?;
     Ok(Entering {
         shared,
         stop,
@@ -136,23 +133,21 @@ fn entering_at<N: Router>(
 /// All that the receivers are made of but their sources.
 pub fn all_entering<N: Router>(
     alloc: Global,
-    shared: &Arc<Shared, Global>,
-    stop: &Arc<AtomicU64, Global>,
+    common: &Common,
     pipes: &Vec<Pipe<Packet<N>>>,
     bundles: Vec<Ends<Packet<N>>>,
     free: Vec<Consumer<Buffer>>,
     shares: &mut Line<Share<N>>,
-    events: &Events,
 ) -> Result<Vec<Entering<N>>, AllocError>
-    requires config { N.config ≡ Some (arc_value shared.now).config }
-    requires pipes { length pipes.now.items ≡ (arc_value shared.now).config.processors }
-    requires bundles { (length bundles.items ≡ link_count (arc_value shared.now).config) × AreDealt pipes.now.items 0 bundles.items }
-    requires free { IsRest IsUnlooked 0 (link_count (arc_value shared.now).config) free.items }
-    requires shares { AreNewShares (link_count (arc_value shared.now).config) shares.old }
-    ensures shares { IfOk result (λ _. HaveGone (link_count (arc_value shared.now).config) shares.old shares.new) }
-    ensures made { IfOk result (λ v. IsRest (IsEnteringAt (arc_value shared.now).config pipes.now.items) 0 (link_count (arc_value shared.now).config) v.items) }
+    requires config { N.config ≡ Some (arc_value common.now.shared).config }
+    requires pipes { length pipes.now.items ≡ (arc_value common.now.shared).config.processors }
+    requires bundles { (length bundles.items ≡ link_count (arc_value common.now.shared).config) × AreDealt pipes.now.items 0 bundles.items }
+    requires free { IsRest IsUnlooked 0 (link_count (arc_value common.now.shared).config) free.items }
+    requires shares { AreNewShares (link_count (arc_value common.now.shared).config) shares.old }
+    ensures shares { IfOk result (λ _. HaveGone (link_count (arc_value common.now.shared).config) shares.old shares.new) }
+    ensures made { IfOk result (λ v. IsRest (IsEnteringAt (arc_value common.now.shared).config pipes.now.items) 0 (link_count (arc_value common.now.shared).config) v.items) }
 {
-    let links = link_count(&shared.config);
+    let links = link_count(&common.shared.config);
     let mut made = Vec::with_capacity(alloc, links)?;
     let mut bundles = Line::of(bundles);
     let mut free = Line::of(free);
@@ -160,16 +155,7 @@ pub fn all_entering<N: Router>(
         let bundle = bundles.next();
         let taker = free.next();
         let share = shares.next();
-        made.push_reserved(entering_at(
-            alloc,
-            shared,
-            stop,
-            link as u16,
-            bundle,
-            taker,
-            share,
-            events,
-        )?);
+        made.push_reserved(entering_at(alloc, common, link as u16, bundle, taker, share)?);
     }
     let _ = pipes;
     Ok(made)

@@ -12,6 +12,8 @@ ghost use Rattle.wired_workers.specs.Dealing.{IsLong};
 ghost use Rattle.wired_workers.specs.Kits.{IsLeavingAt, forwardings};
 ghost use Rattle.wired_workers.specs.Rest.{AreNewShares, IsRest};
 
+use crate::common::Common;
+use crate::remaining::Remaining;
 use packet_ledger::Share;
 use router_ends::{Ends, Line};
 use router_rules::{Shared, link_count};
@@ -108,29 +110,28 @@ fn leaving_at<N: Router>(
 /// All that the forwarders are made of but their sinks.
 pub fn all_leaving<N: Router>(
     alloc: Global,
-    shared: &Arc<Shared, Global>,
+    common: &Common,
     pipes: &Vec<Pipe<EgressPacket<N>>>,
     takers: Vec<Consumer<EgressPacket<N>>>,
-    free: &mut Line<Ends<Buffer>>,
-    shares: &mut Line<Share<N>>,
+    remaining: &mut Remaining<N>,
 ) -> Result<Vec<Leaving<N>>, AllocError>
-    requires config { N.config ≡ Some (arc_value shared.now).config }
-    requires pipes { (length pipes.now.items ≡ 2 * link_count (arc_value shared.now).config) × AreFor ((arc_value shared.now).config.processors + 2) pipes.now.items }
+    requires config { N.config ≡ Some (arc_value common.now.shared).config }
+    requires pipes { (length pipes.now.items ≡ 2 * link_count (arc_value common.now.shared).config) × AreFor ((arc_value common.now.shared).config.processors + 2) pipes.now.items }
     requires takers { takers.items ≡ new_takers pipes.now.items }
-    requires free { IsRest (IsLong (link_count (arc_value shared.now).config)) ((arc_value shared.now).config.processors + 1) ((arc_value shared.now).config.processors + 1 + link_count (arc_value shared.now).config) free.old }
-    requires shares { AreNewShares (link_count (arc_value shared.now).config) shares.old }
-    ensures made { IfOk result (λ v. IsRest (IsLeavingAt (arc_value shared.now).config pipes.now.items) 0 (link_count (arc_value shared.now).config) v.items) }
+    requires free { IsRest (IsLong (link_count (arc_value common.now.shared).config)) ((arc_value common.now.shared).config.processors + 1) ((arc_value common.now.shared).config.processors + 1 + link_count (arc_value common.now.shared).config) remaining.old.free }
+    requires shares { AreNewShares (link_count (arc_value common.now.shared).config) remaining.old.shares }
+    ensures made { IfOk result (λ v. IsRest (IsLeavingAt (arc_value common.now.shared).config pipes.now.items) 0 (link_count (arc_value common.now.shared).config) v.items) }
 {
-    let links = link_count(&shared.config);
-    let producers = usize::from(shared.config.processors) + 2;
+    let links = link_count(&common.shared.config);
+    let producers = usize::from(common.shared.config.processors) + 2;
     let mut made = Vec::with_capacity(alloc, links)?;
     let mut takers = Line::of(takers);
     for link in 0..links {
-        let own = Arc::try_clone(shared)?;
+        let own = Arc::try_clone(&common.shared)?;
         let low = takers.next();
         let high = takers.next();
-        let back = free.next();
-        let share = shares.next();
+        let back = remaining.free.next();
+        let share = remaining.shares.next();
         made.push_reserved(leaving_at(own, link as u16, producers, low, high, back, share));
     }
     let _ = pipes;

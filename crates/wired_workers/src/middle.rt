@@ -12,7 +12,9 @@ ghost use Rattle.wired_workers.specs.Dealing.{IsBundleOf, IsLong, IsNewEnd, pipi
 ghost use Rattle.wired_workers.specs.Kits.{IsWorkingThere};
 ghost use Rattle.wired_workers.specs.Rest.{AreNewShares, HaveGone, IsRest};
 
-use crate::pipes::Pipes;
+use crate::common::Common;
+use crate::pipes::{Inputs, Pipes};
+use crate::remaining::{Portion, Remaining};
 use crate::waking::Events;
 use packet_ledger::Share;
 use router_ends::{Ends, Line, outlets};
@@ -47,21 +49,20 @@ impl<N: Router> Model for Ways<N> {
     ghost invariant = { λ w. AreFresh w.links.items × (w.share ≡ new_share) };
 }
 
-// What the next worker has.
-fn next_ways<N: Router>(
+// A worker's ways, of its portion.
+fn ways_of<N: Router>(
     alloc: Global,
-    bundle: Ends<EgressPacket<N>>,
-    free: Ends<Buffer>,
-    share: Share<N>,
+    portion: Portion<N>,
     events: &Events,
 ) -> Result<Ways<N>, AllocError>
-    requires bundle { IsBundle bundle.ends }
-    requires share { share ≡ new_share }
-    ensures links { IfOk result (λ w. (p : ℕ) (shapes : List Shape) → bundle.ends ≡ fresh_ends p shapes → AreEndsOf p shapes (senders w.links)) }
-    ensures count { IfOk result (λ w. length w.links ≡ length bundle.ends) }
-    ensures free { IfOk result (λ w. w.free ≡ free.ends) }
+    requires bundle { IsBundle portion.links.ends }
+    requires share { portion.share ≡ new_share }
+    ensures links { IfOk result (λ w. (p : ℕ) (shapes : List Shape) → portion.links.ends ≡ fresh_ends p shapes → AreEndsOf p shapes (senders w.links)) }
+    ensures count { IfOk result (λ w. length w.links ≡ length portion.links.ends) }
+    ensures free { IfOk result (λ w. w.free ≡ portion.free.ends) }
 {
-    let links = outlets(alloc, bundle, events.forwarders.as_slice(), 2)?;
+    let Portion { links, free, share } = portion;
+    let links = outlets(alloc, links, events.forwarders.as_slice(), 2)?;
     Ok(Ways {
         links,
         free: free.into_items(),
@@ -69,39 +70,76 @@ fn next_ways<N: Router>(
     })
 }
 
+// What a processor shares with others, and its ways.
+#[derive(Drop)]
+struct Own<N: Router, G: Drop> {
+    shared: Arc<Shared, Global>,
+    gate: Arc<G, Global>,
+    // The slow path's.
+    event: Event,
+    ways: Ways<N>,
+}
+
 // What the next processor shares with others, and the slow path's event.
 fn clones<G: Drop>(
-    shared: &Arc<Shared, Global>,
+    common: &Common,
     gate: &Arc<G, Global>,
-    events: &Events,
 ) -> Result<(Arc<Shared, Global>, Arc<G, Global>, Event), AllocError>
-    ensures { IfOk result (λ r. arc_value r.0 ≡ arc_value shared.now) }
+    ensures { IfOk result (λ r. arc_value r.0 ≡ arc_value common.now.shared) }
 {
-    let shared = Arc::try_clone(shared)?;
+    let shared = Arc::try_clone(&common.shared)?;
     let gate = Arc::try_clone(gate)?;
-    let event = Arc::try_clone(&events.slow)?;
+    let event = Arc::try_clone(&common.events.slow)?;
     Ok((shared, gate, event))
 }
 
-// The processor over what it shares with others, its ends and its ways.
+// What the next processor has of its own.
+fn own_of<N: Router, G: Drop>(
+    alloc: Global,
+    common: &Common,
+    gate: &Arc<G, Global>,
+    portion: Portion<N>,
+) -> Result<Own<N, G>, AllocError>
+    requires bundle { IsBundle portion.links.ends }
+    requires share { portion.share ≡ new_share }
+    ensures config { IfOk result (λ o. arc_value o.shared ≡ arc_value common.now.shared) }
+    ensures links { IfOk result (λ o. (p : ℕ) (shapes : List Shape) → portion.links.ends ≡ fresh_ends p shapes → AreEndsOf p shapes (senders o.ways.links)) }
+    ensures count { IfOk result (λ o. length o.ways.links ≡ length portion.links.ends) }
+    ensures free { IfOk result (λ o. o.ways.free ≡ portion.free.ends) }
+{
+    let ways = ways_of(alloc, portion, &common.events);
+    let (ways, (shared, gate, event)) = both(ways, clones(common, gate))?;
+    Ok(Own {
+        shared,
+        gate,
+        event,
+        ways,
+    })
+}
+
+// The processor over what it has of its own, and its ends of the pipes around it.
 fn processor_at<N: Router, G: Gate + Drop, R: Wait + Copy>(
     rt: R,
-    own: (Arc<Shared, Global>, Arc<G, Global>, Event),
+    own: Own<N, G>,
     index: u8,
     producers: usize,
     taker: Consumer<Packet<N>>,
     asking: Producer<SlowPathRequest<N>>,
-    ways: Ways<N>,
 ) -> Processor<N, R, G>
-    requires config { N.config ≡ Some (arc_value own.0).config }
+    requires config { N.config ≡ Some (arc_value own.shared).config }
     requires taker { (taker.taken ≡ []) × (taker.producers ≡ producers) }
     requires asking { (asking.offers ≡ []) × (asking.refusals ≡ []) }
-    requires ways { (length ways.links ≡ 2 * link_count (arc_value own.0).config) × (length ways.free ≡ link_count (arc_value own.0).config) }
-    ensures config { result.side.config ≡ (arc_value own.0).config }
-    ensures ends { (result.taker ≡ taker) × (result.slow.sender ≡ asking) × (result.side.links ≡ ways.links) }
+    requires ways { (length own.ways.links ≡ 2 * link_count (arc_value own.shared).config) × (length own.ways.free ≡ link_count (arc_value own.shared).config) }
+    ensures config { result.side.config ≡ (arc_value own.shared).config }
+    ensures ends { (result.taker ≡ taker) × (result.slow.sender ≡ asking) × (result.side.links ≡ own.ways.links) }
     ensures fresh { AreFresh result.side.links }
 {
-    let (shared, gate, event) = own;
+    let Own {
+        shared,
+        gate,
+        event,
+        ways,
+    } = own;
     let Ways { links, free, share } = ways;
     let from = Inlet::of(taker, producers);
     let slow = Outlet::of(asking, Some(event));
@@ -112,48 +150,37 @@ fn processor_at<N: Router, G: Gate + Drop, R: Wait + Copy>(
 fn processors_of<N: Router, G: Gate + Drop, R: Wait + Copy>(
     rt: R,
     alloc: Global,
-    shared: &Arc<Shared, Global>,
+    common: &Common,
     gate: &Arc<G, Global>,
-    inner: &Vec<Pipe<Packet<N>>>,
-    middle: &Pipe<SlowPathRequest<N>>,
-    outer: &Vec<Pipe<EgressPacket<N>>>,
+    pipes: &Pipes<N>,
     takers: Vec<Consumer<Packet<N>>>,
     asking: Vec<Producer<SlowPathRequest<N>>>,
-    links: &mut Line<Ends<EgressPacket<N>>>,
-    free: &mut Line<Ends<Buffer>>,
-    shares: &mut Line<Share<N>>,
-    events: &Events,
+    remaining: &mut Remaining<N>,
 ) -> Result<Vec<Processor<N, R, G>>, AllocError>
-    requires config { N.config ≡ Some (arc_value shared.now).config }
-    requires pipes { (length inner.now.items ≡ (arc_value shared.now).config.processors) × AreFor (link_count (arc_value shared.now).config) inner.now.items × (length outer.now.items ≡ 2 * link_count (arc_value shared.now).config) }
-    requires takers { takers.items ≡ new_takers inner.now.items }
-    requires asking { IsRest (IsNewEnd middle.now) 0 (arc_value shared.now).config.processors asking.items }
-    requires links { IsRest (IsBundleOf outer.now.items) 0 ((arc_value shared.now).config.processors + 2) links.old }
-    requires free { IsRest (IsLong (link_count (arc_value shared.now).config)) 0 ((arc_value shared.now).config.processors + 1 + link_count (arc_value shared.now).config) free.old }
-    requires shares { AreNewShares (arc_value shared.now).config.processors shares.old }
-    ensures links { IfOk result (λ _. IsRest (IsBundleOf outer.now.items) (arc_value shared.now).config.processors ((arc_value shared.now).config.processors + 2) links.new) }
-    ensures free { IfOk result (λ _. IsRest (IsLong (link_count (arc_value shared.now).config)) (arc_value shared.now).config.processors ((arc_value shared.now).config.processors + 1 + link_count (arc_value shared.now).config) free.new) }
-    ensures shares { IfOk result (λ _. HaveGone (arc_value shared.now).config.processors shares.old shares.new) }
-    ensures made { IfOk result (λ v. IsRest (IsWorkingThere (arc_value shared.now).config (piping inner.now.items middle.now outer.now.items)) 0 (arc_value shared.now).config.processors v.items) }
+    requires config { N.config ≡ Some (arc_value common.now.shared).config }
+    requires pipes { (length pipes.now.inner.items ≡ (arc_value common.now.shared).config.processors) × AreFor (link_count (arc_value common.now.shared).config) pipes.now.inner.items × (length pipes.now.outer.items ≡ 2 * link_count (arc_value common.now.shared).config) }
+    requires takers { takers.items ≡ new_takers pipes.now.inner.items }
+    requires asking { IsRest (IsNewEnd pipes.now.middle) 0 (arc_value common.now.shared).config.processors asking.items }
+    requires links { IsRest (IsBundleOf pipes.now.outer.items) 0 ((arc_value common.now.shared).config.processors + 2) remaining.old.links }
+    requires free { IsRest (IsLong (link_count (arc_value common.now.shared).config)) 0 ((arc_value common.now.shared).config.processors + 1 + link_count (arc_value common.now.shared).config) remaining.old.free }
+    requires shares { AreNewShares (arc_value common.now.shared).config.processors remaining.old.shares }
+    ensures links { IfOk result (λ _. IsRest (IsBundleOf pipes.now.outer.items) (arc_value common.now.shared).config.processors ((arc_value common.now.shared).config.processors + 2) remaining.new.links) }
+    ensures free { IfOk result (λ _. IsRest (IsLong (link_count (arc_value common.now.shared).config)) (arc_value common.now.shared).config.processors ((arc_value common.now.shared).config.processors + 1 + link_count (arc_value common.now.shared).config) remaining.new.free) }
+    ensures shares { IfOk result (λ _. HaveGone (arc_value common.now.shared).config.processors remaining.old.shares remaining.new.shares) }
+    ensures made { IfOk result (λ v. IsRest (IsWorkingThere (arc_value common.now.shared).config (piping pipes.now.inner.items pipes.now.middle pipes.now.outer.items)) 0 (arc_value common.now.shared).config.processors v.items) }
 {
-    let producers = link_count(&shared.config);
-    let count = usize::from(shared.config.processors);
+    let producers = link_count(&common.shared.config);
+    let count = usize::from(common.shared.config.processors);
     let mut made = Vec::with_capacity(alloc, count)?;
     let mut takers = Line::of(takers);
     let mut asking = Line::of(asking);
     for index in 0..count {
-        let bundle = links.next();
-        let back = free.next();
-        let share = shares.next();
-        let ways = next_ways(alloc, bundle, back, share, events);
-        let (ways, own) = both(ways, clones(shared, gate, events))?;
+        let own = own_of(alloc, common, gate, remaining.next())?;
         let taker = takers.next();
         let slow = asking.next();
-        made.push_reserved(processor_at(rt, own, index as u8, producers, taker, slow, ways));
+        made.push_reserved(processor_at(rt, own, index as u8, producers, taker, slow));
     }
-    let _ = inner;
-    let _ = middle;
-    let _ = outer;
+    let _ = pipes;
     Ok(made)
 }
 
@@ -181,26 +208,23 @@ fn slow_path_of<N: Router, R: Wait + Copy>(
 fn slow_path_with<N: Router, R: Wait + Copy>(
     rt: R,
     alloc: Global,
-    shared: &Arc<Shared, Global>,
+    common: &Common,
     taker: Consumer<SlowPathRequest<N>>,
-    bundle: Ends<EgressPacket<N>>,
-    free: Ends<Buffer>,
-    share: Share<N>,
-    events: &Events,
+    portion: Portion<N>,
 ) -> Result<SlowPath<N, R>, AllocError>
-    requires config { N.config ≡ Some (arc_value shared.now).config }
-    requires taker { (taker.taken ≡ []) × (taker.producers ≡ (arc_value shared.now).config.processors) }
-    requires bundle { IsBundle bundle.ends }
-    requires links { length bundle.ends ≡ 2 * link_count (arc_value shared.now).config }
-    requires free { length free.ends ≡ link_count (arc_value shared.now).config }
-    requires share { share ≡ new_share }
-    ensures config { IfOk result (λ a. a.side.config ≡ (arc_value shared.now).config) }
+    requires config { N.config ≡ Some (arc_value common.now.shared).config }
+    requires taker { (taker.taken ≡ []) × (taker.producers ≡ (arc_value common.now.shared).config.processors) }
+    requires bundle { IsBundle portion.links.ends }
+    requires links { length portion.links.ends ≡ 2 * link_count (arc_value common.now.shared).config }
+    requires free { length portion.free.ends ≡ link_count (arc_value common.now.shared).config }
+    requires share { portion.share ≡ new_share }
+    ensures config { IfOk result (λ a. a.side.config ≡ (arc_value common.now.shared).config) }
     ensures taker { IfOk result (λ a. a.taker ≡ taker) }
-    ensures links { IfOk result (λ a. (p : ℕ) (shapes : List Shape) → bundle.ends ≡ fresh_ends p shapes → AreEndsOf p shapes (senders a.side.links)) }
+    ensures links { IfOk result (λ a. (p : ℕ) (shapes : List Shape) → portion.links.ends ≡ fresh_ends p shapes → AreEndsOf p shapes (senders a.side.links)) }
     ensures fresh { IfOk result (λ a. AreFresh a.side.links) }
 {
-    let ways = next_ways(alloc, bundle, free, share, events);
-    let (ways, own) = both(ways, Arc::try_clone(shared))?;
+    let ways = ways_of(alloc, portion, &common.events);
+    let (ways, own) = both(ways, Arc::try_clone(&common.shared))?;
     Ok(slow_path_of(rt, own, taker, ways))
 }
 
@@ -211,55 +235,38 @@ pub struct Deciding<N: Router, G: Gate + Drop, R: Wait + Copy> {
     pub slow: SlowPath<N, R>,
 }
 
-/// All that decide and answer, with the next ends, buffers and shares of each.
+/// All that decide and answer, each with its ends of the pipes around it, and with the next of what is left.
 pub fn deciding_of<N: Router, G: Gate + Drop, R: Wait + Copy>(
     rt: R,
     alloc: Global,
-    shared: &Arc<Shared, Global>,
+    common: &Common,
     gate: G,
     pipes: &Pipes<N>,
-    packets: Vec<Consumer<Packet<N>>>,
-    asking: Vec<Producer<SlowPathRequest<N>>>,
-    asked: Consumer<SlowPathRequest<N>>,
-    links: &mut Line<Ends<EgressPacket<N>>>,
-    free: &mut Line<Ends<Buffer>>,
-    shares: &mut Line<Share<N>>,
-    events: &Events,
+    inputs: Inputs<N>,
+    remaining: &mut Remaining<N>,
 ) -> Result<Deciding<N, G, R>, AllocError>
-    requires config { N.config ≡ Some (arc_value shared.now).config }
-    requires pipes { (length pipes.now.inner.items ≡ (arc_value shared.now).config.processors) × AreFor (link_count (arc_value shared.now).config) pipes.now.inner.items × (length pipes.now.outer.items ≡ 2 * link_count (arc_value shared.now).config) }
-    requires packets { packets.items ≡ new_takers pipes.now.inner.items }
-    requires middle { pipes.now.middle.producers ≡ (arc_value shared.now).config.processors }
-    requires asking { IsRest (IsNewEnd pipes.now.middle) 0 (arc_value shared.now).config.processors asking.items }
-    requires asked { IsTakerOf pipes.now.middle asked × (asked.taken ≡ []) }
-    requires links { IsRest (IsBundleOf pipes.now.outer.items) 0 ((arc_value shared.now).config.processors + 2) links.old }
-    requires free { IsRest (IsLong (link_count (arc_value shared.now).config)) 0 ((arc_value shared.now).config.processors + 1 + link_count (arc_value shared.now).config) free.old }
-    requires shares { AreNewShares ((arc_value shared.now).config.processors + 1) shares.old }
-    ensures links { IfOk result (λ _. IsRest (IsBundleOf pipes.now.outer.items) ((arc_value shared.now).config.processors + 1) ((arc_value shared.now).config.processors + 2) links.new) }
-    ensures free { IfOk result (λ _. IsRest (IsLong (link_count (arc_value shared.now).config)) ((arc_value shared.now).config.processors + 1) ((arc_value shared.now).config.processors + 1 + link_count (arc_value shared.now).config) free.new) }
-    ensures shares { IfOk result (λ _. HaveGone ((arc_value shared.now).config.processors + 1) shares.old shares.new) }
-    ensures working { IfOk result (λ d. IsRest (IsWorkingThere (arc_value shared.now).config (piping pipes.now.inner.items pipes.now.middle pipes.now.outer.items)) 0 (arc_value shared.now).config.processors d.processors.items) }
-    ensures answering { IfOk result (λ d. IsAnsweringAt (arc_value shared.now).config (piping pipes.now.inner.items pipes.now.middle pipes.now.outer.items) d.slow) }
+    requires config { N.config ≡ Some (arc_value common.now.shared).config }
+    requires pipes { (length pipes.now.inner.items ≡ (arc_value common.now.shared).config.processors) × AreFor (link_count (arc_value common.now.shared).config) pipes.now.inner.items × (length pipes.now.outer.items ≡ 2 * link_count (arc_value common.now.shared).config) }
+    requires packets { inputs.packets.items ≡ new_takers pipes.now.inner.items }
+    requires middle { pipes.now.middle.producers ≡ (arc_value common.now.shared).config.processors }
+    requires asking { IsRest (IsNewEnd pipes.now.middle) 0 (arc_value common.now.shared).config.processors inputs.asking.items }
+    requires asked { IsTakerOf pipes.now.middle inputs.asked × (inputs.asked.taken ≡ []) }
+    requires links { IsRest (IsBundleOf pipes.now.outer.items) 0 ((arc_value common.now.shared).config.processors + 2) remaining.old.links }
+    requires free { IsRest (IsLong (link_count (arc_value common.now.shared).config)) 0 ((arc_value common.now.shared).config.processors + 1 + link_count (arc_value common.now.shared).config) remaining.old.free }
+    requires shares { AreNewShares ((arc_value common.now.shared).config.processors + 1) remaining.old.shares }
+    ensures links { IfOk result (λ _. IsRest (IsBundleOf pipes.now.outer.items) ((arc_value common.now.shared).config.processors + 1) ((arc_value common.now.shared).config.processors + 2) remaining.new.links) }
+    ensures free { IfOk result (λ _. IsRest (IsLong (link_count (arc_value common.now.shared).config)) ((arc_value common.now.shared).config.processors + 1) ((arc_value common.now.shared).config.processors + 1 + link_count (arc_value common.now.shared).config) remaining.new.free) }
+    ensures shares { IfOk result (λ _. HaveGone ((arc_value common.now.shared).config.processors + 1) remaining.old.shares remaining.new.shares) }
+    ensures working { IfOk result (λ d. IsRest (IsWorkingThere (arc_value common.now.shared).config (piping pipes.now.inner.items pipes.now.middle pipes.now.outer.items)) 0 (arc_value common.now.shared).config.processors d.processors.items) }
+    ensures answering { IfOk result (λ d. IsAnsweringAt (arc_value common.now.shared).config (piping pipes.now.inner.items pipes.now.middle pipes.now.outer.items) d.slow) }
 {
     let gate = Arc::new(alloc, gate)?;
-    let processors = processors_of(
-        rt,
-        alloc,
-        shared,
-        &gate,
-        &pipes.inner,
-        &pipes.middle,
-        &pipes.outer,
+    let Inputs {
         packets,
         asking,
-        links,
-        free,
-        shares,
-        events,
-    )?;
-    let bundle = links.next();
-    let back = free.next();
-    let share = shares.next();
-    let slow = slow_path_with(rt, alloc, shared, asked, bundle, back, share, events)?;
+        asked,
+    } = inputs;
+    let processors = processors_of(rt, alloc, common, &gate, pipes, packets, asking, remaining)?;
+    let slow = slow_path_with(rt, alloc, common, asked, remaining.next())?;
     Ok(Deciding { processors, slow })
 }

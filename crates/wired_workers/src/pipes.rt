@@ -150,18 +150,24 @@ fn middle_pipe<N: Router>(
     Ok(made)
 }
 
-/// The pipes, with all their ends before any worker has them.
+/// What the processors and the slow path take from, and how the processors ask the slow path.
 #[derive(Drop)]
-pub struct AllPipes<N: Router> {
-    pub pipes: Pipes<N>,
-    /// The receivers' ends.
-    pub to_processors: Vec<Ends<Packet<N>>>,
+pub struct Inputs<N: Router> {
     /// The processors' consumers.
     pub packets: Vec<Consumer<Packet<N>>>,
     /// The processors' ends of the slow path's pipe.
     pub asking: Vec<Producer<SlowPathRequest<N>>>,
     /// The slow path's consumer.
     pub asked: Consumer<SlowPathRequest<N>>,
+}
+
+/// The pipes, with all their ends before any worker has them.
+#[derive(Drop)]
+pub struct AllPipes<N: Router> {
+    pub pipes: Pipes<N>,
+    /// The receivers' ends.
+    pub to_processors: Vec<Ends<Packet<N>>>,
+    pub inputs: Inputs<N>,
     /// The processors', the slow path's and the controller's ends of the links' pipes.
     pub to_links: Vec<Ends<EgressPacket<N>>>,
     /// The forwarders' consumers.
@@ -175,10 +181,10 @@ pub fn all_pipes<N: Router, R: Wait>(
     alloc: Global,
     shared: &Shared,
 ) -> Result<AllPipes<N>, AllocError>
-    ensures inner { IfOk result (λ a. IsDealing (link_count shared.now.config) shared.now.config.processors a.pipes.inner.items a.pipes.inner_rooms.items a.packets.items a.to_processors.items) }
+    ensures inner { IfOk result (λ a. IsDealing (link_count shared.now.config) shared.now.config.processors a.pipes.inner.items a.pipes.inner_rooms.items a.inputs.packets.items a.to_processors.items) }
     ensures middle { IfOk result (λ a. a.pipes.middle.producers ≡ shared.now.config.processors) }
-    ensures asking { IfOk result (λ a. IsRest (IsNewEnd a.pipes.middle) 0 shared.now.config.processors a.asking.items) }
-    ensures asked { IfOk result (λ a. IsTakerOf a.pipes.middle a.asked × (a.asked.taken ≡ [])) }
+    ensures asking { IfOk result (λ a. IsRest (IsNewEnd a.pipes.middle) 0 shared.now.config.processors a.inputs.asking.items) }
+    ensures asked { IfOk result (λ a. IsTakerOf a.pipes.middle a.inputs.asked × (a.inputs.asked.taken ≡ [])) }
     ensures outer { IfOk result (λ a. IsDealing (shared.now.config.processors + 2) (2 * link_count shared.now.config) a.pipes.outer.items a.pipes.outer_rooms.items a.egress_packets.items a.to_links.items) }
     ensures free { IfOk result (λ a. AreFree shared.now.config a.free.takers.items a.free.bundles.items) }
 {
@@ -194,9 +200,11 @@ pub fn all_pipes<N: Router, R: Wait>(
             outer_rooms: outer.rooms,
         },
         to_processors: inner.bundles,
-        packets: inner.takers,
-        asking,
-        asked,
+        inputs: Inputs {
+            packets: inner.takers,
+            asking,
+            asked,
+        },
         to_links: outer.bundles,
         egress_packets: outer.takers,
         free,

@@ -5,11 +5,14 @@ use Rattle.router_rules.specs.Rules.{kinds}
 use Rattle.router_stages.specs.Forwarding.{Forwarding}
 use Rattle.ruled_pipe.specs.Consumer.{Taker}
 use Rattle.run_laws.specs.Ended.{takers_of}
-use Rattle.router_run.proofs.PartLemmas.{longer, grown, room_kept, fits_still}
+use Rattle.router_run.proofs.PartLemmas.{each_same, longer, started, same_after, grown, room_kept, fits_still}
 use Rattle.wired_workers.proofs.RestLemmas.{all_done, each_back, shorter}
 use Rattle.router_run.proofs.parting.part_forwarders.Goals as goal
 
 module _ {K : Type 0} where
+  takers_started : (done : List (Taker (Outgoing kinds))) (xs ys : List (Forwarding K)) → done ≡ [] → xs ≡ ys → done ++ takers_of xs ≡ takers_of ys
+  takers_started done xs ys none e = ap (λ (zs : List (Taker (Outgoing kinds))). zs ++ takers_of xs) none ∙ ap takers_of e
+
   takers_moved : (done mid more : List (Taker (Outgoing kinds))) (low high : Taker (Outgoing kinds)) (old new : List (Forwarding K)) (x : Forwarding K) (all : List (Taker (Outgoing kinds))) → old ≡ x ∷ new → mid ≡ done ++ low ∷ [] → more ≡ mid ++ high ∷ [] → low ≡ x.low.taker → high ≡ x.high.taker → done ++ takers_of old ≡ all → more ++ takers_of new ≡ all
   takers_moved done mid more low high old new x all is first second a b before =
       let m : more ≡ (done ++ x.low.taker ∷ []) ++ x.high.taker ∷ [] =
@@ -26,6 +29,22 @@ module _ {K : Type 0} where
 twice : {X : Type 0} (k : ℕ) (done mid more : List X) (low high : X) → mid ≡ done ++ low ∷ [] → more ≡ mid ++ high ∷ [] → length done ≡ 2 * k → length more ≡ 2 * (k + 1)
 twice k done mid more low high first second long =
     let a = ap length first in let b = ap length second in let d = length-append done (low ∷ []) in let e = length-append mid (high ∷ []) in omega arith
+
+pub loop-k-init : goal.loop-k-init
+loop-k-init g c =
+    let e = c.of-forwarders.ensures in
+    record {
+      left = let a = ap length e in omega arith;
+      takers = takers_started _ _ _ c.requires.takers.0 e;
+      taker_room = (ap length c.requires.takers.0, c.requires.takers.1);
+      sinks = started _ _ _ _ c.requires.sinks.0 e;
+      sink_room = (ap length c.requires.sinks.0, c.requires.sinks.1);
+      sent = started _ _ _ _ c.requires.sent.0 e;
+      sent_room = (ap length c.requires.sent.0, c.requires.sent.1);
+      shares = same_after _ _ _ _ e;
+      share_room = let a = ap length e in let r = c.requires.shares in omega arith;
+      laws = λ all. each_same _ _ _ (sym e) all;
+    }
 
 pub loop-k-preserved : goal.loop-k-preserved
 loop-k-preserved g c =

@@ -15,7 +15,7 @@ invariant-loop-k g l = record {
   sink_room : (length l.sinks.items ≡ l.k) × (length l.fn.forwarders.items ≤ vec_capacity l.sinks);
   sent : l.sent.items ++ map (λ f. forwarded f.side.share) l.forwarders ≡ map (λ f. forwarded f.side.share) l.fn.forwarders.items;
   sent_room : (length l.sent.items ≡ l.k) × (length l.fn.forwarders.items ≤ vec_capacity l.sent);
-  shares : l.shares.items ++ map (λ f. f.side.share) l.forwarders ≡ l.initial.shares.items ++ map (λ f. f.side.share) l.fn.forwarders.items;
+  shares : l.shares.items ++ map (λ f. f.side.share) l.forwarders ≡ l.fn.shares.items ++ map (λ f. f.side.share) l.fn.forwarders.items;
   share_room : length l.shares.items + length l.forwarders ≤ vec_capacity l.shares;
   laws : Each (λ f. IsForwarding told_of f.low.taker f.high.taker f.low.shut f.high.shut (g.K.Sink.told f.side.sink) f.began (g.K.Sink.failed f.side.sink) f.side.share) l.forwarders
       → Each (λ f. IsForwarding told_of f.low.taker f.high.taker f.low.shut f.high.shut (g.K.Sink.told f.side.sink) f.began (g.K.Sink.failed f.side.sink) f.side.share) l.fn.forwarders.items;

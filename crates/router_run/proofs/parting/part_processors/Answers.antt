@@ -1,10 +1,30 @@
-use Rattle.std.proofs.Common.{rules, length, ◌∙◌, ap, subst, arith}
+use Rattle.std.proofs.Common.{rules, length, refl, sym, ◌∙◌, ap, subst, arith}
 use Rattle.stage_parts.specs.Outlet.{IsMarked, Offering}
 use Rattle.stage_parts.specs.Outlets.{senders}
 use Rattle.router_ends.specs.Handing.{AreMarked, NeverClosed}
-use Rattle.router_run.proofs.PartLemmas.{each_none, longer, grown, one_after, room_kept, fits_still}
+use Rattle.router_ends.specs.Rows.{rows_of}
+use Rattle.router_run.proofs.PartLemmas.{each_same, each_none, longer, started, same_after, grown, one_after, room_kept, fits_still}
 use Rattle.wired_workers.proofs.RestLemmas.{all_done, each_back, each_first, shorter}
 use Rattle.router_run.proofs.parting.part_processors.Goals as goal
+
+pub loop-k-init : goal.loop-k-init
+loop-k-init g c =
+    let e = c.of-processors.ensures in
+    record {
+      left = let a = ap length e in omega arith;
+      ends = each_same _ _ _ e c.requires.ends;
+      rows = (c.requires.rows.0, let a = ap length e in let r = c.requires.rows.1 in omega arith, omega arith);
+      takers = started _ _ _ _ c.requires.takers.0 e;
+      taker_room = (ap length c.requires.takers.0, c.requires.takers.1);
+      asking = started _ _ _ _ c.requires.asking.0 e;
+      asking_room = (ap length c.requires.asking.0, c.requires.asking.1);
+      bundles = started _ _ _ _ (ap rows_of c.requires.bundles.0) e;
+      bundle_room = (ap length c.requires.bundles.0, c.requires.bundles.1, refl);
+      shares = same_after _ _ _ _ e;
+      share_room = (let a = ap length e in let r = c.requires.shares in omega arith, refl);
+      laws = λ all. each_same _ _ _ (sym e) all;
+      marks = λ all. each_same _ _ _ (sym e) all;
+    }
 
 pub loop-k-preserved : goal.loop-k-preserved
 loop-k-preserved g c =

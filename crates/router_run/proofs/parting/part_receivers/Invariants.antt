@@ -16,8 +16,8 @@ invariant-loop-k g l = record {
   bundle_room : (length l.bundles.items ≡ l.k) × (length l.fn.receivers.items ≤ vec_capacity l.bundles);
   sources : l.sources.items ++ map (λ r. r.source) l.receivers ≡ map (λ r. r.source) l.fn.receivers.items;
   source_room : (length l.sources.items ≡ l.k) × (length l.fn.receivers.items ≤ vec_capacity l.sources);
-  shares : l.shares.items ++ map (λ r. r.side.share) l.receivers ≡ l.initial.shares.items ++ map (λ r. r.side.share) l.fn.receivers.items;
-  share_room : (length l.shares.items + length l.receivers ≤ vec_capacity l.shares) × (vec_capacity l.shares ≡ vec_capacity l.initial.shares);
+  shares : l.shares.items ++ map (λ r. r.side.share) l.receivers ≡ l.fn.shares.items ++ map (λ r. r.side.share) l.fn.receivers.items;
+  share_room : (length l.shares.items + length l.receivers ≤ vec_capacity l.shares) × (vec_capacity l.shares ≡ vec_capacity l.fn.shares);
   laws : Each (λ r. IsReceiving r.side.config r.side.link r.side.interface r.number (g.S.Source.told r.source) r.side.stock.free.looks (senders r.side.processors) r.side.share × NeverClosed (senders r.side.processors)) l.receivers
       → Each (λ r. IsReceiving r.side.config r.side.link r.side.interface r.number (g.S.Source.told r.source) r.side.stock.free.looks (senders r.side.processors) r.side.share × NeverClosed (senders r.side.processors)) l.fn.receivers.items;
   marks : Each (λ r. AreMarked r.side.processors) l.receivers → Each (λ r. AreMarked r.side.processors) l.fn.receivers.items;

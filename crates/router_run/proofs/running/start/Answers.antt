@@ -1,6 +1,50 @@
-use Rattle.std.proofs.Common.{refl}
-use Rattle.router_run.proofs.Begin.{starts}
+use Rattle.std.proofs.Common.{◌+◌, ◌*◌, refl, sym, ◌∙◌, ap}
+use Rattle.process_packet.specs.declared.config.Config.{Config}
+use Rattle.router_rules.specs.Links.{link_count}
+use Rattle.router_run.proofs.Begin.{parts_as, starts}
+use Rattle.router_run.proofs.Finish.{space_for, worker_slots_as}
 use Rattle.router_run.proofs.running.start.Goals as goal
+
+pub prepare-requires-clause-name : goal.prepare-requires-clause-name
+prepare-requires-clause-name g c = c.requires.name
+
+pub prepare-requires-clause-config : goal.prepare-requires-clause-config
+prepare-requires-clause-config g c = c.requires.config
+
+pub prepare-requires-clause-workers : goal.prepare-requires-clause-workers
+prepare-requires-clause-workers g c = c.requires.workers
+
+pub run-requires-clause-worker_parts : goal.run-requires-clause-worker_parts
+run-requires-clause-worker_parts g c κs within = parts_as _ _ _ _ _ _ _ _ _ _ c.in-Ok.ensures.shared c.in-Ok.ensures.worker_parts
+
+pub run-requires-clause-receivers : goal.run-requires-clause-receivers
+run-requires-clause-receivers g c κs within =
+    let room = c.in-Ok.ensures.receivers in
+    let links = ap link_count (sym c.in-Ok.ensures.shared) in
+    (room.0, room.1 ∙ links, room.2, room.3 ∙ links)
+
+pub run-requires-clause-processors : goal.run-requires-clause-processors
+run-requires-clause-processors g c κs within =
+    let room = c.in-Ok.ensures.processors in
+    (room.0, room.1 ∙ ap (λ (k : Config). k.processors) (sym c.in-Ok.ensures.shared))
+
+pub run-requires-clause-slow : goal.run-requires-clause-slow
+run-requires-clause-slow g c κs within = c.in-Ok.ensures.slow
+
+pub run-requires-clause-forwarders : goal.run-requires-clause-forwarders
+run-requires-clause-forwarders g c κs within =
+    let room = c.in-Ok.ensures.forwarders in
+    let links = ap link_count (sym c.in-Ok.ensures.shared) in
+    (room.0, room.1 ∙ links, room.2, room.3 ∙ links)
+
+pub run-requires-clause-worker_slots : goal.run-requires-clause-worker_slots
+run-requires-clause-worker_slots g c κs within = worker_slots_as _ _ _ c.in-Ok.ensures.shared c.in-Ok.ensures.worker_slots
+
+pub run-requires-clause-space : goal.run-requires-clause-space
+run-requires-clause-space g c κs within = space_for _ _ _ c.in-Ok.ensures.shared c.in-Ok.ensures.space
+
+pub run-requires-clause-workers : goal.run-requires-clause-workers
+run-requires-clause-workers g c κs within = c.requires.workers ∙ ap (λ (k : Config). 2 * link_count k + k.processors + 1) (sym c.in-Ok.ensures.shared)
 
 pub returns-in-Ok : goal.returns-in-Ok
 returns-in-Ok g c = starts g.K.Sink.failed _ _ _ _ _ _ c.in-Ok.ensures.shared c.run.ensures

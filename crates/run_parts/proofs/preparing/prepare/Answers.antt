@@ -5,39 +5,39 @@ use Rattle.run_parts.proofs.preparing.prepare.Goals as goal
 
 pub returns-clause-receivers : goal.returns-clause-receivers
 returns-clause-receivers g c =
-    let workers = of_ok _ _ _ c.in_ok-worker_parts.ensures.0 c.both-workers.ensures in
-    let d = of_ok _ _ _ workers.1 c.thread_setups_for-thread_setups.ensures.receivers in
+    let rest = of_ok _ _ _ c.in_ok-worker_parts.ensures.1 c.both.ensures in
+    let d = of_ok _ _ _ rest.0 c.teams_for-teams.ensures.receivers in
     let l = c.link_count-links.ensures.count in
     (d.0, d.1 ∙ l, d.2, d.3 ∙ l)
 
 pub returns-clause-processors : goal.returns-clause-processors
 returns-clause-processors g c =
-    let workers = of_ok _ _ _ c.in_ok-worker_parts.ensures.0 c.both-workers.ensures in
-    let d = of_ok _ _ _ workers.1 c.thread_setups_for-thread_setups.ensures.processors in
+    let rest = of_ok _ _ _ c.in_ok-worker_parts.ensures.1 c.both.ensures in
+    let d = of_ok _ _ _ rest.0 c.teams_for-teams.ensures.processors in
     (d.0, d.1 ∙ c.from-processors.ensures)
 
 pub returns-clause-slow : goal.returns-clause-slow
 returns-clause-slow g c =
-    let workers = of_ok _ _ _ c.in_ok-worker_parts.ensures.0 c.both-workers.ensures in
-    of_ok _ _ _ workers.1 c.thread_setups_for-thread_setups.ensures.slow
+    let rest = of_ok _ _ _ c.in_ok-worker_parts.ensures.1 c.both.ensures in
+    of_ok _ _ _ rest.0 c.teams_for-teams.ensures.slow
 
 pub returns-clause-forwarders : goal.returns-clause-forwarders
 returns-clause-forwarders g c =
-    let workers = of_ok _ _ _ c.in_ok-worker_parts.ensures.0 c.both-workers.ensures in
-    let d = of_ok _ _ _ workers.1 c.thread_setups_for-thread_setups.ensures.forwarders in
+    let rest = of_ok _ _ _ c.in_ok-worker_parts.ensures.1 c.both.ensures in
+    let d = of_ok _ _ _ rest.0 c.teams_for-teams.ensures.forwarders in
     let l = c.link_count-links.ensures.count in
     (d.0, d.1 ∙ l, d.2, d.3 ∙ l)
 
 pub returns-clause-space : goal.returns-clause-space
 returns-clause-space g c =
-    let room = of_ok _ _ _ c.in_ok-worker_parts.ensures.1 c.both-room.ensures in
-    let space = of_ok _ _ _ room.1 c.space_for.ensures in
-    subst (λ (n : ℕ). HaveSpace n c.args.config.processors c.in_ok-worker_parts.space) c.link_count-links.ensures.count
-    (subst (λ (n : ℕ). HaveSpace c.link_count-links.result n c.in_ok-worker_parts.space) c.from-processors.ensures space)
+    let rest = of_ok _ _ _ c.in_ok-worker_parts.ensures.1 c.both.ensures in
+    let space = of_ok _ _ _ rest.1 c.reserve_for-reserve.ensures.space in
+    subst (λ (n : ℕ). HaveSpace n c.args.config.processors c.in_ok-worker_parts.reserve.space) c.link_count-links.ensures.count
+    (subst (λ (n : ℕ). HaveSpace c.link_count-links.result n c.in_ok-worker_parts.reserve.space) c.from-processors.ensures space)
 
 pub returns-clause-worker_slots : goal.returns-clause-worker_slots
 returns-clause-worker_slots g c =
-    let room = of_ok _ _ _ c.in_ok-worker_parts.ensures.1 c.both-room.ensures in
-    let worker_slots = of_ok _ _ _ room.0 c.worker_slots_for.ensures in
-    subst (λ (n : ℕ). HaveWorkerSlots n c.args.config.processors c.in_ok-worker_parts.worker_slots) c.link_count-links.ensures.count
-    (subst (λ (n : ℕ). HaveWorkerSlots c.link_count-links.result n c.in_ok-worker_parts.worker_slots) c.from-processors.ensures worker_slots)
+    let rest = of_ok _ _ _ c.in_ok-worker_parts.ensures.1 c.both.ensures in
+    let worker_slots = of_ok _ _ _ rest.1 c.reserve_for-reserve.ensures.worker_slots in
+    subst (λ (n : ℕ). HaveWorkerSlots n c.args.config.processors c.in_ok-worker_parts.reserve.worker_slots) c.link_count-links.ensures.count
+    (subst (λ (n : ℕ). HaveWorkerSlots c.link_count-links.result n c.in_ok-worker_parts.reserve.worker_slots) c.from-processors.ensures worker_slots)

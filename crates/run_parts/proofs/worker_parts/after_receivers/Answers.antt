@@ -1,8 +1,10 @@
-use Rattle.std.proofs.Common.{◌+◌, refl, ◌∙◌, ap, subst, arith}
+use Rattle.std.proofs.Common.{◌≡◌, Ok, ◌+◌, ◌*◌, length, refl, ◌∙◌, ap, subst, arith}
 use Rattle.std.specs.Arc.{arc_value}
+use Rattle.router_ends.specs.Rows.{fresh_ends}
 use Rattle.router_ends.specs.Shutting.{AreShutters}
 use Rattle.router_rules.specs.Links.{link_count}
 use Rattle.router_rules.specs.declared.shared.Shared.{Shared}
+use Rattle.wired_workers.specs.Dealing.{IsBundleOf}
 use Rattle.wired_workers.specs.Piping.{are_used}
 use Rattle.wired_workers.proofs.Making.{bundle_long, ends_of}
 use Rattle.wired_workers.proofs.OkLemmas.{of_ok}
@@ -14,17 +16,21 @@ deciding_of-requires-clause-shares g c = let r = c.requires.shares in record { e
 
 pub shutters-closing-requires-clause-few : goal.shutters-closing-requires-clause-few
 shutters-closing-requires-clause-few g c =
-    let is = rest_first _ _ _ _ _ _ c.next.ensures c.in_ok-deciding.ensures.links in
-    let long = bundle_long _ _ _ _ _ refl is c.requires.pipes.2 in
+    let config = (arc_value c.args.common.now.shared).config in
+    let shapes = c.args.pipes.now.outer.items in
+    let is : c.next.result.ends ≡ fresh_ends (config.processors + 1) shapes = rest_first (IsBundleOf shapes) (config.processors + 1) (config.processors + 2) c.deciding_of.new.remaining.links c.next.new.self c.next.result c.next.ensures c.in_ok-deciding.ensures.links in
+    let long = bundle_long (2 * link_count config) (config.processors + 1) (length c.next.result.ends) shapes c.next.result.ends refl is c.requires.pipes.2 in
     let few = c.link_count.ensures.few in
     let links = c.link_count.ensures.count ∙ ap (λ (s : Shared). link_count s.config) c.deref.ensures in
     omega arith
 
 pub returns-clause-shutting : goal.returns-clause-shutting
 returns-clause-shutting g c =
-    let last = rest_first _ _ _ _ _ _ c.next.ensures c.in_ok-deciding.ensures.links in
-    let ends = of_ok _ _ _ c.in_ok-decided.ensures.1 c.both-ends.ensures in
-    let shut = of_ok _ _ _ ends.1 c.shutters-closing.ensures.ends in
-    let config = (arc_value c.args.shared.now).config in
-    subst (λ (s : Shared). AreShutters (are_used s.config) 0 (config.processors + 1) c.args.pipes.now.outer.items c.in_ok-decided.shutters.items) c.deref-2.ensures
-    (shut (config.processors + 1) c.args.pipes.now.outer.items (ends_of _ _ _ last))
+    let config = (arc_value c.args.common.now.shared).config in
+    let shapes = c.args.pipes.now.outer.items in
+    let made = c.in_ok-decided.shutters in
+    let is : c.next.result.ends ≡ fresh_ends (config.processors + 1) shapes = rest_first (IsBundleOf shapes) (config.processors + 1) (config.processors + 2) c.deciding_of.new.remaining.links c.next.new.self c.next.result c.next.ensures c.in_ok-deciding.ensures.links in
+    let ends = of_ok (λ r. (c.all_leaving-leaving.result ≡ Ok r.0) × (c.shutters-closing.result ≡ Ok r.1)) c.both-ends.result (c.in_ok-decided.forwarders, made) c.in_ok-decided.ensures.1 c.both-ends.ensures in
+    let shut = of_ok _ c.shutters-closing.result made ends.1 c.shutters-closing.ensures.ends in
+    subst (λ (s : Shared). AreShutters (are_used s.config) 0 (config.processors + 1) shapes made.items) c.deref-2.ensures
+    (shut (config.processors + 1) shapes (ends_of (config.processors + 1) shapes c.next.result.ends is))

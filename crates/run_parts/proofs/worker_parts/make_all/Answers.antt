@@ -1,7 +1,9 @@
 use Rattle.std.proofs.Common.{◌+◌, ◌*◌, sym, ◌∙◌, ap, subst}
+use Rattle.std.specs.Arc.{arc_value}
 use Rattle.router_rules.specs.Links.{link_count}
 use Rattle.router_rules.specs.declared.shared.Shared.{Shared}
 use Rattle.router_ends.specs.Rows.{AreFor, HaveLeft}
+use Rattle.wired_workers.specs.Dealing.{IsBundleOf}
 use Rattle.wired_workers.proofs.Fresh.{bundles_are}
 use Rattle.wired_workers.proofs.Making.{rest_as}
 use Rattle.run_parts.proofs.worker_parts.make_all.Goals as goal
@@ -9,7 +11,10 @@ use Rattle.run_parts.proofs.worker_parts.make_all.Goals as goal
 pub after_receivers-requires-clause-links : goal.after_receivers-requires-clause-links
 after_receivers-requires-clause-links g c =
     let dealt = c.in_ok-pipes.ensures.outer.dealt in
-    rest_as _ 0 _ _ _ _ c.of.ensures (ap (λ (s : Shared). s.config.processors + 2) (sym c.deref.ensures)) (bundles_are _ _ _ dealt.0 dealt.1)
+    let all = c.in_ok-pipes.field-0 in
+    let shapes = all.pipes.outer.items in
+    let links = all.to_links.items in
+    rest_as (IsBundleOf shapes) 0 ((arc_value c.args.common.now.shared).config.processors + 2) _ c.of.result links c.of.ensures (ap (λ (s : Shared). s.config.processors + 2) (sym c.deref.ensures)) (bundles_are shapes _ links dealt.0 dealt.1)
 
 pub returns : goal.returns
 returns g c =

@@ -19,7 +19,7 @@ bundle_of {T = T} ss p n processors old new b is r long =
 
 pub loop-link-init : goal.loop-link-init
 loop-link-init g c =
-    let config = (arc_value c.args.shared.now).config in
+    let config = (arc_value c.args.common.now.shared).config in
     let shapes = c.args.pipes.now.items in
     let links : c.link_count-links.result ≡ link_count config = (let a = c.link_count-links.ensures.count in let d = c.deref.ensures in cc) in
     record {
@@ -33,12 +33,12 @@ loop-link-init g c =
 pub entering_at-requires-clause-bundle : goal.entering_at-requires-clause-bundle
 entering_at-requires-clause-bundle g c =
     let at = c.loop-link in
-    bundle_of c.args.pipes.now.items at.link c.link_count-links.result (arc_value c.args.shared.now).config.processors at.bundles c.next-bundle.new.self c.next-bundle.result c.next-bundle.ensures at.invariant.bundles c.requires.pipes
+    bundle_of c.args.pipes.now.items at.link c.link_count-links.result (arc_value c.args.common.now.shared).config.processors at.bundles c.next-bundle.new.self c.next-bundle.result c.next-bundle.ensures at.invariant.bundles c.requires.pipes
 
 pub loop-link-preserved : goal.loop-link-preserved
 loop-link-preserved g c =
     let at = c.loop-link in
-    let config = (arc_value c.args.shared.now).config in
+    let config = (arc_value c.args.common.now.shared).config in
     let shapes = c.args.pipes.now.items in
     let e = c.in_ok-entering_at.field-0 in
     let here : c.next-bundle.result.ends ≡ fresh_ends at.link shapes = rest_first (IsBundleOf shapes) at.link c.link_count-links.result at.bundles c.next-bundle.new.self c.next-bundle.result c.next-bundle.ensures at.invariant.bundles in

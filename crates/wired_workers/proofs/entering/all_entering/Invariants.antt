@@ -8,7 +8,7 @@ use Rattle.wired_workers.proofs.entering.all_entering.Given as goal
 
 abbrev pub invariant-loop-link : goal.invariant-loop-link
 invariant-loop-link g l = record {
-  made : AllAt (IsEnteringAt (arc_value l.shared).config l.fn.pipes.items) 0 l.made.items;
+  made : AllAt (IsEnteringAt (arc_value l.common.shared).config l.fn.pipes.items) 0 l.made.items;
   count : (length l.made.items ≡ l.link) × (l.links ≤ vec_capacity l.made);
   bundles : IsRest (IsBundleOf l.fn.pipes.items) l.link l.links l.bundles;
   free : IsRest IsUnlooked l.link l.links l.free;

@@ -60,34 +60,34 @@ left_at c ss l e a b config link low high first second = record {
 
 pub loop-link-init : goal.loop-link-init
 loop-link-init g c =
-    let config = (arc_value c.args.shared.now).config in
+    let config = (arc_value c.args.common.now.shared).config in
     let links : c.link_count-links.result ≡ link_count config = (let a = c.link_count-links.ensures.count in let d = c.deref.ensures in cc) in
     record {
       made = all_none (IsLeavingAt config c.args.pipes.now.items) 0 c.in_ok-made.made.items c.in_ok-made.ensures.items;
       count = (ap length c.in_ok-made.ensures.items, c.in_ok-made.ensures.capacity);
       takers = takers_rest c.args.pipes.now.items c.link_count-links.result (link_count config) c.args.takers.items c.of-takers.result links c.of-takers.ensures c.requires.takers c.requires.pipes.0;
-      free = long_rest c.link_count-links.result (link_count config) config.processors c.args.free.now links c.requires.free;
-      shares = none_gone (link_count config) c.args.shares.now c.requires.shares;
+      free = long_rest c.link_count-links.result (link_count config) config.processors c.args.remaining.now.free links c.requires.free;
+      shares = none_gone (link_count config) c.args.remaining.now.shares c.requires.shares;
     }
 
 pub leaving_at-requires-clause-low : goal.leaving_at-requires-clause-low
 leaving_at-requires-clause-low g c =
     let at = c.loop-link in
     let two = first_two c.args.pipes.now.items at.link c.link_count-links.result at.takers c.next-low.new.self c.next-high.new.self c.next-low.result c.next-high.result c.next-low.ensures c.next-high.ensures at.invariant.takers in
-    let is = taker_new ((arc_value c.args.shared.now).config.processors + 2) c.args.pipes.now.items (2 * at.link) c.next-low.result c.requires.pipes.1 two.0 in
+    let is = taker_new ((arc_value c.args.common.now.shared).config.processors + 2) c.args.pipes.now.items (2 * at.link) c.next-low.result c.requires.pipes.1 two.0 in
     search (rules, is)
 
 pub leaving_at-requires-clause-high : goal.leaving_at-requires-clause-high
 leaving_at-requires-clause-high g c =
     let at = c.loop-link in
     let two = first_two c.args.pipes.now.items at.link c.link_count-links.result at.takers c.next-low.new.self c.next-high.new.self c.next-low.result c.next-high.result c.next-low.ensures c.next-high.ensures at.invariant.takers in
-    let is = taker_new ((arc_value c.args.shared.now).config.processors + 2) c.args.pipes.now.items (2 * at.link + 1) c.next-high.result c.requires.pipes.1 two.1.0 in
+    let is = taker_new ((arc_value c.args.common.now.shared).config.processors + 2) c.args.pipes.now.items (2 * at.link + 1) c.next-high.result c.requires.pipes.1 two.1.0 in
     search (rules, is)
 
 pub loop-link-preserved : goal.loop-link-preserved
 loop-link-preserved g c =
     let at = c.loop-link in
-    let config = (arc_value c.args.shared.now).config in
+    let config = (arc_value c.args.common.now.shared).config in
     let shapes = c.args.pipes.now.items in
     let links = c.link_count-links.result in
     let e = c.leaving_at.result in
@@ -96,11 +96,11 @@ loop-link-preserved g c =
     let linked : e.link ≡ at.link = (let l = c.leaving_at.ensures.config.1 in let few = c.link_count-links.ensures.few in let t = c.loop-link-test.true in omega arith) in
     let low : e.low.taker ≡ c.next-low.result = ap (λ (b : Band). b.taker) c.leaving_at.ensures.bands.0 in
     let high : e.high.taker ≡ c.next-high.result = ap (λ (b : Band). b.taker) c.leaving_at.ensures.bands.1 in
-    let is : IsLeavingAt config shapes at.link e = left_at config shapes at.link e c.next-low.result c.next-high.result (c.leaving_at.ensures.config.0 ∙ ap (λ (s : Shared). s.config) same) linked low high two.0 two.1.0 in
+    let is : IsLeavingAt config shapes at.link e = left_at config shapes at.link e c.next-low.result c.next-high.result (◌∙◌ {c = config} c.leaving_at.ensures.config.0 (ap (λ (s : Shared). s.config) same)) linked low high two.0 two.1.0 in
     record {
       made = all_pushed (IsLeavingAt config shapes) at.link at.made.items c.push_reserved.new.self.items e c.push_reserved.ensures.items at.invariant.made at.invariant.count.0 is;
       count = (pushed_long at.link at.made.items c.push_reserved.new.self.items e c.push_reserved.ensures.items at.invariant.count.0, rw c.push_reserved.ensures.capacity at.invariant.count.1);
       takers = two.1.1;
-      free = long_next links config.processors at.link at.free c.next-back.new.self c.next-back.result c.next-back.ensures at.invariant.free;
-      shares = one_gone at.link c.args.shares.now at.shares c.next-share.new.self c.next-share.result c.next-share.ensures at.invariant.shares;
+      free = long_next links config.processors at.link at.remaining.free c.next-back.new.self c.next-back.result c.next-back.ensures at.invariant.free;
+      shares = one_gone at.link c.args.remaining.now.shares at.remaining.shares c.next-share.new.self c.next-share.result c.next-share.ensures at.invariant.shares;
     }

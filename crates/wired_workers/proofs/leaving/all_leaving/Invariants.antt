@@ -8,9 +8,9 @@ use Rattle.wired_workers.proofs.leaving.all_leaving.Given as goal
 
 abbrev pub invariant-loop-link : goal.invariant-loop-link
 invariant-loop-link g l = record {
-  made : AllAt (IsLeavingAt (arc_value l.shared).config l.fn.pipes.items) 0 l.made.items;
+  made : AllAt (IsLeavingAt (arc_value l.common.shared).config l.fn.pipes.items) 0 l.made.items;
   count : (length l.made.items ≡ l.link) × (l.links ≤ vec_capacity l.made);
   takers : IsRest (IsTakerThere l.fn.pipes.items) (2 * l.link) (2 * l.links) l.takers;
-  free : IsRest (IsLong l.links) ((arc_value l.shared).config.processors + 1 + l.link) ((arc_value l.shared).config.processors + 1 + l.links) l.free;
-  shares : HaveGone l.link l.initial.shares l.shares;
+  free : IsRest (IsLong l.links) ((arc_value l.common.shared).config.processors + 1 + l.link) ((arc_value l.common.shared).config.processors + 1 + l.links) l.remaining.free;
+  shares : HaveGone l.link l.initial.remaining.shares l.remaining.shares;
 }

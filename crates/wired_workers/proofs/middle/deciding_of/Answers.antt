@@ -1,4 +1,8 @@
-use Rattle.std.proofs.Common.{subst, sym, refl, arith}
+use Rattle.std.proofs.Common.{◌≡◌, ◌+◌, ◌*◌, length, subst, sym, refl, arith}
+use Rattle.std.specs.Arc.{arc_value}
+use Rattle.router_ends.specs.Rows.{fresh_ends}
+use Rattle.router_rules.specs.Links.{link_count}
+use Rattle.wired_workers.specs.Dealing.{IsBundleOf, IsLong}
 use Rattle.wired_workers.specs.Piping.{IsTakerOf}
 use Rattle.wired_workers.proofs.Making.{bundle_long, one_gone}
 use Rattle.wired_workers.proofs.RestLemmas.{rest_first, rest_next}
@@ -9,28 +13,40 @@ processors_of-requires-clause-shares g c = let r = c.requires.shares in record {
 
 pub slow_path_with-requires-clause-links : goal.slow_path_with-requires-clause-links
 slow_path_with-requires-clause-links g c =
-    let is = rest_first _ _ _ _ _ _ c.next-bundle.ensures c.in_ok-processors.ensures.links in
-    bundle_long _ _ _ _ _ refl is c.requires.pipes.2
+    let config = (arc_value c.args.common.now.shared).config in
+    let shapes = c.args.pipes.now.outer.items in
+    let links = c.next.result.links in
+    let is : links.ends ≡ fresh_ends config.processors shapes = rest_first (IsBundleOf shapes) config.processors (config.processors + 2) c.processors_of.new.remaining.links c.next.new.self.links links c.next.ensures.links c.in_ok-processors.ensures.links in
+    bundle_long (2 * link_count config) config.processors (length links.ends) shapes links.ends refl is c.requires.pipes.2
 
 pub slow_path_with-requires-clause-free : goal.slow_path_with-requires-clause-free
-slow_path_with-requires-clause-free g c = rest_first _ _ _ _ _ _ c.next-back.ensures c.in_ok-processors.ensures.free
+slow_path_with-requires-clause-free g c =
+    let config = (arc_value c.args.common.now.shared).config in
+    rest_first (IsLong (link_count config)) config.processors (config.processors + 1 + link_count config) c.processors_of.new.remaining.free c.next.new.self.free c.next.result.free c.next.ensures.free c.in_ok-processors.ensures.free
 
 pub returns-clause-links : goal.returns-clause-links
-returns-clause-links g c = rest_next _ _ _ _ _ _ c.next-bundle.ensures c.in_ok-processors.ensures.links
+returns-clause-links g c =
+    let config = (arc_value c.args.common.now.shared).config in
+    rest_next (IsBundleOf c.args.pipes.now.outer.items) config.processors (config.processors + 2) c.processors_of.new.remaining.links c.next.new.self.links c.next.result.links c.next.ensures.links c.in_ok-processors.ensures.links
 
 pub returns-clause-free : goal.returns-clause-free
-returns-clause-free g c = rest_next _ _ _ _ _ _ c.next-back.ensures c.in_ok-processors.ensures.free
+returns-clause-free g c =
+    let config = (arc_value c.args.common.now.shared).config in
+    rest_next (IsLong (link_count config)) config.processors (config.processors + 1 + link_count config) c.processors_of.new.remaining.free c.next.new.self.free c.next.result.free c.next.ensures.free c.in_ok-processors.ensures.free
 
 pub returns-clause-shares : goal.returns-clause-shares
-returns-clause-shares g c = one_gone _ _ _ _ _ c.next-share.ensures c.in_ok-processors.ensures.shares
+returns-clause-shares g c = one_gone (arc_value c.args.common.now.shared).config.processors c.args.remaining.now.shares c.processors_of.new.remaining.shares c.next.new.self.shares c.next.result.share c.next.ensures.shares c.in_ok-processors.ensures.shares
 
 pub returns-clause-answering : goal.returns-clause-answering
 returns-clause-answering g c =
-    let is = rest_first _ _ _ _ _ _ c.next-bundle.ensures c.in_ok-processors.ensures.links in
+    let config = (arc_value c.args.common.now.shared).config in
+    let shapes = c.args.pipes.now.outer.items in
+    let links = c.next.result.links in
+    let is : links.ends ≡ fresh_ends config.processors shapes = rest_first (IsBundleOf shapes) config.processors (config.processors + 2) c.processors_of.new.remaining.links c.next.new.self.links links c.next.ensures.links c.in_ok-processors.ensures.links in
     let made = c.in_ok-slow.ensures in
     record {
       config = made.config;
       taker = subst (λ t. IsTakerOf c.args.pipes.now.middle t) (sym made.taker) c.requires.asked.0;
-      links = made.links _ _ is;
+      links = made.links config.processors shapes is;
       fresh = made.fresh;
     }

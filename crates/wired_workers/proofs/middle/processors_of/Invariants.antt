@@ -8,11 +8,11 @@ use Rattle.wired_workers.proofs.middle.processors_of.Given as goal
 
 abbrev pub invariant-loop-index : goal.invariant-loop-index
 invariant-loop-index g l = record {
-  made : AllAt (IsWorkingThere (arc_value l.shared).config (piping l.fn.inner.items l.fn.middle l.fn.outer.items)) 0 l.made.items;
+  made : AllAt (IsWorkingThere (arc_value l.common.shared).config (piping l.fn.pipes.inner.items l.fn.pipes.middle l.fn.pipes.outer.items)) 0 l.made.items;
   count : (length l.made.items ≡ l.index) × (l.count ≤ vec_capacity l.made);
-  takers : IsRest (IsTakerThere l.fn.inner.items) l.index l.count l.takers;
-  asking : IsRest (IsNewEnd l.fn.middle) l.index l.count l.asking;
-  links : IsRest (IsBundleOf l.fn.outer.items) l.index (l.count + 2) l.links;
-  free : IsRest (IsLong l.producers) l.index (l.count + 1 + l.producers) l.free;
-  shares : HaveGone l.index l.initial.shares l.shares;
+  takers : IsRest (IsTakerThere l.fn.pipes.inner.items) l.index l.count l.takers;
+  asking : IsRest (IsNewEnd l.fn.pipes.middle) l.index l.count l.asking;
+  links : IsRest (IsBundleOf l.fn.pipes.outer.items) l.index (l.count + 2) l.remaining.links;
+  free : IsRest (IsLong l.producers) l.index (l.count + 1 + l.producers) l.remaining.free;
+  shares : HaveGone l.index l.initial.remaining.shares l.remaining.shares;
 }

@@ -5,4 +5,4 @@ use Rattle.wired_workers.proofs.OkLemmas.{of_ok}
 use Rattle.wired_workers.proofs.middle.slow_path_with.Goals as goal
 
 pub returns-clause-links : goal.returns-clause-links
-returns-clause-links g c = λ p shapes is. subst (λ xs. AreEndsOf p shapes (senders xs)) (sym c.slow_path_of.ensures.ends.1) (of_ok _ _ _ c.in_ok-ways.ensures.0 c.next_ways-ways.ensures.links p shapes is)
+returns-clause-links g c = λ p shapes is. subst (λ xs. AreEndsOf p shapes (senders xs)) (sym c.slow_path_of.ensures.ends.1) (of_ok _ _ _ c.in_ok-ways.ensures.0 c.ways_of-ways.ensures.links p shapes is)

@@ -1,29 +1,49 @@
-use Rattle.std.proofs.Common.{◌≡◌, ◌*◌, ◌≤◌, refl, sym, ◌∙◌, ap, subst, arith}
+use Rattle.std.proofs.Common.{◌≡◌, ◌+◌, ◌*◌, sym, ◌∙◌, ap, subst}
 use Rattle.std.specs.Arc.{arc_value}
 use Rattle.process_packet.specs.declared.config.Config.{Config}
-use Rattle.router_rules.specs.Links.{has_two_bands, link_count, link_index}
+use Rattle.router_rules.specs.Links.{link_count}
 use Rattle.router_rules.specs.declared.shared.Shared.{Shared}
-use Rattle.stage_parts.specs.Outlets.{is_used}
+use Rattle.router_run.specs.Closing.{Closing}
 use Rattle.router_run.specs.Run.{Run}
-use Rattle.router_run.proofs.ClosingLemmas.{controller_long, controller_used, no_link}
+use Rattle.router_run.proofs.ClosingLemmas.{controller_long, controller_used, crew_after}
+use Rattle.router_run.proofs.Finish.{crew_as, left_as, space_for, worker_slots_as}
 use Rattle.router_run.proofs.running.Running.close_link.Goals as goal
 
-pub returns-then-from-count-clause-closing : goal.returns-then-from-count-clause-closing
-returns-then-from-count-clause-closing g c =
-    let config = (arc_value c.self.inside.shared).config in
-    let id = c.args.link in
-    let first = c.deref.result.now in
-    let second = c.deref-2.result.now in
-    let number : c.number-number.result ≡ link_index config id = c.number-number.ensures first.config first.of ∙ ap (λ (s : Shared). link_index s.config id) c.deref.ensures in
-    let count : c.count.result ≡ link_count config = c.count.ensures second.config second.of ∙ ap (λ (s : Shared). link_count s.config) c.deref-2.ensures in
-    let none : link_count config ≤ link_index config id = let f = c.from.ensures in let t = c.if-from-count.true in omega arith in
-    let is : config ≡ c.args.self.now.config = ap (λ (r : Run _ _ _). r.config) c.self.view_is in
-    (subst (λ (k : Config). link_index k id ≡ link_count k) is (no_link config id none), refl)
+pub close-requires-clause-count : goal.close-requires-clause-count
+close-requires-clause-count g c = controller_long _ _ _ _ _ _ c.self.inside.controller.shutters.items c.self.invariant.1
 
-pub close_both-closed-requires-clause-count : goal.close_both-closed-requires-clause-count
-close_both-closed-requires-clause-count g c =
-    controller_long _ _ _ _ _ _ c.self.inside.shutters.items c.self.invariant.1 ∙ ap (λ (s : Shared). 2 * link_count s.config) (sym c.deref-3.ensures)
+pub close-requires-clause-used : goal.close-requires-clause-used
+close-requires-clause-used g c = λ j d lt. controller_used _ _ _ _ _ _ c.self.inside.controller.shutters.items c.self.invariant.1 j d lt
 
-pub close_both-closed-requires-clause-used : goal.close_both-closed-requires-clause-used
-close_both-closed-requires-clause-used g c =
-    λ j d lt. controller_used _ _ _ _ _ _ c.self.inside.shutters.items c.self.invariant.1 j d lt ∙ ap (λ (s : Shared). is_used (has_two_bands s.config) j) (sym c.deref-3.ensures)
+pub close-requires-clause-unended : goal.close-requires-clause-unended
+close-requires-clause-unended g c = c.self.invariant.1.unmarked
+
+pub invariant_of-self : goal.invariant_of-self
+invariant_of-self g c =
+    let old = c.self.inside in
+    let new = c.close.new.self in
+    let value : arc_value new.shared ≡ arc_value old.controller.shared = ap arc_value c.close.ensures.shared in
+    let same = ap (λ (s : Shared). s.config) value in (
+      c.self.invariant.0 ∙ ap (λ (k : Config). 2 * link_count k + k.processors + 1) (sym same),
+      crew_as _ _ _ _ same (crew_after _ _ _ _ _ _ old.controller.shutters.items new.shutters.items c.self.invariant.1 c.close.ensures.stay),
+      left_as _ _ old.pipes.inner.items old.pipes.inner_rooms.items (ap link_count same) c.self.invariant.2,
+      left_as _ _ old.pipes.outer.items old.pipes.outer_rooms.items (ap (λ (k : Config). k.processors + 2) same) c.self.invariant.3,
+      worker_slots_as _ _ _ same c.self.invariant.4,
+      space_for _ _ _ same c.self.invariant.5,
+    )
+
+pub returns-clause-closing : goal.returns-clause-closing
+returns-clause-closing g c = subst (λ (r : Run _ _ _). Closing r.config c.args.link c.close.result r.crew.shutters c.close.new.self.shutters.items) c.self.view_is c.close.ensures.closing
+
+pub returns-clause-same : goal.returns-clause-same
+returns-clause-same g c =
+    let value : arc_value c.close.new.self.shared ≡ arc_value c.self.inside.controller.shared = ap arc_value c.close.ensures.shared in
+    let is = c.self.view_is in
+    record {
+      config = ap (λ (s : Shared). s.config) value ∙ ap (λ (r : Run _ _ _). r.config) is;
+      pipes = ap (λ (r : Run _ _ _). r.pipes) is;
+      receivers = ap (λ (r : Run _ _ _). r.crew.receivers) is;
+      processors = ap (λ (r : Run _ _ _). r.crew.processors) is;
+      slow = ap (λ (r : Run _ _ _). r.crew.slow) is;
+      forwarders = ap (λ (r : Run _ _ _). r.crew.forwarders) is;
+    }

@@ -1,26 +1,73 @@
-use Rattle.std.proofs.Common.{◌+◌, ◌*◌, sym, ap, ◌∙◌}
-use Rattle.router_rules.specs.Links.{link_count}
-use Rattle.router_rules.specs.declared.shared.Shared.{Shared}
-use Rattle.router_run.proofs.Finish.{worker_slots_as, crew_as, left_as, run_as, space_for}
+use Rattle.std.proofs.Common.{length, sym, ◌∙◌, ap}
+use Rattle.router_laws.proofs.Returned.{runs_as_told}
+use Rattle.router_run.proofs.Finish.{has_run, inner_count, inner_ended, left_as, middle_ended, outer_count, outer_ended, run_as, settled, shares_count, the_slow}
+use Rattle.router_run.proofs.Parted.{own_size, own_space}
+use Rattle.router_run.proofs.Sized.{crew_forwarders, crew_processors, crew_slow, is_sized, mapped_fits}
 use Rattle.router_run.proofs.running.Running.finish.Goals as goal
 
-pub finish_all-requires-clause-workers : goal.finish_all-requires-clause-workers
-finish_all-requires-clause-workers g c = c.self.invariant.0 ∙ ap (λ (s : Shared). 2 * link_count s.config + s.config.processors + 1) (sym c.deref.ensures)
+pub join_workers-joined-requires-clause-receivers : goal.join_workers-joined-requires-clause-receivers
+join_workers-joined-requires-clause-receivers g c = mapped_fits _ _ _ _ c.self.invariant.1.receiver_count c.self.invariant.4.receivers_fit
 
-pub finish_all-requires-clause-crew : goal.finish_all-requires-clause-crew
-finish_all-requires-clause-crew g c = crew_as _ _ _ _ (ap (λ (s : Shared). s.config) c.deref.ensures) c.self.invariant.1
+pub join_workers-joined-requires-clause-processors : goal.join_workers-joined-requires-clause-processors
+join_workers-joined-requires-clause-processors g c = mapped_fits _ _ _ _ (crew_processors _ _ _ c.self.invariant.1) c.self.invariant.4.processors_fit
 
-pub finish_all-requires-clause-rooms : goal.finish_all-requires-clause-rooms
-finish_all-requires-clause-rooms g c = (
-  left_as _ _ c.self.inside.pipes.inner.items c.self.inside.pipes.inner_rooms.items (ap (λ (s : Shared). link_count s.config) c.deref.ensures) c.self.invariant.2,
-  left_as _ _ c.self.inside.pipes.outer.items c.self.inside.pipes.outer_rooms.items (ap (λ (s : Shared). s.config.processors + 2) c.deref.ensures) c.self.invariant.3,
-)
+pub join_workers-joined-requires-clause-slow : goal.join_workers-joined-requires-clause-slow
+join_workers-joined-requires-clause-slow g c = mapped_fits _ _ _ _ (crew_slow _ _ _ c.self.invariant.1) c.self.invariant.4.slow_fits
 
-pub finish_all-requires-clause-worker_slots : goal.finish_all-requires-clause-worker_slots
-finish_all-requires-clause-worker_slots g c = worker_slots_as _ _ _ (ap (λ (s : Shared). s.config) c.deref.ensures) c.self.invariant.4
+pub join_workers-joined-requires-clause-forwarders : goal.join_workers-joined-requires-clause-forwarders
+join_workers-joined-requires-clause-forwarders g c = mapped_fits _ _ _ _ (crew_forwarders _ _ _ c.self.invariant.1) c.self.invariant.4.forwarders_fit
 
-pub finish_all-requires-clause-space : goal.finish_all-requires-clause-space
-finish_all-requires-clause-space g c = space_for _ _ _ (ap (λ (s : Shared). s.config) c.deref.ensures) c.self.invariant.5
+pub join_workers-joined-requires-clause-unmarked : goal.join_workers-joined-requires-clause-unmarked
+join_workers-joined-requires-clause-unmarked g c = c.self.invariant.1.unmarked
+
+pub part_all-ends-requires-clause-sized : goal.part_all-ends-requires-clause-sized
+part_all-ends-requires-clause-sized g c = own_size _ _ _ (is_sized _ _ _ _ c.self.invariant.1 c.join_workers-joined.ensures)
+
+pub part_all-ends-requires-clause-space : goal.part_all-ends-requires-clause-space
+part_all-ends-requires-clause-space g c = own_space _ _ _ _ (is_sized _ _ _ _ c.self.invariant.1 c.join_workers-joined.ensures) c.self.invariant.5
+
+pub gather_pipes-requires-clause-inner : goal.gather_pipes-requires-clause-inner
+gather_pipes-requires-clause-inner g c =
+    let back = c.join_workers-joined.ensures in
+    let sized = is_sized _ _ _ _ c.self.invariant.1 back in
+    let parted = c.part_all-ends.ensures.ends in
+    let ends = c.crews_end.ensures.law _ _ _ _ c.self.invariant.1 back c.part_all-ends.ensures.marks in (
+      inner_ended _ _ _ _ _ _ _ parted _ ends,
+      left_as _ _ c.self.inside.pipes.inner.items c.self.inside.pipes.inner_rooms.items (inner_count _ _ _ _ _ _ _ parted _ _ sized) c.self.invariant.2,
+    )
+
+pub gather_pipes-requires-clause-middle : goal.gather_pipes-requires-clause-middle
+gather_pipes-requires-clause-middle g c =
+    let back = c.join_workers-joined.ensures in
+    let sized = is_sized _ _ _ _ c.self.invariant.1 back in
+    let slow = the_slow _ _ _ sized in
+    let ends = c.crews_end.ensures.law _ _ _ _ c.self.invariant.1 back c.part_all-ends.ensures.marks in
+    middle_ended _ _ _ _ _ _ _ c.part_all-ends.ensures.ends _ slow.0 slow.1 ends
+
+pub gather_pipes-requires-clause-outer : goal.gather_pipes-requires-clause-outer
+gather_pipes-requires-clause-outer g c =
+    let back = c.join_workers-joined.ensures in
+    let sized = is_sized _ _ _ _ c.self.invariant.1 back in
+    let parted = c.part_all-ends.ensures.ends in
+    let ends = c.crews_end.ensures.law _ _ _ _ c.self.invariant.1 back c.part_all-ends.ensures.marks in (
+      outer_ended _ _ _ _ _ _ _ parted _ ends,
+      left_as _ _ c.self.inside.pipes.outer.items c.self.inside.pipes.outer_rooms.items (outer_count _ _ _ _ _ _ _ parted _ _ sized) c.self.invariant.3,
+    )
+
+pub report_of-requires : goal.report_of-requires
+report_of-requires g c =
+    let sized = is_sized _ _ _ _ c.self.invariant.1 c.join_workers-joined.ensures in
+    ap length c.part_all-ends.ensures.shares ∙ (shares_count _ _ _ sized ∙ sym c.self.invariant.0)
 
 pub returns : goal.returns
-returns g c = run_as g.S.Source.told g.K.Sink.told g.K.Sink.failed _ _ _ _ _ _ _ _ _ (ap (λ (s : Shared). s.config) c.deref.ensures) c.self.view_is c.finish_all.ensures
+returns g c =
+    let back = c.join_workers-joined.ensures in
+    let sized = is_sized _ _ _ _ c.self.invariant.1 back in
+    let slow = the_slow _ _ _ sized in
+    let parted = c.part_all-ends.ensures in
+    let report = c.report_of.ensures in
+    let gathered = c.gather_pipes.ensures in
+    let set = settled _ _ _ _ _ _ _ parted.ends _ slow.0 slow.1 gathered.inner gathered.middle gathered.outer in
+    run_as g.S.Source.told g.K.Sink.told g.K.Sink.failed _ _ _ _ _ _ c.self.view_is
+    (has_run g.S.Source.told g.K.Sink.told g.K.Sink.failed (runs_as_told c.rules_are_lawful.ensures c.links_stand_in_order.ensures c.causes_are_apart.ensures) c.crews_return.ensures.law
+    _ _ slow.0 _ _ _ _ _ c.self.invariant.1 back parted.kept set slow.1 parted.shares report.totals (report.sent ∙ parted.sent) (report.sources ∙ parted.sources) (report.sinks ∙ parted.sinks))
