@@ -208,7 +208,8 @@ pub fn work_on<N: Ledger, W: Work<N>, R: Wait + Clock>(rt: &R, orders: &Orders<N
     let mut worker = worker;
     let mut pace = Pace::new();
     for _ in rt.forever() {
-        if advance(rt, &mut worker, orders, &mut pace) {
+        let has_ended = advance(rt, &mut worker, orders, &mut pace);
+        if has_ended {
             return worker;
         }
     }

@@ -1,6 +1,9 @@
-use Rattle.std.proofs.Common.{◌≡◌, Some, None, rules}
+use Rattle.std.proofs.Common.{◌≡◌, ℕ, List, ◌++◌, Option, Some, None, ap, refl, rules, subst, sym, ◌∙◌}
+use Rattle.router_lines.specs.Closing.{closing_text}
 use Rattle.router_lines.specs.Command.{command_of}
+use Rattle.router_lines.specs.declared.command.Command.{Command}
 use Rattle.router_lines.specs.declared.command.Command.TheVariants as command
+use Rattle.run_engine.specs.Run.{Obeys}
 use Rattle.run_engine.proofs.RunLemmas.{closed_unwritten, no_command_unwritten}
 use Rattle.run_engine.proofs.run.obey.Goals as goal
 
@@ -15,7 +18,12 @@ returns-in-Err-push_no_command g c =
     no_command_unwritten g.C.Control.closes (command_of c.args.line.now) c.args.router.now is
 
 pub returns-in-Ok : goal.returns-in-Ok
-returns-in-Ok g c = search rules
+returns-in-Ok g c =
+    let is : command_of c.args.line.now ≡ Some (command.Close c.in-Some-Close.link) = search rules in
+    let P : Option Command → Type 0 = λ told. Obeys g.C.Control.closes told c.args.router.now c.push_closing.new.text.items c.close_link-closing.new.self in
+    let written : c.push_closing.new.text.items ≡ closing_text c.close_link-closing.result c.in-Some-Close.link =
+    subst (λ (text : List ℕ). c.push_closing.new.text.items ≡ text ++ closing_text c.close_link-closing.result c.in-Some-Close.link) c.clear.ensures.items c.in-Ok.ensures in
+    subst P (sym is) (c.close_link-closing.result, c.close_link-closing.ensures, written)
 
 pub returns-in-Some-End : goal.returns-in-Some-End
-returns-in-Some-End g c = search rules
+returns-in-Some-End g c = (sym c.read_command.ensures ∙ c.in-Some-End.is ∙ ap Some c.in-Some-End.field-0-is, refl)
