@@ -6,11 +6,13 @@
 //! each its first link is used. The hop fields are made with the ASes' keys as beacons make them.
 #![tactic(auto)]
 
+ghost use Rattle.std.specs.Prelude.{◌≡◌, length};
+
 mod message;
 mod packet;
 
 use crate::message::{Reply, SCMP, UDP, reply_of, request};
-use crate::packet::{Asked, End, Place, Segment, datagram, segment_over};
+use crate::packet::{Asked, End, Place, Way, datagram, segment_over};
 use process_packet::{Config, Ip, Underlay};
 use router_config::{read_config, read_underlay};
 use std::alloc::Global;
@@ -82,17 +84,6 @@ fn socket_at<R: Net>(rt: &R, host: ([u8; 4], u16)) -> io::Result<UdpSocket> {
     Ok(socket)
 }
 
-/// The sockets of two hosts.
-fn sockets_at<R: Net>(
-    rt: &R,
-    near: ([u8; 4], u16),
-    far: ([u8; 4], u16),
-) -> io::Result<(UdpSocket, UdpSocket)> {
-    let near = socket_at(rt, near)?;
-    let far = socket_at(rt, far)?;
-    Ok((near, far))
-}
-
 /// A host of a router's AS.
 fn place_of(router: &Router, host: [u8; 4]) -> Place {
     Place {
@@ -135,17 +126,13 @@ struct Routers {
 }
 
 /// The routers of four configurations.
-fn routers_at<R: Files + AllocGlobal>(
-    rt: &R,
-    first: &str,
-    entering: &str,
-    leaving: &str,
-    last: &str,
-) -> io::Result<Routers> {
-    let first = router_at(rt, first)?;
-    let entering = router_at(rt, entering)?;
-    let leaving = router_at(rt, leaving)?;
-    let last = router_at(rt, last)?;
+fn routers_at<R: Files + AllocGlobal>(rt: &R, configs: &[String]) -> io::Result<Routers>
+    requires { length configs.now ≡ 4 }
+{
+    let first = router_at(rt, configs[0].as_str())?;
+    let entering = router_at(rt, configs[1].as_str())?;
+    let leaving = router_at(rt, configs[2].as_str())?;
+    let last = router_at(rt, configs[3].as_str())?;
     Ok(Routers {
         first,
         entering,
@@ -154,27 +141,40 @@ fn routers_at<R: Files + AllocGlobal>(
     })
 }
 
-/// The places of the two hosts, the way into the network, and the segments between them.
+/// The way between two hosts, and where it enters the network.
 #[derive(Clone, Copy)]
 struct Plan {
-    from: Place,
-    to: Place,
+    way: Way,
     entry: SocketAddr,
-    up: Segment,
-    down: Segment,
 }
 
-/// The path over these routers, beaconed now, between two hosts.
-fn plan_of(routers: &Routers, from: [u8; 4], to: [u8; 4], now: u32) -> io::Result<Plan> {
-    let entry = entry_of(&routers.first)?;
+/// The way over these routers, beaconed now, between two hosts.
+fn way_of(routers: &Routers, from: [u8; 4], to: [u8; 4], now: u32) -> Way {
     let (entering, first) = (end_of(&routers.entering), end_of(&routers.first));
     let (leaving, last) = (end_of(&routers.leaving), end_of(&routers.last));
-    Ok(Plan {
+    Way {
         from: place_of(&routers.first, from),
         to: place_of(&routers.last, to),
-        entry,
         up: segment_over(entering, first, 0x1234, now),
         down: segment_over(leaving, last, 0x5678, now),
+    }
+}
+
+/// The plan for two hosts over the routers of these configurations.
+fn plan_of<R: Files + Clock + AllocGlobal>(
+    rt: &R,
+    configs: &[String],
+    from: [u8; 4],
+    to: [u8; 4],
+) -> io::Result<Plan>
+    requires { length configs.now ≡ 4 }
+{
+    let now = minute(rt)?;
+    let routers = routers_at(rt, configs)?;
+    let entry = entry_of(&routers.first)?;
+    Ok(Plan {
+        way: way_of(&routers, from, to, now),
+        entry,
     })
 }
 
@@ -188,20 +188,14 @@ struct Probe {
 
 /// The probe that the words ask for.
 fn probe_of<R: Files + Net + Clock + AllocGlobal>(rt: &R, words: &[String]) -> io::Result<Probe> {
-    let [from, to, first, entering, leaving, last] = words else {
+    if words.len() != 6 {
         return Err(refused("FROM TO FIRST CORE CORE LAST"));
-    };
-    let (near, far) = (host_at(from.as_str())?, host_at(to.as_str())?);
-    let now = minute(rt)?;
-    let routers = routers_at(
-        rt,
-        first.as_str(),
-        entering.as_str(),
-        leaving.as_str(),
-        last.as_str(),
-    )?;
-    let plan = plan_of(&routers, near.0, far.0, now)?;
-    let (near, far) = sockets_at(rt, near, far)?;
+    }
+    let near = host_at(words[0].as_str())?;
+    let far = host_at(words[1].as_str())?;
+    let plan = plan_of(rt, &words[2..], near.0, far.0)?;
+    let near = socket_at(rt, near)?;
+    let far = socket_at(rt, far)?;
     Ok(Probe { plan, near, far })
 }
 
@@ -220,14 +214,7 @@ fn print_reply<R: Print>(rt: &R, sequence: u8, reply: Reply, micros: u128) -> io
 impl Probe {
     /// Sends a datagram into the network.
     fn send(&self, alloc: Global, asked: Asked, protocol: u8, payload: &[u8]) -> io::Result<()> {
-        let bytes = datagram(
-            alloc,
-            (&self.plan.from, &self.plan.to),
-            (&self.plan.up, &self.plan.down),
-            asked,
-            protocol,
-            payload,
-        )?;
+        let bytes = datagram(alloc, &self.plan.way, asked, protocol, payload)?;
         self.near.send_to(bytes.as_slice(), self.plan.entry)?;
         Ok(())
     }
@@ -277,11 +264,7 @@ impl Probe {
 
 /// The words after the program's name.
 fn words_of<R: Env + AllocGlobal>(rt: &R) -> io::Result<Vec<String>> {
-    let mut words = Vec::new(rt.alloc());
-    for word in env::args(rt)?.skip(1) {
-        words.push(word)?;
-    }
-    Ok(words)
+    Ok(env::args(rt)?.skip(1).collect(rt.alloc())?)
 }
 
 /// Tries the path that these words ask for.

@@ -5,15 +5,13 @@ pub const UDP: u8 = 17;
 
 pub const SCMP: u8 = 202;
 
-/// The number in a run of bytes from an offset on, if all of them are there.
-pub fn number_at(bytes: &[u8], at: usize, len: usize) -> Option<u64> {
-    let rest = bytes.get(at..)?;
-    let digits = rest.get(..len)?;
+/// The number that bytes write, the highest first.
+fn number_of(bytes: &[u8]) -> u64 {
     let mut number = 0u64;
-    for byte in digits {
+    for byte in bytes {
         number = number.wrapping_mul(256).wrapping_add(u64::from(*byte));
     }
-    Some(number)
+    number
 }
 
 /// A traceroute request with a sequence number. Routers don't look at its checksum.
@@ -26,9 +24,8 @@ pub fn request(sequence: u8) -> [u8; 24] {
 }
 
 /// What a router tells of itself.
-#[derive(Clone, Copy, PartialEq, Eq)]
+#[derive(Clone, Copy)]
 pub struct Reply {
-    pub sequence: u64,
     pub isd: u64,
     pub autonomous_system: u64,
     pub interface: u64,
@@ -37,14 +34,13 @@ pub struct Reply {
 /// The reply that a datagram carries, if it carries one: an SCMP message of type 131 after the header.
 pub fn reply_of(datagram: &[u8]) -> Option<Reply> {
     let words = *datagram.get(5)?;
-    let message = datagram.get(4 * usize::from(words)..)?;
-    if *datagram.get(4)? != SCMP || *message.first()? != 131 {
+    let rest = datagram.get(4 * usize::from(words)..)?;
+    if datagram[4] != SCMP || rest.len() < 24 || rest[0] != 131 {
         return None;
     }
     Some(Reply {
-        sequence: number_at(message, 6, 2)?,
-        isd: number_at(message, 8, 2)?,
-        autonomous_system: number_at(message, 10, 6)?,
-        interface: number_at(message, 16, 8)?,
+        isd: number_of(&rest[8..10]),
+        autonomous_system: number_of(&rest[10..16]),
+        interface: number_of(&rest[16..24]),
     })
 }

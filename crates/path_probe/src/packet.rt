@@ -71,6 +71,15 @@ pub fn segment_over(core: End<'_>, other: End<'_>, at_core: u16, timestamp: u32)
     }
 }
 
+/// The way of packets between two hosts: up from the first AS to the core AS, and down to the last.
+#[derive(Clone, Copy)]
+pub struct Way {
+    pub from: Place,
+    pub to: Place,
+    pub up: Segment,
+    pub down: Segment,
+}
+
 /// What the routers are asked: to carry the packet, or the router of a hop's interface for an answer.
 #[derive(Clone, Copy, PartialEq, Eq)]
 pub enum Asked {
@@ -97,17 +106,17 @@ fn info_of(along: bool, segment_id: u16, timestamp: u32) -> Info {
 }
 
 /// The path up the one segment and down the other.
-fn path_of(up: &Segment, down: &Segment, asked: Asked) -> Path {
+fn path_of(way: &Way, asked: Asked) -> Path {
     let mut infos = ArrayVec::new();
-    infos.push(info_of(false, up.at_other, up.timestamp));
-    infos.push(info_of(true, down.at_core, down.timestamp));
-    let mut first = up.hops[1];
+    infos.push(info_of(false, way.up.at_other, way.up.timestamp));
+    infos.push(info_of(true, way.down.at_core, way.down.timestamp));
+    let mut first = way.up.hops[1];
     first.ingress_alert = asked == Asked::Leaving;
-    let mut core_up = up.hops[0];
+    let mut core_up = way.up.hops[0];
     core_up.egress_alert = asked == Asked::EnteringCore;
-    let mut core_down = down.hops[0];
+    let mut core_down = way.down.hops[0];
     core_down.egress_alert = asked == Asked::LeavingCore;
-    let mut last = down.hops[1];
+    let mut last = way.down.hops[1];
     last.ingress_alert = asked == Asked::Entering;
     let mut hops = ArrayVec::new();
     hops.push(first);
@@ -125,23 +134,21 @@ fn path_of(up: &Segment, down: &Segment, asked: Asked) -> Path {
 }
 
 /// The address of an IPv4 host.
-fn address_of(isd: u16, autonomous_system: u64, host: [u8; 4]) -> Address
-    requires { autonomous_system < 2 ^ 48 }
-    ensures { result.host ≡ Host.Four host }
+fn address_of(place: Place) -> Address
+    ensures { result.host ≡ Host.Four place.host }
 {
     Address {
-        isd,
-        autonomous_system,
+        isd: place.isd,
+        autonomous_system: place.autonomous_system,
         kind: 0,
-        host: Host::Four(host),
+        host: Host::Four(place.host),
     }
 }
 
-/// A datagram from one host to another over the segments, with this payload of a protocol.
+/// A datagram from the one host to the other, with this payload of a protocol.
 pub fn datagram(
     alloc: Global,
-    (from, to): (&Place, &Place),
-    (up, down): (&Segment, &Segment),
+    way: &Way,
     asked: Asked,
     protocol: u8,
     payload: &[u8],
@@ -153,10 +160,10 @@ pub fn datagram(
         header_length: 26,
         payload_length: payload.len().min(1000) as u16,
         reserved: 0,
-        destination: address_of(to.isd, to.autonomous_system, to.host),
-        source: address_of(from.isd, from.autonomous_system, from.host),
+        destination: address_of(way.to),
+        source: address_of(way.from),
     };
-    let path = path_of(up, down, asked);
+    let path = path_of(way, asked);
     let mut bytes = vec![in alloc; 0; PAYLOAD_AT]?;
     let (front, rest) = bytes.as_mut_slice().split_at_mut(PATH_AT);
     let _ = write_header(&header, front);
