@@ -69,102 +69,133 @@ fn is_answered(
     }
 }
 
-#[test]
-fn answers_by_the_way_back(rt: HostRuntime) {
-    let config = read_config(rt.alloc(), CONFIGURATION).expect(&rt, "configuration");
+/// The first datagram with another MAC.
+fn with_other_mac() -> [u8; 92] {
+    with_bytes(FIRST, MAC_AT, &OTHER_MAC)
+}
+
+fn answers_an_expired_hop(config: &Config) -> bool {
+    is_answered(
+        config,
+        1,
+        &with_other_mac(),
+        &EXPIRED,
+        100,
+        b"\x04\x34\xe2\xbd\x00\x00\x00\x3c",
+    )
+}
+
+fn answers_a_wrong_payload_length(config: &Config) -> bool {
+    let datagram = with_bytes(with_other_mac(), 7, &[9]);
+    is_answered(
+        config,
+        1,
+        &datagram,
+        &PAYLOAD_LENGTH,
+        100,
+        b"\x04\x13\xe3\x19\x00\x00\x00\x00",
+    )
+}
+
+fn answers_a_cut_datagram(config: &Config) -> bool {
     let datagram = with_bytes(FIRST, MAC_AT, &OTHER_MAC);
-    assert!(rt;
-        is_answered(
-            &config,
-            1,
-            &datagram,
-            &EXPIRED,
-            100,
-            b"\x04\x34\xe2\xbd\x00\x00\x00\x3c"
-        ),
-        "an expired hop"
-    );
-    assert!(rt;
-        is_answered(
-            &config,
-            1,
-            &with_bytes(datagram, 7, &[9]),
-            &PAYLOAD_LENGTH,
-            100,
-            b"\x04\x13\xe3\x19\x00\x00\x00\x00"
-        ),
-        "a wrong payload length"
-    );
-    assert!(rt;
-        is_answered(
-            &config,
-            1,
-            &datagram[..PAYLOAD_AT],
-            &PAYLOAD_LENGTH,
-            92,
-            b"\x04\x13\xcd\xdd\x00\x00\x00\x00"
-        ),
-        "a cut datagram"
-    );
+    is_answered(
+        config,
+        1,
+        &datagram[..PAYLOAD_AT],
+        &PAYLOAD_LENGTH,
+        92,
+        b"\x04\x13\xcd\xdd\x00\x00\x00\x00",
+    )
+}
+
+fn answers_by_another_link(config: &Config) -> bool {
     let problem = Problem {
         kind: 4,
         code: 49,
         pointer: 60,
     };
-    assert!(rt;
-        is_answered(
-            &config,
-            2,
-            &datagram,
-            &problem,
-            100,
-            b"\x04\x31\xe2\xc0\x00\x00\x00\x3c"
-        ),
-        "by another link"
-    );
+    is_answered(
+        config,
+        2,
+        &with_other_mac(),
+        &problem,
+        100,
+        b"\x04\x31\xe2\xc0\x00\x00\x00\x3c",
+    )
+}
+
+fn answers_for_no_service(config: &Config) -> bool {
     let problem = Problem {
         kind: 1,
         code: 0,
         pointer: 7,
     };
+    is_answered(
+        config,
+        1,
+        &with_other_mac(),
+        &problem,
+        100,
+        b"\x01\x00\xe6\x2d\x00\x00\x00\x00",
+    )
+}
+
+#[test]
+fn answers_by_the_way_back(rt: HostRuntime) {
+    let config = read_config(rt.alloc(), CONFIGURATION).expect(&rt, "configuration");
+    assert!(rt; answers_an_expired_hop(&config), "an expired hop");
     assert!(rt;
-        is_answered(
-            &config,
-            1,
-            &datagram,
-            &problem,
-            100,
-            b"\x01\x00\xe6\x2d\x00\x00\x00\x00"
-        ),
+        answers_a_wrong_payload_length(&config),
+        "a wrong payload length"
+    );
+    assert!(rt; answers_a_cut_datagram(&config), "a cut datagram");
+    assert!(rt; answers_by_another_link(&config), "by another link");
+    assert!(rt;
+        answers_for_no_service(&config),
         "no such service: the pointer is not told"
     );
     drop(config);
 }
 
+/// The first datagram, with an extension header.
+fn extended() -> [u8; 92] {
+    with_bytes(with_other_mac(), 4, &[0xc8])
+}
+
+fn answers_an_informational_message(config: &Config) -> bool {
+    let datagram = with_bytes(extended(), PAYLOAD_AT, b"\xca\x00\x00\x00\x80\x00");
+    is_answered(
+        config,
+        1,
+        &datagram,
+        &EXPIRED,
+        100,
+        b"\x04\x34\xcc\x76\x00\x00\x00\x3c",
+    )
+}
+
+fn answers_behind_two_extensions(config: &Config) -> bool {
+    let datagram = with_bytes(extended(), PAYLOAD_AT, b"\xc8\x00\x00\x00\x04\x33");
+    is_answered(
+        config,
+        1,
+        &datagram,
+        &EXPIRED,
+        100,
+        b"\x04\x34\x4a\x44\x00\x00\x00\x3c",
+    )
+}
+
 #[test]
 fn answers_what_is_no_error_message(rt: HostRuntime) {
     let config = read_config(rt.alloc(), CONFIGURATION).expect(&rt, "configuration");
-    let extended = with_bytes(with_bytes(FIRST, MAC_AT, &OTHER_MAC), 4, &[0xc8]);
     assert!(rt;
-        is_answered(
-            &config,
-            1,
-            &with_bytes(extended, PAYLOAD_AT, b"\xca\x00\x00\x00\x80\x00"),
-            &EXPIRED,
-            100,
-            b"\x04\x34\xcc\x76\x00\x00\x00\x3c"
-        ),
+        answers_an_informational_message(&config),
         "an informational SCMP message"
     );
     assert!(rt;
-        is_answered(
-            &config,
-            1,
-            &with_bytes(extended, PAYLOAD_AT, b"\xc8\x00\x00\x00\x04\x33"),
-            &EXPIRED,
-            100,
-            b"\x04\x34\x4a\x44\x00\x00\x00\x3c"
-        ),
+        answers_behind_two_extensions(&config),
         "two hop-by-hop extensions"
     );
     drop(config);
@@ -231,35 +262,43 @@ fn is_dropped(config: &Config, bytes: &[u8], problem: &Problem, cause: Cause) ->
     answer_into(config, 1, NEIGHBOUR, bytes, problem, &mut out) == AnswerLen::Drop(cause)
 }
 
+/// An SCMP message of this type and code.
+fn scmp(message: [u8; 2]) -> [u8; 92] {
+    with_bytes(with_bytes(FIRST, 4, &[202]), PAYLOAD_AT, &message)
+}
+
+fn drops_a_cut_message(config: &Config) -> bool {
+    let error = with_bytes(with_bytes(FIRST, 4, &[202]), PAYLOAD_AT, &[4, 0]);
+    is_dropped(config, &error[..PAYLOAD_AT], &EXPIRED, Cause::NoAnswer)
+}
+
+fn drops_one_behind_an_extension(config: &Config) -> bool {
+    let extended = with_bytes(with_bytes(FIRST, 4, &[200]), PAYLOAD_AT, &[202, 0]);
+    is_dropped(config, &extended[..89], &EXPIRED, Cause::NoAnswer)
+}
+
+fn drops_a_cut_extension(config: &Config) -> bool {
+    let options = with_bytes(with_bytes(FIRST, 4, &[201]), PAYLOAD_AT, &[17, 2]);
+    is_dropped(config, &options, &EXPIRED, Cause::NoAnswer)
+}
+
 #[test]
 fn drops_what_may_be_an_error_message(rt: HostRuntime) {
     let config = read_config(rt.alloc(), CONFIGURATION).expect(&rt, "configuration");
-    let scmp = with_bytes(FIRST, 4, &[202]);
-    let error = with_bytes(scmp, PAYLOAD_AT, &[4, 0]);
     assert!(rt;
-        is_dropped(&config, &error, &EXPIRED, Cause::NoAnswer),
+        is_dropped(&config, &scmp([4, 0]), &EXPIRED, Cause::NoAnswer),
         "an error message"
     );
-    let last = with_bytes(scmp, PAYLOAD_AT, &[127, 0]);
     assert!(rt;
-        is_dropped(&config, &last, &EXPIRED, Cause::NoAnswer),
+        is_dropped(&config, &scmp([127, 0]), &EXPIRED, Cause::NoAnswer),
         "the last type of one"
     );
-    let cut = &error[..PAYLOAD_AT];
+    assert!(rt; drops_a_cut_message(&config), "a cut message");
     assert!(rt;
-        is_dropped(&config, cut, &EXPIRED, Cause::NoAnswer),
-        "a cut message"
-    );
-    let extended = with_bytes(with_bytes(FIRST, 4, &[200]), PAYLOAD_AT, &[202, 0]);
-    assert!(rt;
-        is_dropped(&config, &extended[..89], &EXPIRED, Cause::NoAnswer),
+        drops_one_behind_an_extension(&config),
         "behind an extension"
     );
-    let options = with_bytes(with_bytes(FIRST, 4, &[201]), PAYLOAD_AT, &[17, 2]);
-    assert!(rt;
-        is_dropped(&config, &options, &EXPIRED, Cause::NoAnswer),
-        "a cut extension"
-    );
+    assert!(rt; drops_a_cut_extension(&config), "a cut extension");
     drop(config);
 }
 

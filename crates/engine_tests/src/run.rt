@@ -71,27 +71,25 @@ fn told(alloc: Global, input: &[u8]) -> Result<Vec<u8>, AllocError> {
     }
 }
 
+/// Whether what is written for an input begins so.
+fn begins(alloc: Global, input: &[u8], wanted: &[u8]) -> Result<bool, AllocError> {
+    let text = told(alloc, input)?;
+    Ok(text.as_slice().starts_with(wanted))
+}
+
 #[test]
 fn commands_are_answered(rt: HostRuntime) {
     let alloc = rt.alloc();
     assert!(rt; told(alloc, INPUT).expect(&rt, "memory").as_slice() == OUTPUT);
-    let at_once = told(alloc, b"").expect(&rt, "memory");
-    assert!(rt;
-        at_once
-            .as_slice()
-            .starts_with(b"ready\nlink 0 sent 7\n".as_slice())
+    assert!(rt; begins(alloc, b"", b"ready\nlink 0 sent 7\n").expect(&rt, "memory"));
+    let cut = begins(alloc, b"close 1", b"ready\nclosed 1\nlink 0 sent 7\n");
+    assert!(rt; cut.expect(&rt, "memory"));
+    let no_text = begins(
+        alloc,
+        b"close \xff1\n",
+        b"ready\nno command\nlink 0 sent 7\n",
     );
-    let cut = told(alloc, b"close 1").expect(&rt, "memory");
-    assert!(rt;
-        cut.as_slice()
-            .starts_with(b"ready\nclosed 1\nlink 0 sent 7\n".as_slice())
-    );
-    let no_text = told(alloc, b"close \xff1\n").expect(&rt, "memory");
-    assert!(rt;
-        no_text
-            .as_slice()
-            .starts_with(b"ready\nno command\nlink 0 sent 7\n".as_slice())
-    );
+    assert!(rt; no_text.expect(&rt, "memory"));
 }
 
 /// Gives and takes one byte a call, and fails at one of its calls.

@@ -36,6 +36,10 @@ impl CuedSource {
     }
 }
 
+fn datagram_at(cue: &Cue) -> [u8; 92] {
+    if cue.is_urgent() { urgent() } else { FIRST }
+}
+
 impl Source for CuedSource {
     ghost told = { λ s. None };
 
@@ -54,8 +58,7 @@ impl Source for CuedSource {
             return NextLen::Quiet;
         }
         self.given = self.given.wrapping_add(1);
-        let datagram = if cue.is_urgent() { urgent() } else { FIRST };
-        give(&datagram, buffer)
+        give(&datagram_at(cue), buffer)
     }
 
     fn wait(&mut self) -> bool {
@@ -93,50 +96,73 @@ impl Gate for CuedGate {
     }
 }
 
+// The numbers of packets in order, up to eight, and 0 in the places after them.
+#[derive(Drop)]
+struct Numbers {
+    numbers: [u64; 8],
+    count: usize,
+}
+
+impl Numbers {
+    // Which packet it is, from 0 on, if there was room to note it.
+    fn note(&mut self, number: u64) -> Option<usize> {
+        let at = self.count;
+        if at >= 8 {
+            return None;
+        }
+        self.numbers[at] = number;
+        self.count = at + 1;
+        Some(at)
+    }
+}
+
 /// Keeps the numbers of the packets that it is handed, up to eight, and holds the first of them until a
 /// little after the controller has come to stage 1.
 #[derive(Drop)]
 pub struct CuedSink<R: Clock + Drop> {
     rt: R,
     words: Arc<Words, Global>,
-    numbers: [u64; 8],
-    count: usize,
+    taken: Numbers,
     failed: u64,
+}
+
+// Whether the first packet was released.
+fn is_released<R: Clock>(rt: &R, words: &Words) -> bool {
+    let released = comes(rt, &words.stage, 1);
+    thread::sleep(rt, Duration::from_millis(20));
+    released
 }
 
 impl<R: Clock + Drop> CuedSink<R> {
     pub fn new(rt: R, words: Arc<Words, Global>) -> CuedSink<R> {
+        let taken = Numbers {
+            numbers: [0; 8],
+            count: 0,
+        };
         CuedSink {
             rt,
             words,
-            numbers: [0; 8],
-            count: 0,
+            taken,
             failed: 0,
         }
     }
 
     /// The numbers of the packets in order, and 0 in the places after them.
     pub fn numbers(&self) -> [u64; 8] {
-        self.numbers
+        self.taken.numbers
     }
 
     // Whether there was room to note the packet, and it was released.
     fn takes(&mut self, number: u64) -> bool
         ensures { self.new.failed ≡ self.old.failed }
     {
-        let at = self.count;
-        if at >= 8 {
+        let Some(at) = self.taken.note(number) else {
             return false;
-        }
-        self.numbers[at] = number;
-        self.count = at + 1;
-        self.words.handed.store(self.count as u64, Ordering::SeqCst);
-        if at > 0 {
-            return true;
-        }
-        let released = comes(&self.rt, &self.words.stage, 1);
-        thread::sleep(&self.rt, Duration::from_millis(20));
-        released
+        };
+        self.words
+            .handed
+            .store(self.taken.count as u64, Ordering::SeqCst);
+        at > 0 || is_released(&self.rt, &self.words)
     }
 }
 

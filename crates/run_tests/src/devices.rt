@@ -14,7 +14,8 @@ use std::alloc::Global;
 use std::sync::Arc;
 use std::sync::atomic::Ordering;
 
-/// Gives the first datagram so often, each once the sink was handed the one before, and then ends.
+/// Gives the first datagram so often, each once the sink was handed the one before, and then ends; or fails whenever
+/// it is asked.
 #[derive(Drop)]
 pub struct Paced {
     words: Arc<Words, Global>,
@@ -22,6 +23,8 @@ pub struct Paced {
     given: u64,
     // Whether it was ever asked.
     asked: bool,
+    fails: bool,
+    failed: u64,
 }
 
 impl Paced {
@@ -31,6 +34,20 @@ impl Paced {
             count,
             given: 0,
             asked: false,
+            fails: false,
+            failed: 0,
+        }
+    }
+
+    /// One that fails.
+    pub fn failing(words: Arc<Words, Global>) -> Paced {
+        Paced {
+            words,
+            count: 0,
+            given: 0,
+            asked: false,
+            fails: true,
+            failed: 0,
         }
     }
 
@@ -42,12 +59,16 @@ impl Paced {
 impl Source for Paced {
     ghost told = { λ s. None };
 
-    ghost failed = { λ s. 0 };
+    ghost failed = { λ s. s.failed };
 
     ghost waits = { λ s said. said ≡ false };
 
     fn next_into(&mut self, buffer: &mut [u8]) -> NextLen {
         self.asked = true;
+        if self.fails {
+            self.failed += 1;
+            return NextLen::Failed;
+        }
         if self.given >= self.count {
             return NextLen::End;
         }
@@ -63,7 +84,7 @@ impl Source for Paced {
     }
 
     fn failures(&self) -> u64 {
-        0
+        self.failed
     }
 }
 
@@ -103,39 +124,5 @@ impl Sink for Counting {
 
     fn failures(&self) -> u64 {
         0
-    }
-}
-
-/// Fails whenever it is asked.
-#[derive(Drop)]
-pub struct Failing {
-    failed: u64,
-}
-
-impl Failing {
-    pub fn new() -> Failing {
-        Failing { failed: 0 }
-    }
-}
-
-impl Source for Failing {
-    ghost told = { λ s. None };
-
-    ghost failed = { λ s. s.failed };
-
-    ghost waits = { λ s said. said ≡ false };
-
-    fn next_into(&mut self, buffer: &mut [u8]) -> NextLen {
-        let _ = buffer;
-        self.failed += 1;
-        NextLen::Failed
-    }
-
-    fn wait(&mut self) -> bool {
-        false
-    }
-
-    fn failures(&self) -> u64 {
-        self.failed
     }
 }

@@ -1,19 +1,20 @@
 //! Two processors that meet, and gates.
 
 use crate::cues::comes;
-use crate::lists::{four_sources, list_sinks};
-use crate::play::ran;
-use crate::reports::tells;
+use crate::list_run::ListRun;
+use crate::reports::all_sent;
 use crate::routers::router;
 use router_rules::Worker;
 use sample_packets::{FIRST, IN_TIME, with_bytes};
-use sample_stages::{NEAR, NOTHING, datagram};
-use stage_parts::Gate;
+use sample_stages::{NEAR, datagram, firsts};
+use stage_parts::{Gate, Next};
 use std::alloc::{AllocError, Global};
+use std::process::Abort;
 use std::rt::Clock;
-use std::sync::Arc;
 use std::sync::atomic::{AtomicU64, Ordering};
+use std::sync::{Arc, Wait};
 use std::test::*;
+use std::thread::Threads;
 
 /// What two processors tell each other: that one asked, and how many saw that the other did.
 #[derive(Drop)]
@@ -56,31 +57,29 @@ fn new_meeting(alloc: Global) -> Result<Arc<Meeting, Global>, AllocError> {
     Ok(Arc::new(alloc, meeting)?)
 }
 
+// A datagram of each of two flows.
+fn two_flows(alloc: Global) -> Result<Vec<Next>, AllocError> {
+    let other = with_bytes(FIRST, 3, &[2]);
+    let mut answers = firsts(alloc, 1)?;
+    answers.push(datagram(alloc, &other, NEAR, IN_TIME)?)?;
+    Ok(answers)
+}
+
+// A run of two processors over both flows, in which each packet waits for the meeting.
+fn met<R>(rt: R, meeting: Arc<Meeting, Global>) -> ListRun
+where
+    R: AllocGlobal + Abort + Threads + Wait + Clock + Copy + Send + Sync + Drop + 'static,
+{
+    let answers = two_flows(rt.alloc()).expect(&rt, "memory");
+    ListRun::over(rt, router(&rt, 2, 64), answers, 0, Meet { rt, meeting })
+}
+
 /// Two flows are decided by two processors, each of which sees that the other is at work.
 #[test]
 fn gate_two_processors(rt: HostRuntime) {
-    let alloc = rt.alloc();
-    let other = with_bytes(FIRST, 3, &[2]);
-    let mut answers = Vec::new(alloc);
-    answers
-        .push(datagram(alloc, &FIRST, NEAR, IN_TIME).expect(&rt, "memory"))
-        .expect(&rt, "memory");
-    answers
-        .push(datagram(alloc, &other, NEAR, IN_TIME).expect(&rt, "memory"))
-        .expect(&rt, "memory");
-    let sources = four_sources(alloc, answers).expect(&rt, "memory");
-    let sinks = list_sinks(alloc, 4, 0).expect(&rt, "memory");
-    let meeting = new_meeting(alloc).expect(&rt, "memory");
-    let gate = Meet {
-        rt,
-        meeting: Arc::try_clone(&meeting).expect(&rt, "memory"),
-    };
-    let config = router(&rt, 2, 64);
-    let played = ran(rt, config, sources, sinks, gate, None);
-    let mut wanted = NOTHING;
-    wanted.received = 2;
-    wanted.sent = 2;
-    assert!(rt; tells(&played.report, &wanted, &[0, 0, 2, 0]));
+    let meeting = new_meeting(rt.alloc()).expect(&rt, "memory");
+    let run = met(rt, Arc::try_clone(&meeting).expect(&rt, "memory"));
+    assert!(rt; run.tells(&all_sent(2), &[0, 0, 2, 0]));
     assert!(rt; meeting.met.load(Ordering::SeqCst) == 2);
-    drop(played);
+    drop(run);
 }

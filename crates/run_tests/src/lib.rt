@@ -15,11 +15,15 @@ mod devices;
 #[cfg(test)]
 mod gates;
 #[cfg(test)]
+mod list_run;
+#[cfg(test)]
 mod lists;
 #[cfg(test)]
 mod many;
 #[cfg(test)]
 mod memory;
+#[cfg(test)]
+mod paced_run;
 #[cfg(test)]
 mod play;
 #[cfg(test)]

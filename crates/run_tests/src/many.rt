@@ -2,19 +2,22 @@
 
 ghost use Rattle.std.specs.Prelude.{◌≡◌, ◌<◌, length};
 
+use crate::list_run::ListRun;
 use crate::lists::{list_sinks, list_sources};
-use crate::play::ran;
-use crate::reports::sent_by;
 use crate::routers::wide_router;
 use cmac_core::Cmac;
 use hop_check::beacon;
 use path_fields::Hop;
 use process_packet::{Ip, Totals, Underlay};
-use sample_packets::{FIRST, IN_TIME, KEY, MAC_AT, PATH_AT, with_bytes};
+use sample_packets::{FIRST, IN_TIME, KEY, PATH_AT, with_bytes};
 use sample_stages::{FULL_LINK, FULL_PROCESSOR, NO_BUFFER, NOTHING, Open, datagram};
 use stage_parts::{Next, Sent};
 use std::alloc::{AllocError, Global};
+use std::process::Abort;
+use std::rt::Clock;
+use std::sync::Wait;
 use std::test::*;
+use std::thread::Threads;
 
 /// All links, the internal network's among them.
 const LINKS: u16 = 33;
@@ -90,22 +93,30 @@ fn all_datagrams(alloc: Global) -> Result<Vec<Vec<Next>>, AllocError> {
     Ok(lists)
 }
 
+/// Whether the sink took a packet, and it is of its flow and comes after the last one of its link and flow, whose
+/// number it replaces.
+fn follows(last: &mut [u64; 1650], sent: &Sent) -> bool {
+    let number = sent.out.number;
+    let flow = number % FLOWS;
+    let link = sent.out.arrived;
+    if link >= LINKS || number > DATAGRAMS {
+        return false;
+    }
+    let at = usize::from(link) * 50 + flow as usize;
+    if number <= last[at] {
+        return false;
+    }
+    last[at] = number;
+    sent.took && !sent.out.answer && sent.bytes.get(3) == Some(&(flow as u8))
+}
+
 /// Whether the sink took each packet, each is of its flow, and those of a link and flow have ascending numbers.
 fn is_in_order(list: &[Sent]) -> bool {
     let mut last = [0u64; 1650];
     for sent in list {
-        let number = sent.out.number;
-        let flow = number % FLOWS;
-        let link = sent.out.arrived;
-        if link >= LINKS {
+        if !follows(&mut last, sent) {
             return false;
         }
-        let at = usize::from(link) * 50 + flow as usize;
-        let right = sent.took && !sent.out.answer && sent.bytes.get(3) == Some(&(flow as u8));
-        if !right || number <= last[at] || number > DATAGRAMS {
-            return false;
-        }
-        last[at] = number;
     }
     true
 }
@@ -125,21 +136,25 @@ fn adds_up(totals: &Totals, sent: u128) -> bool {
     *totals == wanted && dropped.wrapping_add(sent) == 33_000
 }
 
+fn wide_run<R>(rt: R) -> ListRun
+where
+    R: AllocGlobal + Abort + Threads + Wait + Clock + Copy + Send + Drop + 'static,
+{
+    let lists = all_datagrams(rt.alloc()).expect(&rt, "memory");
+    let sources = list_sources(rt.alloc(), lists).expect(&rt, "memory");
+    let sinks = list_sinks(rt.alloc(), 33, 0).expect(&rt, "memory");
+    ListRun::of(rt, wide_router(&rt), sources, sinks, Open)
+}
+
 #[test]
 fn capacity_one(rt: HostRuntime) {
-    let alloc = rt.alloc();
-    let sources = list_sources(alloc, all_datagrams(alloc).expect(&rt, "memory")).expect(
-        &rt, "memory",
-    );
-    let sinks = list_sinks(alloc, 33, 0).expect(&rt, "memory");
-    let played = ran(rt, wide_router(&rt), sources, sinks, Open, None);
-    let told = played.report.sinks.get(1).and_then(|sink| sink.told());
-    let list = told.expect(&rt, "a list");
+    let run = wide_run(rt);
+    let list = run.told(1).expect(&rt, "a list");
     assert!(rt; is_in_order(list));
     let sent = list.len() as u128;
-    assert!(rt; adds_up(&played.report.totals, sent));
+    assert!(rt; adds_up(run.totals(), sent));
     let mut counts = [0; 33];
     counts[1] = sent;
-    assert!(rt; sent_by(&played.report, &counts));
-    drop(played);
+    assert!(rt; run.sent_by(&counts));
+    drop(run);
 }

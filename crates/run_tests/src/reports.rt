@@ -24,3 +24,12 @@ pub fn tells<S, K>(
 ) -> bool {
     report.totals == *totals && sent_by(report, counts)
 }
+
+/// All that was received was sent.
+#[cfg(test)]
+pub fn all_sent(count: u128) -> process_packet::Totals {
+    let mut totals = sample_stages::NOTHING;
+    totals.received = count;
+    totals.sent = count;
+    totals
+}

@@ -15,7 +15,9 @@ use std::sync::{Arc, Wait};
 use std::test::*;
 use std::thread::Threads;
 use std::time::Clock;
-use worker_threads::{HOLD, Handle, Orders, Team, Work, join_all, start_both, start_four};
+use worker_threads::{
+    Both, HOLD, Handle, Orders, Team, ThreadFault, Work, join_all, start_both, start_four,
+};
 
 // It counts a number of datagrams as received, one in a turn, is quiet for a number of turns, and has ended.
 #[derive(Drop)]
@@ -76,18 +78,31 @@ impl<L: Ledger, R: Wait> Work<L> for Countdown<L, R> {
     ghost same_then = { λ x y z p q. tt };
 }
 
-// A number of workers, with shares taken off a list.
-fn team<L: Ledger, R: Abort + Wait + Copy>(
-    rt: R,
+// Workers and their orders, with room for the handles of their threads.
+fn team_of<L: Ledger, W: Work<L> + Drop, R: Abort>(
+    rt: &R,
     alloc: Global,
-    orders: &Orders<L>,
-    shares: &mut Vec<Share<L>>,
-    count: usize,
-) -> Team<L, Countdown<L, R>>
+    workers: Vec<W>,
+    orders: Vec<Orders<L>>,
+) -> Team<L, W>
     ensures { (result.room.items ≡ []) × (length result.workers.items ≤ vec_capacity result.room) }
 {
+    let room = Vec::with_capacity(alloc, workers.len()).expect(rt, "memory");
+    Team {
+        workers,
+        orders,
+        room,
+    }
+}
+
+// A number of workers, with shares taken off a list.
+fn countdowns<L: Ledger, R: Abort + Copy>(
+    rt: R,
+    alloc: Global,
+    shares: &mut Vec<Share<L>>,
+    count: usize,
+) -> Vec<Countdown<L, R>> {
     let mut workers = Vec::new(alloc);
-    let mut own = Vec::new(alloc);
     for _ in 0..count {
         let worker = Countdown {
             rt,
@@ -96,20 +111,55 @@ fn team<L: Ledger, R: Abort + Wait + Copy>(
             share: shares.pop().expect(&rt, "share"),
         };
         workers.push(worker).expect(&rt, "memory");
-        let orders = orders.another().expect(&rt, "memory");
-        own.push(orders).expect(&rt, "memory");
     }
-    let room = Vec::with_capacity(alloc, workers.len()).expect(&rt, "memory");
-    Team {
-        workers,
-        orders: own,
-        room,
+    workers
+}
+
+// The same orders for a number of threads.
+fn copies<L: Ledger, R: Abort>(
+    rt: &R,
+    alloc: Global,
+    orders: &Orders<L>,
+    count: usize,
+) -> Vec<Orders<L>> {
+    let mut copies = Vec::new(alloc);
+    for _ in 0..count {
+        let copy = orders.another().expect(rt, "memory");
+        copies.push(copy).expect(rt, "memory");
     }
+    copies
+}
+
+// How many workers a team has, and orders for how many threads.
+type Size = (usize, usize);
+
+fn team<L: Ledger, R: Abort + Wait + Copy>(
+    rt: R,
+    alloc: Global,
+    orders: &Orders<L>,
+    shares: &mut Vec<Share<L>>,
+    size: Size,
+) -> Team<L, Countdown<L, R>>
+    ensures { (result.room.items ≡ []) × (length result.workers.items ≤ vec_capacity result.room) }
+{
+    let workers = countdowns(rt, alloc, shares, size.0);
+    team_of(&rt, alloc, workers, copies(&rt, alloc, orders, size.1))
 }
 
 // Whether a worker came to its end and posted all that it counted.
 fn is_over<L: Ledger, R>(worker: &Countdown<L, R>) -> bool {
     worker.left == 0 && worker.quiet == 0 && worker.share.posted().received == 3000
+}
+
+// The workers, once their threads have ended.
+fn workers_of<L, W, R>(rt: &R, alloc: Global, handles: Vec<Handle<L, W>>) -> Vec<W>
+where
+    L: Ledger,
+    W: Work<L> + Drop,
+    R: Abort + Threads + Wait + Clock,
+{
+    let room = Vec::with_capacity(alloc, handles.len()).expect(rt, "memory");
+    join_all(rt, handles, room)
 }
 
 // How many workers came back, each over.
@@ -118,8 +168,7 @@ where
     L: Ledger,
     R: Abort + Threads + Wait + Clock + Drop,
 {
-    let room = Vec::with_capacity(alloc, handles.len()).expect(rt, "memory");
-    let back = join_all(rt, handles, room);
+    let back = workers_of(rt, alloc, handles);
     for worker in back.iter() {
         if !is_over(worker) {
             return 0;
@@ -128,49 +177,78 @@ where
     back.len()
 }
 
-// Orders for the threads of workers that count, and the shares of six.
-fn orders_for_six<L: Ledger, R: Abort>(
+// Orders for the threads of workers that count, and the workers' shares.
+fn orders_for<L: Ledger, R: Abort>(
     rt: &R,
     alloc: Global,
     blank: Blank,
+    workers: usize,
 ) -> (Orders<L>, Vec<Share<L>>)
     requires name { blank.table ≡ L.table }
-    requires six { L.workers ≡ 6 }
+    requires workers { (workers ≡ L.workers) × (workers ≤ 65536) }
 {
-    let (book, shares) = Book::<L>::new(alloc, blank, 6).expect(rt, "memory");
+    let (book, shares) = Book::<L>::new(alloc, blank, workers).expect(rt, "memory");
     let word = Arc::new(alloc, AtomicU64::new(HOLD)).expect(rt, "memory");
     let book = Arc::new(alloc, book).expect(rt, "memory");
     (Orders::new(word, book), shares)
 }
 
-// Four teams, one of them empty: how many came back.
-fn four_teams<L, R>(rt: R, alloc: Global, blank: Blank) -> (usize, usize, usize, usize)
+type Countdowns<L, R> = Both<L, Countdown<L, R>, Countdown<L, R>>;
+
+// Four teams of these sizes, in threads.
+fn started<L, R>(
+    rt: R,
+    alloc: Global,
+    blank: Blank,
+    sizes: [Size; 4],
+) -> Result<(Countdowns<L, R>, Countdowns<L, R>), ThreadFault>
 where
     L: Ledger + Send + Sync + 'static,
     R: Abort + Threads + Wait + Clock + Copy + Send + Drop + 'static,
     requires name { blank.table ≡ L.table }
     requires six { L.workers ≡ 6 }
 {
-    let (orders, mut shares) = orders_for_six::<L, R>(&rt, alloc, blank);
-    let one = team(rt, alloc, &orders, &mut shares, 3);
-    let two = team(rt, alloc, &orders, &mut shares, 2);
-    let three = team(rt, alloc, &orders, &mut shares, 1);
-    let four = team(rt, alloc, &orders, &mut shares, 0);
-    let started = start_four(rt, &orders, (one, two), (three, four)).ok();
-    let (front, back) = started.expect(&rt, "threads");
-    (
-        joined(&rt, alloc, front.first),
-        joined(&rt, alloc, front.second),
-        joined(&rt, alloc, back.first),
-        joined(&rt, alloc, back.second),
-    )
+    let (orders, mut shares) = orders_for::<L, R>(&rt, alloc, blank, 6);
+    let one = team(rt, alloc, &orders, &mut shares, sizes[0]);
+    let two = team(rt, alloc, &orders, &mut shares, sizes[1]);
+    let three = team(rt, alloc, &orders, &mut shares, sizes[2]);
+    let four = team(rt, alloc, &orders, &mut shares, sizes[3]);
+    start_four(rt, &orders, (one, two), (three, four))
+}
+
+// How many came back of each of two teams.
+fn both_joined<L, R>(rt: &R, alloc: Global, both: Countdowns<L, R>) -> (usize, usize)
+where
+    L: Ledger,
+    R: Abort + Threads + Wait + Clock + Drop,
+{
+    let Both { first, second } = both;
+    let first = joined(rt, alloc, first);
+    (first, joined(rt, alloc, second))
+}
+
+// Four teams, one of them empty: how many came back.
+fn four_teams<L, R>(rt: R, alloc: Global, blank: Blank) -> Option<[usize; 4]>
+where
+    L: Ledger + Send + Sync + 'static,
+    R: Abort + Threads + Wait + Clock + Copy + Send + Drop + 'static,
+    requires name { blank.table ≡ L.table }
+    requires six { L.workers ≡ 6 }
+{
+    match started::<L, R>(rt, alloc, blank, [(3, 3), (2, 2), (1, 1), (0, 0)]) {
+        Ok((front, back)) => {
+            let (one, two) = both_joined(&rt, alloc, front);
+            let (three, four) = both_joined(&rt, alloc, back);
+            Some([one, two, three, four])
+        }
+        Err(_) => None,
+    }
 }
 
 #[test]
 fn workers_come_back(rt: HostRuntime) {
     let blank = Blank::new(rt.alloc()).expect(&rt, "memory");
-    let counts = four_teams::<Brand, _>(rt, rt.alloc(), blank);
-    assert!(rt; counts == (3, 2, 1, 0));
+    assert!(rt; four_teams::<Brand, _>(rt, rt.alloc(), blank) == Some([3, 2, 1, 0]));
 }
 
 // A team with orders for fewer threads than it has workers is refused, and no thread is left.
@@ -181,13 +259,7 @@ where
     requires name { blank.table ≡ L.table }
     requires six { L.workers ≡ 6 }
 {
-    let (orders, mut shares) = orders_for_six::<L, R>(&rt, alloc, blank);
-    let one = team(rt, alloc, &orders, &mut shares, 3);
-    let two = team(rt, alloc, &orders, &mut shares, 1);
-    let mut three = team(rt, alloc, &orders, &mut shares, 2);
-    drop(three.orders.pop());
-    let four = team(rt, alloc, &orders, &mut shares, 0);
-    start_four(rt, &orders, (one, two), (three, four)).is_err()
+    started::<L, R>(rt, alloc, blank, [(3, 3), (1, 1), (2, 1), (0, 0)]).is_err()
 }
 
 #[test]
@@ -337,12 +409,7 @@ fn alone<L: Ledger, W: Work<L> + Drop, R: Abort>(
     workers.push(worker).expect(rt, "memory");
     let mut each = Vec::new(alloc);
     each.push(orders).expect(rt, "memory");
-    let room = Vec::with_capacity(alloc, workers.len()).expect(rt, "memory");
-    Team {
-        workers,
-        orders: each,
-        room,
-    }
+    team_of(rt, alloc, workers, each)
 }
 
 // Two workers at the ends of a pipe. The one that offers notifies the event.
@@ -370,38 +437,43 @@ fn at_both_ends<R: Wait + Copy>(
     Ok(Some((feeder, drain)))
 }
 
+// Both workers' teams. The second one sleeps until the first one's event.
+fn feeding<L: Ledger, R: Abort + Wait + Copy + Drop>(
+    rt: R,
+    alloc: Global,
+    orders: &Orders<L>,
+) -> (Team<L, Feeder<R>>, Team<L, Drain<R>>)
+    ensures first { (result.0.room.items ≡ []) × (length result.0.workers.items ≤ vec_capacity result.0.room) }
+    ensures second { (result.1.room.items ≡ []) × (length result.1.workers.items ≤ vec_capacity result.1.room) }
+{
+    let event = Arc::new(alloc, EventCount::new()).expect(&rt, "memory");
+    let woken = orders.another_with(&event).expect(&rt, "memory");
+    let plain = orders.another().expect(&rt, "memory");
+    let made = at_both_ends(rt, alloc, event).expect(&rt, "memory");
+    let (feeder, drain) = made.expect(&rt, "an end");
+    let first = alone(&rt, alloc, feeder, plain);
+    (first, alone(&rt, alloc, drain, woken))
+}
+
 // Starts both and joins them: what the second one took, in sum.
 fn taken_by<L, R>(
     rt: R,
     alloc: Global,
     orders: &Orders<L>,
-    first: Team<L, Feeder<R>>,
-    second: Team<L, Drain<R>>,
+    teams: (Team<L, Feeder<R>>, Team<L, Drain<R>>),
 ) -> u64
 where
     L: Ledger + Send + Sync + 'static,
     R: Abort + Threads + Wait + Clock + Copy + Send + Drop + 'static,
-    requires first { (first.room.items ≡ []) × (length first.workers.items ≤ vec_capacity first.room) }
-    requires second { (second.room.items ≡ []) × (length second.workers.items ≤ vec_capacity second.room) }
+    requires first { (teams.0.room.items ≡ []) × (length teams.0.workers.items ≤ vec_capacity teams.0.room) }
+    requires second { (teams.1.room.items ≡ []) × (length teams.1.workers.items ≤ vec_capacity teams.1.room) }
 {
-    let both = start_both(rt, orders, first, second).ok();
-    let both = both.expect(&rt, "threads");
+    let both = start_both(rt, orders, teams.0, teams.1).ok();
+    let Both { first, second } = both.expect(&rt, "threads");
     orders.run();
-    let room = Vec::with_capacity(alloc, both.first.len()).expect(&rt, "memory");
-    drop(join_all(&rt, both.first, room));
-    let room = Vec::with_capacity(alloc, both.second.len()).expect(&rt, "memory");
-    let mut back = join_all(&rt, both.second, room);
+    drop(workers_of(&rt, alloc, first));
+    let mut back = workers_of(&rt, alloc, second);
     back.pop().expect(&rt, "worker").sum
-}
-
-// Orders for threads whose workers count nothing.
-fn orders_of<L: Ledger, R: Abort>(rt: &R, alloc: Global, blank: Blank) -> Orders<L>
-    requires name { blank.table ≡ L.table }
-    requires none { L.workers ≡ 0 }
-{
-    let (book, _) = Book::<L>::new(alloc, blank, 0).expect(rt, "memory");
-    let word = Arc::new(alloc, AtomicU64::new(HOLD)).expect(rt, "memory");
-    Orders::new(word, Arc::new(alloc, book).expect(rt, "memory"))
 }
 
 // What a worker that sleeps takes of a pipe into which another pushes now and then: the sum.
@@ -412,16 +484,9 @@ where
     requires name { blank.table ≡ L.table }
     requires none { L.workers ≡ 0 }
 {
-    let orders = orders_of::<L, R>(&rt, alloc, blank);
-    let event = Arc::new(alloc, EventCount::new()).expect(&rt, "memory");
-    let other = Arc::try_clone(&event).expect(&rt, "memory");
-    let made = at_both_ends(rt, alloc, other).expect(&rt, "memory");
-    let (feeder, drain) = made.expect(&rt, "an end");
-    let plain = orders.another().expect(&rt, "memory");
-    let woken = orders.another_with(&event).expect(&rt, "memory");
-    let first = alone(&rt, alloc, feeder, plain);
-    let second = alone(&rt, alloc, drain, woken);
-    taken_by(rt, alloc, &orders, first, second)
+    let (orders, _) = orders_for::<L, R>(&rt, alloc, blank, 0);
+    let teams = feeding(rt, alloc, &orders);
+    taken_by(rt, alloc, &orders, teams)
 }
 
 #[test]

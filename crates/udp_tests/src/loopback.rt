@@ -4,6 +4,7 @@ use crate::minute::minute_of;
 use cmac_core::Cmac;
 use hop_check::beacon;
 use path_fields::Hop;
+use process_packet::Config;
 use router_config::read_config;
 use run_engine::RunFault;
 use sample_packets::{FIRST, KEY, MAC_AT, PATH_AT, with_bytes};
@@ -57,17 +58,13 @@ fn fresh<R: Clock>(rt: &R) -> io::Result<[u8; 92]> {
 /// The most bytes that come back: those of an answer.
 const MOST: usize = 1232;
 
-/// The commands that the router reads: before the first is read, a datagram is sent from the neighbour of link 1
-/// to that link, and what leaves there or by link 2 is waited for.
+/// The neighbours of both links, and the datagram that link 1's sends.
 #[derive(Drop)]
-struct Lead {
+struct Neighbours {
     parent: UdpSocket,
     child: UdpSocket,
     datagram: [u8; 92],
     is_answered: bool,
-    left: &'static [u8],
-    asked: bool,
-    came: Vec<u8>,
 }
 
 /// The neighbour's socket at an address, which waits for 10 seconds at most.
@@ -77,48 +74,55 @@ fn neighbour<R: Net>(rt: &R, at: &str) -> io::Result<UdpSocket> {
     Ok(socket)
 }
 
-impl Lead {
+impl Neighbours {
     /// The datagram crosses, or is answered.
-    fn new<R: Net + AllocGlobal>(
-        rt: &R,
-        datagram: [u8; 92],
-        is_answered: bool,
-    ) -> io::Result<Lead> {
+    fn new<R: Net>(rt: &R, datagram: [u8; 92], is_answered: bool) -> io::Result<Neighbours> {
         let parent = neighbour(rt, "127.0.0.1:42001")?;
-        let child = neighbour(rt, "127.0.0.1:42002")?;
-        Ok(Lead {
+        Ok(Neighbours {
             parent,
-            child,
+            child: neighbour(rt, "127.0.0.1:42002")?,
             datagram,
             is_answered,
-            left: b"end\n",
-            asked: false,
-            came: Vec::new(rt.alloc()),
         })
     }
 
+    /// The neighbour that waits, and the port of the router's own end of its link.
+    fn waiting(&self) -> (&UdpSocket, u16) {
+        if self.is_answered {
+            (&self.parent, 41001)
+        } else {
+            (&self.child, 41002)
+        }
+    }
+
     /// Sends the datagram, and keeps what comes from the router's own end of the link.
-    fn cross(&mut self) -> io::Result<()> {
+    fn cross(&self, came: &mut Vec<u8>) -> io::Result<()> {
         self.parent.send_to(&self.datagram, "127.0.0.1:41001")?;
         let mut room = [0u8; MOST];
-        let (len, from) = if self.is_answered {
-            self.parent.recv_from(&mut room)?
-        } else {
-            self.child.recv_from(&mut room)?
-        };
-        let port = if self.is_answered { 41001 } else { 41002 };
+        let (socket, port) = self.waiting();
+        let (len, from) = socket.recv_from(&mut room)?;
         if from.port() == port {
-            self.came.extend_from_slice(&room[..len])?;
+            came.extend_from_slice(&room[..len])?;
         }
         Ok(())
     }
+}
+
+/// The commands that the router reads: before the first is read, a datagram is sent from the neighbour of link 1
+/// to that link, and what leaves there or by link 2 is waited for.
+#[derive(Drop)]
+struct Lead {
+    neighbours: Neighbours,
+    left: &'static [u8],
+    asked: bool,
+    came: Vec<u8>,
 }
 
 impl Read for Lead {
     fn read(&mut self, buf: &mut [u8]) -> io::Result<usize> {
         if !self.asked {
             self.asked = true;
-            self.cross()?;
+            self.neighbours.cross(&mut self.came)?;
         }
         let count = self.left.len().min(buf.len());
         let (front, rest) = self.left.split_at(count);
@@ -127,20 +131,50 @@ impl Read for Lead {
         Ok(count)
     }
 }
+
 /// What crossed or came back, and what the router wrote.
-fn run_one<R>(rt: R, datagram: [u8; 92], is_answered: bool) -> (Vec<u8>, Vec<u8>)
+#[derive(Drop)]
+struct Outcome {
+    came: Vec<u8>,
+    text: Vec<u8>,
+}
+
+/// The commands, and what is sent before the first.
+fn commands<R>(rt: &R, datagram: [u8; 92], is_answered: bool) -> BufReader<Lead>
+where
+    R: Abort + AllocGlobal + Net,
+{
+    let neighbours = Neighbours::new(rt, datagram, is_answered).expect(rt, "sockets");
+    let lead = Lead {
+        neighbours,
+        left: b"end\n",
+        asked: false,
+        came: Vec::new(rt.alloc()),
+    };
+    BufReader::new(rt.alloc(), lead).expect(rt, "memory")
+}
+
+/// What the router writes until its commands end.
+fn written<R>(rt: R, reader: &mut BufReader<Lead>) -> Vec<u8>
 where
     R: Abort + AllocGlobal + Net + Threads + Wait + Clock + Copy + Send + Drop + 'static,
 {
-    let alloc = rt.alloc();
-    let config = read_config(alloc, CONFIGURATION).expect(&rt, "configuration");
-    let lead = Lead::new(&rt, datagram, is_answered).expect(&rt, "sockets");
-    let mut reader = BufReader::new(alloc, lead).expect(&rt, "memory");
-    let mut writer = Vec::new(alloc);
-    let result = run_router(rt, alloc, config, &mut reader, &mut writer);
+    let config = read_config(rt.alloc(), CONFIGURATION).expect(&rt, "configuration");
+    let mut text = Vec::new(rt.alloc());
+    let result = run_router(rt, rt.alloc(), config, reader, &mut text);
     result.expect(&rt, "a router that runs");
+    text
+}
+
+/// A run of the router, while a datagram crosses or is answered.
+fn run_one<R>(rt: R, datagram: [u8; 92], is_answered: bool) -> Outcome
+where
+    R: Abort + AllocGlobal + Net + Threads + Wait + Clock + Copy + Send + Drop + 'static,
+{
+    let mut reader = commands(&rt, datagram, is_answered);
+    let text = written(rt, &mut reader);
     let came = reader.get_ref().came.clone().expect(&rt, "memory");
-    (came, writer)
+    Outcome { came, text }
 }
 
 /// Whether it is the datagram as it leaves: one hop further, its identifier chained, and else as it was.
@@ -160,53 +194,71 @@ const MESSAGE_AT: usize = 84;
 
 /// Whether it tells that the MAC of the hop field at byte 60 is wrong, and quotes the whole datagram.
 fn answered_well(came: &[u8], sent: &[u8; 92]) -> bool {
-    came.len() == MESSAGE_AT + 8 + 92
-        && &came[MESSAGE_AT..MESSAGE_AT + 2] == [4, 51].as_slice()
-        && &came[MESSAGE_AT + 4..MESSAGE_AT + 8] == [0, 0, 0, 60].as_slice()
-        && &came[MESSAGE_AT + 8..] == sent.as_slice()
+    match came.get(MESSAGE_AT..) {
+        Some([4, 51, _, _, 0, 0, 0, 60, quote @ ..]) => quote == sent.as_slice(),
+        _ => false,
+    }
 }
 
 const ANSWERED: &[u8] =
     b"ready\nlink 0 sent 0\nlink 1 sent 1\nlink 2 sent 0\nreceived 1\nsent 0\nanswered 1\n";
 
+/// The datagram crosses the router.
+fn crosses<R>(rt: R, sent: [u8; 92])
+where
+    R: Abort + AllocGlobal + Net + Threads + Wait + Clock + Copy + Send + Drop + 'static,
+{
+    let outcome = run_one(rt, sent, false);
+    assert!(rt; left_well(outcome.came.as_slice(), &sent));
+    assert!(rt; outcome.text.as_slice() == CROSSED);
+}
+
+/// The datagram is answered to its sender.
+fn is_answered<R>(rt: R, sent: [u8; 92])
+where
+    R: Abort + AllocGlobal + Net + Threads + Wait + Clock + Copy + Send + Drop + 'static,
+{
+    let outcome = run_one(rt, sent, true);
+    assert!(rt; answered_well(outcome.came.as_slice(), &sent));
+    assert!(rt; outcome.text.as_slice() == ANSWERED);
+}
+
 /// A datagram crosses the router, and one whose MAC is wrong is answered to its sender.
 #[test]
 fn udp_loopback(rt: HostRuntime) {
     let sent = fresh(&rt).expect(&rt, "clock");
-    let (came, text) = run_one(rt, sent, false);
-    assert!(rt; left_well(came.as_slice(), &sent));
-    assert!(rt; text.as_slice() == CROSSED);
-    let forged = with_bytes(sent, MAC_AT, &[sent[MAC_AT] ^ 1]);
-    let (came, text) = run_one(rt, forged, true);
-    assert!(rt; answered_well(came.as_slice(), &forged));
-    assert!(rt; text.as_slice() == ANSWERED);
+    crosses(rt, sent);
+    is_answered(rt, with_bytes(sent, MAC_AT, &[sent[MAC_AT] ^ 1]));
+}
+
+/// The port of an address that is taken.
+const TAKEN: &str = "41102";
+
+/// The configuration in which a port is the taken one.
+fn with_taken<R: Abort + AllocGlobal>(rt: &R, port: &str) -> Config {
+    let text = CONFIGURATION
+        .replace(rt.alloc(), port, TAKEN)
+        .expect(rt, "memory");
+    read_config(rt.alloc(), text.as_str()).expect(rt, "configuration")
+}
+
+/// Whether the fault of a router one of whose ports is taken names this link, and nothing is written.
+fn is_told<R>(rt: R, port: &str, link: u16) -> bool
+where
+    R: Abort + AllocGlobal + Net + Threads + Wait + Clock + Copy + Send + Drop + 'static,
+{
+    let config = with_taken(&rt, port);
+    let mut reader = b"end\n".as_slice();
+    let mut text = Vec::new(rt.alloc());
+    let result = run_router(rt, rt.alloc(), config, &mut reader, &mut text);
+    result == Err(RunFault::Socket(link)) && text.is_empty()
 }
 
 /// Where an address is taken, the fault names its link, and nothing is written.
 #[test]
 fn a_taken_address_is_told(rt: HostRuntime) {
-    let alloc = rt.alloc();
     let taken = UdpSocket::bind(&rt, "127.0.0.1:41102").expect(&rt, "socket");
-    for (config, link) in [
-        (
-            CONFIGURATION
-                .replace(alloc, "41002", "41102")
-                .expect(&rt, "memory"),
-            2,
-        ),
-        (
-            CONFIGURATION
-                .replace(alloc, "41000", "41102")
-                .expect(&rt, "memory"),
-            0,
-        ),
-    ] {
-        let config = read_config(alloc, config.as_str()).expect(&rt, "configuration");
-        let mut reader = b"end\n".as_slice();
-        let mut writer = Vec::new(alloc);
-        let result = run_router(rt, alloc, config, &mut reader, &mut writer);
-        assert!(rt; result == Err(RunFault::Socket(link)));
-        assert!(rt; writer.is_empty());
-    }
+    assert!(rt; is_told(rt, "41002", 2));
+    assert!(rt; is_told(rt, "41000", 0));
     drop(taken);
 }
