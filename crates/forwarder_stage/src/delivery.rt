@@ -64,6 +64,22 @@ fn count<N: Router>(share: &mut Share<N>, took: bool, answer: bool)
     }
 }
 
+impl<N: Router, R: Copy, K: Sink> Delivery<N, R, K> {
+    /// The sink, the ends of the pipes of free buffers, and the counts.
+    pub fn into_parts(self) -> (K, Vec<Producer<Buffer>>, Share<N>)
+        ensures { (result.0 ≡ self.sink) × (result.1.items ≡ self.free) × (result.2 ≡ self.share) }
+    {
+        let Delivery {
+            rt: _,
+            shared: _,
+            sink,
+            free,
+            share,
+        } = self;
+        (sink, free, share)
+    }
+}
+
 impl<N: Router, R: Wait + Copy, K: Sink> Delivery<N, R, K> {
     /// Whether each of its counts can still be raised.
     pub fn has_room(&self) -> bool
@@ -139,19 +155,5 @@ impl<N: Router, R: Wait + Copy, K: Sink> Delivery<N, R, K> {
         ensures same { self.new ≡ with_share self.new.share self.old }
     {
         book.post(&self.rt, &mut self.share);
-    }
-
-    /// The sink, the ends of the pipes of free buffers, and the counts.
-    pub fn into_parts(self) -> (K, Vec<Producer<Buffer>>, Share<N>)
-        ensures { (result.0 ≡ self.sink) × (result.1.items ≡ self.free) × (result.2 ≡ self.share) }
-    {
-        let Delivery {
-            rt: _,
-            shared: _,
-            sink,
-            free,
-            share,
-        } = self;
-        (sink, free, share)
     }
 }

@@ -55,7 +55,7 @@ impl<N: Router, R: Drop, K: Sink + Drop> Drop for Forwarder<N, R, K> {
     }
 }
 
-impl<N: Router, R: Wait + Copy, K: Sink> Forwarder<N, R, K> {
+impl<N: Router, R: Copy, K: Sink> Forwarder<N, R, K> {
     /// The forwarder of the link with a number, over a sink that was handed nothing yet. Buffers go back
     /// by one pipe a link. Of a link with one band the high band's pipe isn't used.
     pub fn new(
@@ -94,6 +94,33 @@ impl<N: Router, R: Wait + Copy, K: Sink> Forwarder<N, R, K> {
         }
     }
 
+    /// Its sink, its ends of pipes and its counts, which tell what it did.
+    pub fn into_parts(
+        self,
+    ) -> (
+        K,
+        Consumer<EgressPacket<N>>,
+        Consumer<EgressPacket<N>>,
+        Vec<Producer<Buffer>>,
+        Share<N>,
+    )
+        ensures parts { (result.0 ≡ self.side.sink) × (result.1 ≡ self.low.taker) × (result.2 ≡ self.high.taker) × (result.3.items ≡ self.side.free) × (result.4 ≡ self.side.share) }
+        ensures law { IsForwarding told_of self.low.taker self.high.taker self.low.shut self.high.shut (K.told self.side.sink) self.began (K.failed self.side.sink) self.side.share }
+    {
+        let Forwarder {
+            rt: _,
+            link: _,
+            low,
+            high,
+            began: _,
+            delivery,
+        } = self;
+        let (sink, free, share) = delivery.into_parts();
+        (sink, low.into_consumer(), high.into_consumer(), free, share)
+    }
+}
+
+impl<N: Router, R: Wait + Copy, K: Sink> Forwarder<N, R, K> {
     /// Whether each of its counts can still be raised.
     pub fn has_room(&self) -> bool
         ensures { MatchBool result (HasRoom self.now.side.share.counts) (HasRoom self.now.side.share.counts → ⊥) }
@@ -157,30 +184,5 @@ impl<N: Router, R: Wait + Copy, K: Sink> Forwarder<N, R, K> {
         ensures same { self.new ≡ posted self.new.side.share self.old }
     {
         self.delivery.post(book);
-    }
-
-    /// Its sink, its ends of pipes and its counts, which tell what it did.
-    pub fn into_parts(
-        self,
-    ) -> (
-        K,
-        Consumer<EgressPacket<N>>,
-        Consumer<EgressPacket<N>>,
-        Vec<Producer<Buffer>>,
-        Share<N>,
-    )
-        ensures parts { (result.0 ≡ self.side.sink) × (result.1 ≡ self.low.taker) × (result.2 ≡ self.high.taker) × (result.3.items ≡ self.side.free) × (result.4 ≡ self.side.share) }
-        ensures law { IsForwarding told_of self.low.taker self.high.taker self.low.shut self.high.shut (K.told self.side.sink) self.began (K.failed self.side.sink) self.side.share }
-    {
-        let Forwarder {
-            rt: _,
-            link: _,
-            low,
-            high,
-            began: _,
-            delivery,
-        } = self;
-        let (sink, free, share) = delivery.into_parts();
-        (sink, low.into_consumer(), high.into_consumer(), free, share)
     }
 }

@@ -58,6 +58,24 @@ impl<N: Router, R: Drop> Drop for Intake<N, R> {
     }
 }
 
+impl<N: Router, R: Copy> Intake<N, R> {
+    /// Its ends of pipes, and its counts.
+    pub fn into_parts(self) -> (Vec<Outlet<Packet<N>>>, Consumer<Buffer>, Share<N>)
+        ensures { (result.0.items ≡ self.side.processors) × (result.1 ≡ self.side.stock.free) × (result.2 ≡ self.side.share) }
+    {
+        let Intake {
+            rt: _,
+            shared: _,
+            link: _,
+            interface: _,
+            pool,
+            processors,
+            share,
+        } = self;
+        (processors, pool.into_free(), share)
+    }
+}
+
 impl<N: Router, R: Wait + Copy> Intake<N, R> {
     /// Passes the first bytes of what was read on as the datagram of a number.
     pub fn pass_in(&mut self, number: u64, from: Underlay, now: u64, len: usize)
@@ -115,21 +133,5 @@ impl<N: Router, R: Wait + Copy> Intake<N, R> {
         ensures same { self.new.side ≡ with_share self.new.side.share self.old.side }
     {
         book.post(&self.rt, &mut self.share);
-    }
-
-    /// Its ends of pipes, and its counts.
-    pub fn into_parts(self) -> (Vec<Outlet<Packet<N>>>, Consumer<Buffer>, Share<N>)
-        ensures { (result.0.items ≡ self.side.processors) × (result.1 ≡ self.side.stock.free) × (result.2 ≡ self.side.share) }
-    {
-        let Intake {
-            rt: _,
-            shared: _,
-            link: _,
-            interface: _,
-            pool,
-            processors,
-            share,
-        } = self;
-        (processors, pool.into_free(), share)
     }
 }

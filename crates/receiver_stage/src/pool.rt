@@ -64,7 +64,7 @@ fn take_buffer<R: Wait>(rt: &R, free: &mut Consumer<Buffer>) -> Option<Buffer>
     unreachable!()
 }
 
-impl<R: Wait + Copy> Pool<R> {
+impl<R: Copy> Pool<R> {
     /// The pool that reads into this buffer, and takes free ones from the pipe.
     pub fn new(rt: R, first: Buffer, free: Consumer<Buffer>) -> Pool<R>
         ensures { result.stock ≡ stock None free }
@@ -77,6 +77,21 @@ impl<R: Wait + Copy> Pool<R> {
         }
     }
 
+    /// The end of the pipe of free buffers; the buffers in hand are dropped.
+    pub fn into_free(self) -> Consumer<Buffer>
+        ensures { result ≡ self.stock.free }
+    {
+        let Pool {
+            rt: _,
+            room: _,
+            spare: _,
+            free,
+        } = self;
+        free
+    }
+}
+
+impl<R: Wait + Copy> Pool<R> {
     /// Reads the source's next answer.
     pub fn read<S: Source>(&mut self, source: &mut S) -> NextLen
         requires { S.failed source.old < 2 ^ 64 - 1 }
@@ -120,18 +135,5 @@ impl<R: Wait + Copy> Pool<R> {
         ensures { self.new.stock ≡ stock (Some buffer) self.old.stock.free }
     {
         self.spare = Some(buffer);
-    }
-
-    /// The end of the pipe of free buffers; the buffers in hand are dropped.
-    pub fn into_free(self) -> Consumer<Buffer>
-        ensures { result ≡ self.stock.free }
-    {
-        let Pool {
-            rt: _,
-            room: _,
-            spare: _,
-            free,
-        } = self;
-        free
     }
 }

@@ -60,7 +60,7 @@ impl<N: Router, R: Drop, S: Source + Drop> Drop for Receiver<N, R, S> {
     }
 }
 
-impl<N: Router, R: Wait + Copy, S: Source> Receiver<N, R, S> {
+impl<N: Router, R: Copy, S: Source> Receiver<N, R, S> {
     /// The receiver of the link with a number, over a source that gave nothing yet. It reads into a first
     /// buffer, takes others from the pipe of the link's free ones, and offers to one pipe a processor.
     pub fn new(
@@ -103,6 +103,25 @@ impl<N: Router, R: Wait + Copy, S: Source> Receiver<N, R, S> {
         }
     }
 
+    /// Its source, its ends of pipes and its counts, which tell what it did.
+    pub fn into_parts(self) -> (S, Vec<Outlet<Packet<N>>>, Consumer<Buffer>, Share<N>)
+        ensures parts { (result.0 ≡ self.source) × (result.1.items ≡ self.side.processors) × (result.2 ≡ self.side.stock.free) × (result.3 ≡ self.side.share) }
+        ensures law { IsReceiving self.side.config self.side.link self.side.interface self.number (S.told self.source) self.side.stock.free.looks (senders self.side.processors) self.side.share }
+        ensures quiet { self.ended ≡ true → EndsQuietly self.number (S.told self.source) }
+    {
+        let Receiver {
+            stop: _,
+            number: _,
+            source,
+            intake,
+            ended: _,
+        } = self;
+        let (processors, free, share) = intake.into_parts();
+        (source, processors, free, share)
+    }
+}
+
+impl<N: Router, R: Wait + Copy, S: Source> Receiver<N, R, S> {
     /// Whether each of its counts can still be raised.
     pub fn has_room(&self) -> bool
         ensures { MatchBool result (HasRoom self.now.side.share.counts) (HasRoom self.now.side.share.counts → ⊥) }
@@ -166,22 +185,5 @@ impl<N: Router, R: Wait + Copy, S: Source> Receiver<N, R, S> {
         ensures same { self.new ≡ posted self.new.side.share self.old }
     {
         self.intake.post(book);
-    }
-
-    /// Its source, its ends of pipes and its counts, which tell what it did.
-    pub fn into_parts(self) -> (S, Vec<Outlet<Packet<N>>>, Consumer<Buffer>, Share<N>)
-        ensures parts { (result.0 ≡ self.source) × (result.1.items ≡ self.side.processors) × (result.2 ≡ self.side.stock.free) × (result.3 ≡ self.side.share) }
-        ensures law { IsReceiving self.side.config self.side.link self.side.interface self.number (S.told self.source) self.side.stock.free.looks (senders self.side.processors) self.side.share }
-        ensures quiet { self.ended ≡ true → EndsQuietly self.number (S.told self.source) }
-    {
-        let Receiver {
-            stop: _,
-            number: _,
-            source,
-            intake,
-            ended: _,
-        } = self;
-        let (processors, free, share) = intake.into_parts();
-        (source, processors, free, share)
     }
 }

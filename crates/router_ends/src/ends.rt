@@ -29,7 +29,7 @@ impl<T: Drop> Drop for Ends<T> {
     }
 }
 
-impl<T: Drop> Ends<T> {
+impl<T> Ends<T> {
     /// These producers, the first one first.
     pub fn of(items: Vec<Producer<T>>) -> Ends<T>
         ensures ends { result.ends ≡ items.items }
@@ -77,7 +77,7 @@ impl<T: Drop> Ends<T> {
 }
 
 /// The last end of each, in order. It takes no memory.
-pub fn last_row<T: Drop>(rows: &mut Vec<Ends<T>>, row: Ends<T>) -> Ends<T>
+pub fn last_row<T>(rows: &mut Vec<Ends<T>>, row: Ends<T>) -> Ends<T>
     requires room { (row.ends ≡ []) × (length rows.old.items ≤ row.room) }
     requires full { AreFull rows.old.items }
     ensures ends { Rowed rows.old.items rows.new.items result.ends }

@@ -19,7 +19,7 @@ impl<X> Model for Line<X> {
     ghost view = { λ l. reverse l.items.items };
 }
 
-impl<X: Drop> Line<X> {
+impl<X> Line<X> {
     /// The whole list, its first one to be taken first.
     pub fn of(items: Vec<X>) -> Line<X>
         ensures { result ≡ items.items }

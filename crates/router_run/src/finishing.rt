@@ -59,10 +59,9 @@ pub type Slots<N, S, K, G, R> = WorkerSlots<
 pub struct Joined<N, S, K, G, R>
 where
     N: Router,
-    S: Source + Drop,
-    K: Sink + Drop,
-    G: Gate + Drop,
-    R: Wait + Copy,
+    S: Source,
+    K: Sink,
+    G: Gate,
 {
     receivers: Vec<Receiver<N, R, S>>,
     processors: Vec<Processor<N, R, G>>,
@@ -74,10 +73,9 @@ where
 impl<N, S, K, G, R> Model for Joined<N, S, K, G, R>
 where
     N: Router,
-    S: Source + Drop,
-    K: Sink + Drop,
-    G: Gate + Drop,
-    R: Wait + Copy,
+    S: Source,
+    K: Sink,
+    G: Gate,
 {
     ghost use Rattle.run_laws.specs.Crew.{Crew};
 
@@ -174,7 +172,7 @@ where
     S: Source + Drop,
     K: Sink + Drop,
     G: Gate + Drop,
-    R: Wait + Copy,
+    R: Copy,
     requires sized { IsSized (length joined.receivers) (length joined.processors) joined }
     requires space { HaveSpace (length joined.receivers) (length joined.processors) space }
     ensures ends { IsParted joined result.0.inner_bundles.items result.0.inner_takers.items result.0.middle_row.ends result.0.asked result.0.outer_bundles.items result.0.outer_takers.items }

@@ -18,7 +18,6 @@ use router_ends::{Ends, Line, Shutter, bare, bare_shutters};
 use router_stages::{Forwarder, Processor, Receiver, SlowPath};
 use ruled_pipe::Consumer;
 use stage_parts::{EgressPacket, Gate, Packet, Router, Sink, SlowPathRequest, Source};
-use std::sync::Wait;
 
 /// The receivers' ends and sources, and the shares with theirs.
 #[derive(Drop)]
@@ -29,7 +28,7 @@ pub struct ReceiverParts<N: Router, S> {
 }
 
 /// Takes the receivers apart.
-pub fn part_receivers<N: Router, S: Source + Drop, R: Wait + Copy>(
+pub fn part_receivers<N: Router, S: Source + Drop, R: Copy>(
     receivers: Vec<Receiver<N, R, S>>,
     pipes: usize,
     rows: Vec<Ends<Packet<N>>>,
@@ -80,7 +79,7 @@ pub struct ProcessorParts<N: Router> {
 }
 
 /// Takes the processors apart.
-pub fn part_processors<N: Router, G: Gate + Drop, R: Wait + Copy>(
+pub fn part_processors<N: Router, G: Gate + Drop, R: Copy>(
     processors: Vec<Processor<N, R, G>>,
     pipes: usize,
     takers: Vec<Consumer<Packet<N>>>,
@@ -137,7 +136,7 @@ pub struct SlowPathParts<N: Router> {
 }
 
 /// Takes the slow path and the controller's ends apart.
-pub fn part_slow_path<N: Router, R: Wait + Copy>(
+pub fn part_slow_path<N: Router, R: Copy>(
     slow: SlowPath<N, R>,
     shutters: Vec<Shutter<EgressPacket<N>>>,
     rows: Line<Ends<EgressPacket<N>>>,
@@ -180,7 +179,7 @@ pub struct ForwarderParts<N: Router, K> {
 }
 
 /// Takes the forwarders apart.
-pub fn part_forwarders<N: Router, K: Sink + Drop, R: Wait + Copy>(
+pub fn part_forwarders<N: Router, K: Sink + Drop, R: Copy>(
     forwarders: Vec<Forwarder<N, R, K>>,
     takers: Vec<Consumer<EgressPacket<N>>>,
     sinks: Vec<K>,

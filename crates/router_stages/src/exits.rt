@@ -63,6 +63,28 @@ fn pipe_for<N: Router>(shared: &Shared, egress_packet: &EgressPacket<N>) -> usiz
     2 * usize::from(link) + usize::from(high)
 }
 
+impl<N: Router, R: Copy> Exits<N, R> {
+    /// The ends of pipes, and the counts.
+    pub fn into_parts(
+        self,
+    ) -> (
+        Vec<Outlet<EgressPacket<N>>>,
+        Vec<Producer<Buffer>>,
+        Share<N>,
+    )
+        ensures { (result.0.items ≡ self.links) × (result.1.items ≡ self.free) × (result.2 ≡ self.share) }
+    {
+        let Exits {
+            rt: _,
+            shared: _,
+            links,
+            free,
+            share,
+        } = self;
+        (links, free, share)
+    }
+}
+
 impl<N: Router, R: Wait + Copy> Exits<N, R> {
     /// Whether each of its counts can still be raised.
     pub fn has_room(&self) -> bool
@@ -135,26 +157,6 @@ impl<N: Router, R: Wait + Copy> Exits<N, R> {
         ensures same { self.new ≡ with_share self.new.share self.old }
     {
         book.post(&self.rt, &mut self.share);
-    }
-
-    /// The ends of pipes, and the counts.
-    pub fn into_parts(
-        self,
-    ) -> (
-        Vec<Outlet<EgressPacket<N>>>,
-        Vec<Producer<Buffer>>,
-        Share<N>,
-    )
-        ensures { (result.0.items ≡ self.links) × (result.1.items ≡ self.free) × (result.2 ≡ self.share) }
-    {
-        let Exits {
-            rt: _,
-            shared: _,
-            links,
-            free,
-            share,
-        } = self;
-        (links, free, share)
     }
 
     /// Tries the end marks that are owed, of the high band's pipe of each link first, and says whether

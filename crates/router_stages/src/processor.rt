@@ -63,7 +63,7 @@ fn both(a: bool, b: bool) -> Turn
     if a && b { Turn::Ended } else { Turn::Quiet }
 }
 
-impl<N: Router, R: Wait + Copy, G: Gate + Drop> Processor<N, R, G> {
+impl<N: Router, R: Copy, G: Gate + Drop> Processor<N, R, G> {
     /// The processor of a number, which takes from its pipe, one producer a link, and offers to two pipes
     /// a link and to the slow path's; buffers go back by one pipe a link.
     pub fn new(
@@ -103,6 +103,34 @@ impl<N: Router, R: Wait + Copy, G: Gate + Drop> Processor<N, R, G> {
         }
     }
 
+    /// Its ends of pipes and its counts, which tell what it did.
+    pub fn into_parts(
+        self,
+    ) -> (
+        Inlet<Packet<N>>,
+        Vec<Outlet<EgressPacket<N>>>,
+        Outlet<SlowPathRequest<N>>,
+        Vec<Producer<Buffer>>,
+        Share<N>,
+    )
+        ensures parts { (result.0 ≡ self.taker) × (result.1.items ≡ self.side.links) × (result.2 ≡ self.slow) × (result.3.items ≡ self.side.free) × (result.4 ≡ self.side.share) }
+        ensures law { IsWorking self.side.config self.taker self.hand (senders self.side.links) self.slow.sender self.side.share }
+    {
+        let Processor {
+            rt: _,
+            gate: _,
+            index: _,
+            from,
+            hand: _,
+            slow,
+            exits,
+        } = self;
+        let (links, free, share) = exits.into_parts();
+        (from, links, slow, free, share)
+    }
+}
+
+impl<N: Router, R: Wait + Copy, G: Gate + Drop> Processor<N, R, G> {
     /// Whether each of its counts can still be raised.
     pub fn has_room(&self) -> bool
         ensures { MatchBool result (HasRoom self.now.side.share.counts) (HasRoom self.now.side.share.counts → ⊥) }
@@ -174,31 +202,5 @@ impl<N: Router, R: Wait + Copy, G: Gate + Drop> Processor<N, R, G> {
         ensures same { self.new ≡ posted self.new.side.share self.old }
     {
         self.exits.post(book);
-    }
-
-    /// Its ends of pipes and its counts, which tell what it did.
-    pub fn into_parts(
-        self,
-    ) -> (
-        Inlet<Packet<N>>,
-        Vec<Outlet<EgressPacket<N>>>,
-        Outlet<SlowPathRequest<N>>,
-        Vec<Producer<Buffer>>,
-        Share<N>,
-    )
-        ensures parts { (result.0 ≡ self.taker) × (result.1.items ≡ self.side.links) × (result.2 ≡ self.slow) × (result.3.items ≡ self.side.free) × (result.4 ≡ self.side.share) }
-        ensures law { IsWorking self.side.config self.taker self.hand (senders self.side.links) self.slow.sender self.side.share }
-    {
-        let Processor {
-            rt: _,
-            gate: _,
-            index: _,
-            from,
-            hand: _,
-            slow,
-            exits,
-        } = self;
-        let (links, free, share) = exits.into_parts();
-        (from, links, slow, free, share)
     }
 }

@@ -64,7 +64,7 @@ impl<N: Router, R: Wait + Copy> Exits<N, R> {
     }
 }
 
-impl<N: Router, R: Wait + Copy> SlowPath<N, R> {
+impl<N: Router, R: Copy> SlowPath<N, R> {
     /// The slow path, which takes from its pipe, one producer a processor, and offers to two pipes a
     /// link; buffers go back by one pipe a link.
     pub fn new(
@@ -92,6 +92,25 @@ impl<N: Router, R: Wait + Copy> SlowPath<N, R> {
         SlowPath { rt, from, exits }
     }
 
+    /// Its ends of pipes and its counts, which tell what it did.
+    pub fn into_parts(
+        self,
+    ) -> (
+        Inlet<SlowPathRequest<N>>,
+        Vec<Outlet<EgressPacket<N>>>,
+        Vec<Producer<Buffer>>,
+        Share<N>,
+    )
+        ensures parts { (result.0 ≡ self.taker) × (result.1.items ≡ self.side.links) × (result.2.items ≡ self.side.free) × (result.3 ≡ self.side.share) }
+        ensures law { IsAnswering self.side.config self.taker (senders self.side.links) self.side.share }
+    {
+        let SlowPath { rt: _, from, exits } = self;
+        let (links, free, share) = exits.into_parts();
+        (from, links, free, share)
+    }
+}
+
+impl<N: Router, R: Wait + Copy> SlowPath<N, R> {
     /// Whether each of its counts can still be raised.
     pub fn has_room(&self) -> bool
         ensures { MatchBool result (HasRoom self.now.side.share.counts) (HasRoom self.now.side.share.counts → ⊥) }
@@ -144,22 +163,5 @@ impl<N: Router, R: Wait + Copy> SlowPath<N, R> {
         ensures same { self.new ≡ posted self.new.side.share self.old }
     {
         self.exits.post(book);
-    }
-
-    /// Its ends of pipes and its counts, which tell what it did.
-    pub fn into_parts(
-        self,
-    ) -> (
-        Inlet<SlowPathRequest<N>>,
-        Vec<Outlet<EgressPacket<N>>>,
-        Vec<Producer<Buffer>>,
-        Share<N>,
-    )
-        ensures parts { (result.0 ≡ self.taker) × (result.1.items ≡ self.side.links) × (result.2.items ≡ self.side.free) × (result.3 ≡ self.side.share) }
-        ensures law { IsAnswering self.side.config self.taker (senders self.side.links) self.side.share }
-    {
-        let SlowPath { rt: _, from, exits } = self;
-        let (links, free, share) = exits.into_parts();
-        (from, links, free, share)
     }
 }

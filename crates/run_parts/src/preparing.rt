@@ -105,8 +105,7 @@ fn base_for<N: Router>(
 pub struct Prepared<N, G, R, A, B, C, D, S, K>
 where
     N: Router,
-    G: Gate + Drop,
-    R: Wait + Copy,
+    G: Gate,
     A: Work<N>,
     B: Work<N>,
     C: Work<N>,

@@ -27,7 +27,7 @@ use wired_workers::{
 
 /// The pipes, and what the workers are made of, before any device is taken.
 #[derive(Drop)]
-pub struct WorkerParts<N: Router, G: Gate + Drop, R: Wait + Copy> {
+pub struct WorkerParts<N: Router, G: Gate, R> {
     pub receivers: Vec<Entering<N>>,
     pub processors: Vec<Processor<N, R, G>>,
     pub slow: SlowPath<N, R>,
@@ -38,13 +38,13 @@ pub struct WorkerParts<N: Router, G: Gate + Drop, R: Wait + Copy> {
 
 /// The workers after the receivers, and the controller's ends.
 #[derive(Drop)]
-struct AfterReceivers<N: Router, G: Gate + Drop, R: Wait + Copy> {
+struct AfterReceivers<N: Router, G: Gate, R> {
     deciding: Deciding<N, G, R>,
     forwarders: Vec<Leaving<N>>,
     shutters: Vec<Shutter<EgressPacket<N>>>,
 }
 
-fn after_receivers<N: Router, G: Gate + Drop, R: Wait + Copy>(
+fn after_receivers<N: Router, G: Gate + Drop, R: Copy>(
     rt: R,
     alloc: Global,
     common: &Common,

@@ -50,7 +50,7 @@ fn end_of<T>(load: &Load<T>) -> usize
     }
 }
 
-impl<T: Drop> Inlet<T> {
+impl<T> Inlet<T> {
     /// The inlet of a consumer that has taken nothing yet, whose pipe has this number of producers.
     pub fn of(consumer: Consumer<T>, producers: usize) -> Inlet<T>
         requires fresh { consumer.taken ≡ [] }
@@ -72,17 +72,6 @@ impl<T: Drop> Inlet<T> {
         self.ends == self.producers
     }
 
-    /// Takes what is at the front. At `None` the pipe was empty at one moment of the call, and the
-    /// look is noted.
-    pub fn take<R: Wait>(&mut self, rt: &R) -> Option<Load<T>>
-        requires { ends_in self.old.taken < self.old.producers }
-        ensures { MatchOption result (self.new ≡ looked self.old) (λ load. (from : ℕ) × (from < self.old.producers) × (self.new ≡ took self.old (entry from load))) }
-    {
-        let Entry { from: _, load } = self.consumer.take(rt)?;
-        self.ends += end_of(&load);
-        Some(load)
-    }
-
     /// The consumer, with what it took.
     pub fn into_consumer(self) -> Consumer<T>
         ensures { result ≡ self }
@@ -93,5 +82,18 @@ impl<T: Drop> Inlet<T> {
             ends: _,
         } = self;
         consumer
+    }
+}
+
+impl<T: Drop> Inlet<T> {
+    /// Takes what is at the front. At `None` the pipe was empty at one moment of the call, and the
+    /// look is noted.
+    pub fn take<R: Wait>(&mut self, rt: &R) -> Option<Load<T>>
+        requires { ends_in self.old.taken < self.old.producers }
+        ensures { MatchOption result (self.new ≡ looked self.old) (λ load. (from : ℕ) × (from < self.old.producers) × (self.new ≡ took self.old (entry from load))) }
+    {
+        let Entry { from: _, load } = self.consumer.take(rt)?;
+        self.ends += end_of(&load);
+        Some(load)
     }
 }

@@ -38,7 +38,7 @@ impl<T: Drop> Drop for Outlet<T> {
     }
 }
 
-impl<T: Drop> Outlet<T> {
+impl<T> Outlet<T> {
     /// The end of a producer that pushed nothing yet, and the event on which its pipe's consumer sleeps, if
     /// it has one.
     pub fn of(producer: Producer<T>, event: Option<Event>) -> Outlet<T>
@@ -59,6 +59,22 @@ impl<T: Drop> Outlet<T> {
         self.ended
     }
 
+    /// The producer: it never closed its pipe, and where it ended, its end mark is its last offer and
+    /// its only mark.
+    pub fn into_producer(self) -> Producer<T>
+        ensures same { result ≡ self.sender }
+        ensures marks { IsMarked result self.ended }
+    {
+        let Outlet {
+            producer,
+            ended: _,
+            event: _,
+        } = self;
+        producer
+    }
+}
+
+impl<T: Drop> Outlet<T> {
     /// Offers an item. At `Full` it comes back, and the refusal is noted.
     pub fn offer<R: Wait>(&mut self, rt: &R, item: T) -> Result<(), Full<T>>
         requires { self.old.ended ≡ false }
@@ -85,19 +101,5 @@ impl<T: Drop> Outlet<T> {
             }
             Err(_) => false,
         }
-    }
-
-    /// The producer: it never closed its pipe, and where it ended, its end mark is its last offer and
-    /// its only mark.
-    pub fn into_producer(self) -> Producer<T>
-        ensures same { result ≡ self.sender }
-        ensures marks { IsMarked result self.ended }
-    {
-        let Outlet {
-            producer,
-            ended: _,
-            event: _,
-        } = self;
-        producer
     }
 }

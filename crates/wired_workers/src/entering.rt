@@ -23,8 +23,8 @@ use ruled_pipe::{Consumer, Pipe};
 use stage_parts::{Buffer, Outlet, Packet, Router, Source, both};
 use std::alloc::{AllocError, Global};
 use std::marker::Model;
+use std::sync::Arc;
 use std::sync::atomic::AtomicU64;
-use std::sync::{Arc, Wait};
 
 /// All that a receiver is made of but its source.
 pub struct Entering<N: Router> {
@@ -69,7 +69,7 @@ impl<N: Router> Drop for Entering<N> {
 
 impl<N: Router> Entering<N> {
     // The receiver over a source.
-    fn over<S: Source, R: Wait + Copy>(self, rt: R, source: S) -> Receiver<N, R, S>
+    fn over<S: Source, R: Copy>(self, rt: R, source: S) -> Receiver<N, R, S>
         requires { ToldNothing (S.told source) }
         ensures { result ≡ first_receiving self.config self.link source self.free self.processors }
     {
@@ -162,7 +162,7 @@ pub fn all_entering<N: Router>(
 }
 
 /// The receivers over their sources. It takes no memory.
-pub fn receivers_of<N: Router, S: Source + Drop, R: Wait + Copy>(
+pub fn receivers_of<N: Router, S: Source + Drop, R: Copy>(
     rt: R,
     entering: Vec<Entering<N>>,
     sources: Vec<S>,

@@ -22,7 +22,7 @@ use ruled_pipe::{Consumer, Pipe, Producer};
 use stage_parts::{Buffer, EgressPacket, Router, Sink};
 use std::alloc::{AllocError, Global};
 use std::marker::Model;
-use std::sync::{Arc, Wait};
+use std::sync::Arc;
 
 /// All that a forwarder is made of but its sink.
 pub struct Leaving<N: Router> {
@@ -64,7 +64,7 @@ impl<N: Router> Drop for Leaving<N> {
 
 impl<N: Router> Leaving<N> {
     // The forwarder over a sink.
-    fn over<K: Sink, R: Wait + Copy>(self, rt: R, sink: K) -> Forwarder<N, R, K>
+    fn over<K: Sink, R: Copy>(self, rt: R, sink: K) -> Forwarder<N, R, K>
         requires { ToldNothing (K.told sink) }
         ensures { result ≡ first_forwarding self.link self.low self.high (K.failed sink) (first_delivery self.config sink self.free) }
     {
@@ -139,7 +139,7 @@ pub fn all_leaving<N: Router>(
 }
 
 /// The forwarders over their sinks. It takes no memory.
-pub fn forwarders_of<N: Router, K: Sink + Drop, R: Wait + Copy>(
+pub fn forwarders_of<N: Router, K: Sink + Drop, R: Copy>(
     rt: R,
     leaving: Vec<Leaving<N>>,
     sinks: Vec<K>,

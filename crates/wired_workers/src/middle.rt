@@ -26,7 +26,7 @@ use stage_parts::{
 };
 use std::alloc::{AllocError, Global};
 use std::marker::Model;
-use std::sync::{Arc, Wait};
+use std::sync::Arc;
 
 /// A worker's ends of the links' pipes and of those of free buffers, and its share.
 #[derive(Drop)]
@@ -118,7 +118,7 @@ fn own_of<N: Router, G: Drop>(
 }
 
 // The processor over what it has of its own, and its ends of the pipes around it.
-fn processor_at<N: Router, G: Gate + Drop, R: Wait + Copy>(
+fn processor_at<N: Router, G: Gate + Drop, R: Copy>(
     rt: R,
     own: Own<N, G>,
     index: u8,
@@ -147,7 +147,7 @@ fn processor_at<N: Router, G: Gate + Drop, R: Wait + Copy>(
 }
 
 // The processors, each with its consumer, its end of the slow path's pipe and its ways.
-fn processors_of<N: Router, G: Gate + Drop, R: Wait + Copy>(
+fn processors_of<N: Router, G: Gate + Drop, R: Copy>(
     rt: R,
     alloc: Global,
     common: &Common,
@@ -185,7 +185,7 @@ fn processors_of<N: Router, G: Gate + Drop, R: Wait + Copy>(
 }
 
 // The slow path over the configuration, its consumer and its ways.
-fn slow_path_of<N: Router, R: Wait + Copy>(
+fn slow_path_of<N: Router, R: Copy>(
     rt: R,
     shared: Arc<Shared, Global>,
     taker: Consumer<SlowPathRequest<N>>,
@@ -205,7 +205,7 @@ fn slow_path_of<N: Router, R: Wait + Copy>(
 }
 
 // The slow path, which feeds the links' pipes by a new bundle.
-fn slow_path_with<N: Router, R: Wait + Copy>(
+fn slow_path_with<N: Router, R: Copy>(
     rt: R,
     alloc: Global,
     common: &Common,
@@ -230,13 +230,13 @@ fn slow_path_with<N: Router, R: Wait + Copy>(
 
 /// The processors and the slow path.
 #[derive(Drop)]
-pub struct Deciding<N: Router, G: Gate + Drop, R: Wait + Copy> {
+pub struct Deciding<N: Router, G: Gate, R> {
     pub processors: Vec<Processor<N, R, G>>,
     pub slow: SlowPath<N, R>,
 }
 
 /// All that decide and answer, each with its ends of the pipes around it, and with the next of what is left.
-pub fn deciding_of<N: Router, G: Gate + Drop, R: Wait + Copy>(
+pub fn deciding_of<N: Router, G: Gate + Drop, R: Copy>(
     rt: R,
     alloc: Global,
     common: &Common,
