@@ -16,8 +16,12 @@ module _ {S G K : Type 0} (failed : K → ℕ) where
     pub began : map (λ (f : Forwarding K). f.began) r.crew.forwarders ≡ map failed sinks
 
 module _ {S K : Type 0} where
+  -- one source and one sink a link
+  abbrev pub IsOneALink : ℕ → List S → List K → Type 0
+  IsOneALink links xs ys = (length xs ≡ links) × (length ys ≡ links)
+
   -- Both lists come back as they were; the count is wrong just where one has not one device a link.
   abbrev pub GivesBack : ℕ → StartFault S K → List S → List K → Type 0
   GivesBack links (NoMemory a b) xs ys = (a.items ≡ xs) × (b.items ≡ ys)
-  GivesBack links (Count a b) xs ys = (a.items ≡ xs) × (b.items ≡ ys) × ((length xs ≡ links) × (length ys ≡ links) → ⊥)
+  GivesBack links (Count a b) xs ys = (a.items ≡ xs) × (b.items ≡ ys) × (IsOneALink links xs ys → ⊥)
   GivesBack links Thread xs ys = Unit {0}

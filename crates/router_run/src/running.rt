@@ -1,6 +1,6 @@
 //! A router: started by one call, ended by another.
 
-ghost use Rattle.std.specs.Prelude.{◌≡◌, ◌≤◌, ◌+◌, ◌*◌, ◌∷◌, MatchResult, Some, [], length, vec_capacity};
+ghost use Rattle.std.specs.Prelude.{◌≡◌, ◌≤◌, ◌+◌, ◌*◌, ◌∷◌, MatchBool, MatchResult, Some, [], length, vec_capacity};
 ghost use Rattle.std.specs.Arc.{arc_value};
 ghost use Rattle.pipeline_laws.specs.Deeds.{Each};
 ghost use Rattle.router_laws.specs.Heard.{ToldNothing};
@@ -11,7 +11,7 @@ ghost use Rattle.wired_workers.specs.Kits.{forwardings, receivings};
 ghost use Rattle.run_parts.specs.WorkerParts.{AreWorkerParts};
 ghost use Rattle.run_parts.specs.Room.{HaveWorkerSlots, HaveSpace};
 ghost use Rattle.router_run.specs.Run.{HasRun};
-ghost use Rattle.router_run.specs.Starting.{Begins, GivesBack};
+ghost use Rattle.router_run.specs.Starting.{Begins, GivesBack, IsOneALink};
 
 use crate::closing::Controller;
 use crate::fault::{CloseFault, StartFault};
@@ -81,6 +81,14 @@ where
     ghost invariant = { λ r. (N.workers ≡ 2 * link_count (arc_value r.controller.shared).config + (arc_value r.controller.shared).config.processors + 1) × IsCrew (arc_value r.controller.shared).config (piping r.pipes.inner.items r.pipes.middle r.pipes.outer.items) (crew_of (map (λ h. h.promise.0.value) r.threads.0.first.items) (map (λ h. h.promise.0.value) r.threads.0.second.items) (map (λ h. h.promise.0.value) r.threads.1.first.items) (map (λ h. h.promise.0.value) r.threads.1.second.items) r.controller.shutters.items) × HaveLeft (link_count (arc_value r.controller.shared).config) 0 r.pipes.inner.items r.pipes.inner_rooms.items × HaveLeft ((arc_value r.controller.shared).config.processors + 2) 0 r.pipes.outer.items r.pipes.outer_rooms.items × HaveWorkerSlots (link_count (arc_value r.controller.shared).config) (arc_value r.controller.shared).config.processors r.reserve.worker_slots × HaveSpace (link_count (arc_value r.controller.shared).config) (arc_value r.controller.shared).config.processors r.reserve.space };
 }
 
+// Whether there is one source and one sink a link.
+fn is_one_a_link<S, K>(config: &Config, sources: &Vec<S>, sinks: &Vec<K>) -> bool
+    ensures { MatchBool result (IsOneALink (link_count config.now) sources.now.items sinks.now.items) (IsOneALink (link_count config.now) sources.now.items sinks.now.items → ⊥) }
+{
+    let links = link_count(config);
+    sources.len() == links && sinks.len() == links
+}
+
 /// Starts a router with this configuration: one thread a worker, over one source and one sink a link,
 /// in ascending order of the links' interfaces, that of the internal network, 0, first.
 pub fn start<N, S, K, G, R>(
@@ -105,11 +113,7 @@ where
     requires sinks { Each (λ k. ToldNothing (K.told k)) sinks.items }
     ensures { MatchResult result (λ r. Begins K.failed config sources.items sinks.items r) (λ f. GivesBack (link_count config) f sources.items sinks.items) }
 {
-    let links = link_count(&config);
-    if sources.len() != links {
-        return Err(StartFault::Count { sources, sinks });
-    }
-    if sinks.len() != links {
+    if !is_one_a_link(&config, &sources, &sinks) {
         return Err(StartFault::Count { sources, sinks });
     }
     match prepare(rt, alloc, blank, config, gate) {
@@ -268,7 +272,11 @@ where
             pipes,
             reserve,
         }),
-        Err(_) => Err(StartFault::Thread),
+        Err(_) => {
+            drop(pipes);
+            drop(reserve);
+            Err(StartFault::Thread)
+        }
     }
 }
 

@@ -43,6 +43,12 @@ run-requires-clause-worker_slots g c κs within = worker_slots_as _ _ _ c.in-Ok.
 pub run-requires-clause-space : goal.run-requires-clause-space
 run-requires-clause-space g c κs within = space_for _ _ _ c.in-Ok.ensures.shared c.in-Ok.ensures.space
 
+pub run-requires-clause-sources : goal.run-requires-clause-sources
+run-requires-clause-sources g c κs within = (c.requires.sources, c.if-not-is_one_a_link.ensures.0 ∙ ap link_count (sym c.in-Ok.ensures.shared))
+
+pub run-requires-clause-sinks : goal.run-requires-clause-sinks
+run-requires-clause-sinks g c κs within = (c.requires.sinks, c.if-not-is_one_a_link.ensures.1 ∙ ap link_count (sym c.in-Ok.ensures.shared))
+
 pub run-requires-clause-workers : goal.run-requires-clause-workers
 run-requires-clause-workers g c κs within = c.requires.workers ∙ ap (λ (k : Config). 2 * link_count k + k.processors + 1) (sym c.in-Ok.ensures.shared)
 
