@@ -1,5 +1,5 @@
 -- Bundles in the workers' hands.
-use Rattle.std.proofs.Common.{◌≡◌, ℕ, zero, suc, ◌+◌, ◌<◌, ◌≤◌, Bool, true, false, List, [], ◌∷◌, ◌++◌, length, slice_get, Some, refl, sym, ap, subst, ◌∙◌, arith, length-append}
+use Rattle.std.proofs.Common.{◌≡◌, ℕ, zero, suc, ◌+◌, ◌<◌, ◌≤◌, Bool, true, false, List, [], ◌∷◌, ◌++◌, length, slice_get, Some, refl, sym, ap, subst, ◌∙◌, arith, append_assoc, append-nil, length-append}
 use Rattle.std.proofs.lemmas.List.{map-append}
 use Rattle.pipeline_laws.specs.Deeds.{closes, has_mark}
 use Rattle.ruled_pipe.specs.declared.entry.Entry.{Entry}
@@ -22,6 +22,15 @@ new_ends T p (s ∷ ss) = ((refl, refl, refl, refl), new_ends T p ss)
 pub nothing_left : {X : Type 0} (l : List X) → length l ≡ 0 → l ≡ []
 nothing_left [] h = refl
 nothing_left (x ∷ xs) h = absurd (omega arith)
+
+-- what is taken of a list: one more, and all
+module _ {X : Type 0} where
+  pub one_taken : (xs old new all : List X) (x : X) → old ≡ x ∷ new → xs ++ old ≡ all → (xs ++ x ∷ []) ++ new ≡ all
+  one_taken xs old new all x is split = append_assoc xs (x ∷ []) new ∙ (ap (λ (l : List X). xs ++ l) (sym is) ∙ split)
+
+  pub all_taken : (xs old all given : List X) (n : ℕ) → xs ++ old ≡ all → n ≡ length old → n ≡ 0 → all ≡ given → xs ≡ given
+  all_taken xs [] all given n split long none same = sym (append-nil xs) ∙ (split ∙ same)
+  all_taken xs (y ∷ old) all given n split long none same = absurd (omega arith)
 
 module _ {T : Type 0} where
   fresh_mid : (p : ℕ) (shapes : List Shape) (xs rest : List (Sender T)) (e : Sender T) → xs ++ e ∷ rest ≡ fresh_ends p shapes → (e.offers ≡ []) × (e.refusals ≡ [])
@@ -77,7 +86,14 @@ module _ {T : Type 0} where
   senders_long [] = refl
   senders_long (o ∷ os) = ap suc (senders_long os)
 
+  pub outlets_none : (there : ℕ → Bool) (os : List (Offering T)) → os ≡ [] → (senders os ≡ []) × AreFresh os × HaveEvents there 0 os
+  outlets_none there os none = subst (λ (l : List (Offering T)). (senders l ≡ []) × AreFresh l × HaveEvents there 0 l) (sym none) (refl, tt, tt)
+
   -- there is room for one more
+  pub one_fewer : (os : List (Offering T)) (xs old new all : List (Sender T)) (e : Sender T) → senders os ≡ xs → old ≡ e ∷ new → xs ++ old ≡ all → length os < length all
+  one_fewer os xs old new all e were is split =
+      let a = ap length were in let b = senders_long os in let c = ap length is in let d = ap length split in omega (arith, length-append xs old)
+
   pub one_short : (all os rest : List (Offering T)) (o : Offering T) (row : List (Sender T)) (room : ℕ) → os ++ o ∷ rest ≡ all → row ≡ senders os → length all ≤ room → length row < room
   one_short all os rest o row room split same fits =
       let a = ap length split in let b = ap length same in let c = senders_long os in omega (arith, length-append os (o ∷ rest))

@@ -99,6 +99,9 @@ module _ {T : Type 0} where
         cc,
       )
 
+  pub none_dealt : (shapes : List Shape) (n : ℕ) (bs : List (Row T)) → bs ≡ [] → DealtDown shapes n bs
+  none_dealt shapes n bs none = subst (λ (l : List (Row T)). DealtDown shapes n l) (sym none) tt
+
   pub dealt_next : (shapes : List Shape) (n p : ℕ) (bs : List (Row T)) (b : Row T) → DealtDown shapes n bs → length bs + suc p ≡ n → b.ends ≡ fresh_ends p shapes → DealtDown shapes n (bs ++ b ∷ [])
   dealt_next shapes zero p [] b down e is = absurd (omega arith)
   dealt_next shapes (suc m) p [] b down e is = let same : p ≡ m = omega arith in (is ∙ ap (λ (k : ℕ). fresh_ends k shapes) same, tt)

@@ -7,7 +7,7 @@ use Rattle.ruled_pipe.specs.declared.entry.Load.TheVariants.{Marked}
 use Rattle.ruled_pipe.specs.declared.entry.Mark.{Mark}
 use Rattle.ruled_pipe.specs.declared.entry.Mark.TheVariants.{Close, End}
 use Rattle.ruled_pipe.specs.Gathered.{end_of, ends_in}
-use Rattle.ruled_pipe.specs.Producer.{Sender, entry, offered}
+use Rattle.ruled_pipe.specs.Producer.{Sender, entry, offered, refused}
 use Rattle.ruled_pipe.specs.Pipe.{Shape, IsEndOf}
 use Rattle.stage_laws.specs.Ends.{load_in, pushes}
 use Rattle.router_ends.specs.Rows.{AreEndsOf}
@@ -54,6 +54,19 @@ module _ {T : Type 0} where
     there = λ z. absurd (let w = sym e ∙ z in cc);
     spared = λ z. absurd (let w = sym u ∙ z in cc);
   }
+
+  -- the mark is there now, or was refused
+  pub closing_there : (s new : Sender T) (used closed ended : Bool) (h : Shutting T) → shutting s used closed ended ≡ h → closed ≡ false → new ≡ offered s (entry s.number (Marked Close))
+      → (h.closed ≡ false) × (shutting new used true ended ≡ shutting (offered h.end (entry h.end.number (Marked Close))) h.used true h.ended)
+  closing_there s new used closed ended h is un step =
+      subst (λ (x : Shutting T). (x.closed ≡ false) × (shutting new used true ended ≡ shutting (offered x.end (entry x.end.number (Marked Close))) x.used true x.ended)) is (un, ap (λ (x : Sender T). shutting x used true ended) step)
+
+  pub closing_full : (s new : Sender T) (used closed ended : Bool) (h : Shutting T) → shutting s used closed ended ≡ h → closed ≡ false → new ≡ refused s (entry s.number (Marked Close))
+      → (h.closed ≡ false) × (shutting new used closed ended ≡ shutting (refused h.end (entry h.end.number (Marked Close))) h.used false h.ended)
+  closing_full s new used closed ended h is un step =
+      let at = entry s.number (Marked Close) in
+      subst (λ (x : Shutting T). (x.closed ≡ false) × (shutting new used closed ended ≡ shutting (refused x.end (entry x.end.number (Marked Close))) x.used false x.ended)) is
+      (un, ap (λ (x : Sender T). shutting x used closed ended) step ∙ ap (λ (b : Bool). shutting (refused s at) used b ended) un)
 
   pub ended_now : (s : Sender T) (used closed ended : Bool) → IsShutting (shutting s used closed ended) → used ≡ true → ended ≡ false → IsShutting (shutting (offered s (entry s.number (Marked End))) used closed true)
   ended_now s used closed ended is u e = record {
@@ -117,6 +130,9 @@ module _ {T : Type 0} where
   new_long uses k [] (h ∷ hs) a = absurd a
   new_long uses k (e ∷ es) [] a = absurd a
   new_long uses k (e ∷ es) (h ∷ hs) a = ap suc (new_long uses (suc k) es hs a.1)
+
+  pub new_none : (uses : ℕ → Bool) (hs : List (Shutting T)) → hs ≡ [] → AreNew uses 0 [] hs
+  new_none uses hs none = subst (λ (l : List (Shutting T)). AreNew uses 0 [] l) (sym none) tt
 
   pub new_open : (uses : ℕ → Bool) (k : ℕ) (es : List (Sender T)) (hs : List (Shutting T)) → AreNew uses k es hs → AreOpen hs
   new_open uses k [] [] a = tt

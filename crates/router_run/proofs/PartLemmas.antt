@@ -12,6 +12,10 @@ module _ {X : Type 0} where
   each_none P [] none = tt
   each_none P (x ∷ xs) none = absurd (omega arith)
 
+  -- nothing is left once as many were taken as there were
+  pub none_left : (k n m : ℕ) (xs : List X) → n ≤ k → n ≡ m → k + length xs ≡ m → length xs ≡ 0
+  none_left k n m xs all same left = omega arith
+
   pub longer : (k : ℕ) (old new : List X) (x : X) → new ≡ old ++ x ∷ [] → length old ≡ k → length new ≡ k + 1
   longer k old new x e long = let a = ap length e in let b = length-append old (x ∷ []) in omega arith
 

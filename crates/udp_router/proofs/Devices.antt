@@ -1,6 +1,6 @@
 -- The interfaces of the links, one by one, and what the start of a router with a device a link gives.
-use Rattle.std.proofs.Common.{◌≡◌, ◌≤◌, ◌+◌, ℕ, List, [], ◌∷◌, ◌++◌, length, map, ap, sym, subst, ◌∙◌, arith}
-use Rattle.std.specs.List.{range_with_len}
+use Rattle.std.proofs.Common.{◌≡◌, ◌≤◌, ◌+◌, ℕ, List, [], ◌∷◌, ◌++◌, length, map, None, Some, ap, sym, subst, ◌∙◌, arith}
+use Rattle.std.specs.List.{AllByRecursion, range_with_len}
 use Rattle.std.proofs.lemmas.List.{length-replicate}
 use Rattle.std.proofs.lemmas.List.FromFn.{length-map-range_with_len, map-range_with_len_more}
 use Rattle.process_packet.specs.declared.config.Config.{Config}
@@ -25,6 +25,11 @@ pub all_there : (f : ℕ → ℕ) (all : List ℕ) (n end count : ℕ) → all �
 all_there f all n end count so_far up down is =
     let last : n ≡ end = omega arith in
     so_far ∙ ap (λ k. map f (range_with_len 0 k)) (last ∙ is)
+
+-- devices that don't tell told nothing
+pub untold : (X Y : Type 0) (xs : List X) → AllByRecursion (λ (x : X). (ys : List Y) → None ≡ Some ys → ys ≡ []) xs
+untold X Y [] = tt
+untold X Y (x ∷ xs) = (λ ys no. cc, untold X Y xs)
 
 -- a router that began with new devices is new
 pub is_new : (c : Config) (r : Router) (sources : List ℕ) (sinks : List Sending) → sources ≡ new_sources c → sinks ≡ new_sinks c → Begins (λ (k : Sending). k.failed) c sources sinks r → IsNew c r

@@ -1,13 +1,19 @@
 -- From the engine's words to those of a router over its sockets.
-use Rattle.std.proofs.Common.{◌≡◌, inl, inr, ℕ, List, Option, Some, None, Result, Ok, Err, refl, subst, IfSome}
+use Rattle.std.proofs.Common.{◌≡◌, inl, inr, ℕ, List, Option, Some, None, Result, Ok, Err, refl, sym, subst, IfSome}
 use Rattle.process_packet.specs.declared.config.Config.{Config}
 use Rattle.router_engine.specs.Lines.{lines_of}
 use Rattle.router_engine.specs.declared.fault.LinesFault.{LinesFault}
 use Rattle.router_engine.specs.declared.fault.LinesFault.TheVariants as faults
+use Rattle.router_run.specs.declared.fault.StartFault.{StartFault}
+use Rattle.router_run.specs.declared.fault.StartFault.TheVariants as begin
 use Rattle.run_engine.specs.Run.{Ran}
+use Rattle.run_engine.specs.declared.fault.RunFault.{RunFault}
 use Rattle.run_engine.specs.declared.fault.RunFault.TheVariants as fault
+use Rattle.udp_devices.specs.declared.binding.BindFault.{BindFault}
+use Rattle.udp_devices.specs.declared.binding.BindFault.TheVariants as bind
+use Rattle.udp_devices.specs.Devices.{Sending}
 use Rattle.udp_router.specs.OverUdp.{Closes, Router, Tells}
-use Rattle.udp_router.specs.Run.{IsNew, Leads, Runs, ascending}
+use Rattle.udp_router.specs.Run.{IsNew, Leads, Runs, ascending, unbound, unstarted}
 
 module _ (c : Config) (ids : List ℕ) (r : Router) (are : ids ≡ ascending c) (new : IsNew c r) (before after : Option (List ℕ)) where
   leads : (result : Result (Unit {0}) LinesFault) (input : List ℕ) → Ran Closes Tells ids r result (lines_of input) before after → Leads c result (lines_of input) before after
@@ -29,3 +35,15 @@ module _ (c : Config) (ids : List ℕ) (r : Router) (are : ids ≡ ascending c) 
 pub lacked : (c : Config) (known before : Option (List ℕ)) → IfSome known (λ input. Runs c (Err (fault.Lines faults.Memory)) (lines_of input) before before)
 lacked c None before = tt
 lacked c (Some input) before = inl (refl, refl)
+
+-- nor where sockets couldn't be had, nor where the router wasn't started
+pub not_bound : (c : Config) (f : BindFault) (e : RunFault) (known before : Option (List ℕ)) → e ≡ unbound f → IfSome known (λ input. Runs c (Err e) (lines_of input) before before)
+not_bound c f e None before is = tt
+not_bound c (bind.Socket link) e (Some input) before is = subst (λ (x : RunFault). Runs c (Err x) (lines_of input) before before) (sym is) refl
+not_bound c bind.Memory e (Some input) before is = subst (λ (x : RunFault). Runs c (Err x) (lines_of input) before before) (sym is) (inl (refl, refl))
+
+pub not_started : (c : Config) (f : StartFault ℕ Sending) (e : RunFault) (known before : Option (List ℕ)) → e ≡ unstarted f → IfSome known (λ input. Runs c (Err e) (lines_of input) before before)
+not_started c f e None before is = tt
+not_started c (begin.NoMemory a b) e (Some input) before is = subst (λ (x : RunFault). Runs c (Err x) (lines_of input) before before) (sym is) refl
+not_started c (begin.Count a b) e (Some input) before is = subst (λ (x : RunFault). Runs c (Err x) (lines_of input) before before) (sym is) refl
+not_started c begin.Thread e (Some input) before is = subst (λ (x : RunFault). Runs c (Err x) (lines_of input) before before) (sym is) refl

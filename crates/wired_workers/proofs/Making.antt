@@ -1,5 +1,5 @@
 -- A worker made of what is next of each list.
-use Rattle.std.proofs.Common.{◌≡◌, ℕ, zero, suc, ◌+◌, List, [], ◌∷◌, ◌++◌, length, Some, slice_get, sym, ◌∙◌, ap, subst, arith, append-nil, length-append}
+use Rattle.std.proofs.Common.{◌≡◌, ℕ, zero, suc, ◌+◌, List, [], ◌∷◌, ◌++◌, length, Some, slice_get, sym, ◌∙◌, ap, subst, arith, append_assoc, append-nil, length-append}
 use Rattle.packet_ledger.specs.Share.{Held, new_share}
 use Rattle.pipeline_laws.specs.Deeds.{Each}
 use Rattle.pipeline_laws.specs.Item.{Arrival, Outgoing}
@@ -28,6 +28,12 @@ pub one_gone : (n : ℕ) (all old new : List Held) (x : Held) → old ≡ x ∷ 
 one_gone n all old new x is gone =
     let e = subst (λ (xs : List Held). Each (λ (s : Held). s ≡ new_share) xs) is gone.each in
     record { each = e.1; count = let c = gone.count in let l = ap length is in omega arith }
+
+-- the next of them is new
+pub next_new : (n : ℕ) (all old new : List Held) (x : Held) → old ≡ x ∷ new → HaveGone n all old → x ≡ new_share
+next_new n all old new x is gone =
+    let e = subst (λ (xs : List Held). Each (λ (s : Held). s ≡ new_share) xs) is gone.each in
+    e.0
 
 producers_at : (n : ℕ) (ss : List Shape) (i : ℕ) (s : Shape) → AreFor n ss → slice_get ss i ≡ Some s → s.producers ≡ n
 producers_at n [] i s all at = cc
@@ -83,10 +89,16 @@ module _ {X : Type 0} where
   pub all_made : (P : ℕ → X → Type 0) (k n : ℕ) (xs : List X) → k ≡ n → length xs ≡ k → AllAt P 0 xs → IsRest P 0 n xs
   all_made P k n xs same long all = record { each = all; count = let e = long ∙ same in omega arith }
 
--- what two lists make by turns, after what was made already: at first, and once nothing is left
+-- what two lists make by turns, after what was made already: at first, after one more, and once nothing is left
 module _ {X Y Z : Type 0} (f : List X → List Y → List Z) where
   pub paired_first : (room : List Z) (xs us : List X) (ys vs : List Y) → room ≡ [] → xs ≡ us → ys ≡ vs → room ++ f xs ys ≡ f us vs
   paired_first room xs us ys vs a b d = ap (λ (zs : List Z). zs ++ f xs ys) a ∙ (ap (λ (ws : List X). f ws ys) b ∙ ap (λ (ws : List Y). f us ws) d)
+
+  pub paired_next : (one : X → Y → Z) → ((x : X) (us : List X) (y : Y) (vs : List Y) → one x y ∷ f us vs ≡ f (x ∷ us) (y ∷ vs)) → (made new : List Z) (z : Z) (xs us : List X) (ys vs : List Y) (x : X) (y : Y) (all : List Z)
+      → z ≡ one x y → xs ≡ x ∷ us → ys ≡ y ∷ vs → new ≡ made ++ z ∷ [] → made ++ f xs ys ≡ all → new ++ f us vs ≡ all
+  paired_next one first made new z xs us ys vs x y all same a b pushed is =
+      let back : z ∷ f us vs ≡ f xs ys = ap (λ (w : Z). w ∷ f us vs) same ∙ (first x us y vs ∙ (ap (λ (ws : List X). f ws (y ∷ vs)) (sym a) ∙ ap (λ (ws : List Y). f xs ws) (sym b))) in
+      ap (λ (zs : List Z). zs ++ f us vs) pushed ∙ (append_assoc made (z ∷ []) (f us vs) ∙ (ap (λ (zs : List Z). made ++ zs) back ∙ is))
 
   pub paired_last : ((ys : List Y) → f [] ys ≡ []) → (made : List Z) (xs : List X) (ys : List Y) (all : List Z) → length xs ≡ 0 → made ++ f xs ys ≡ all → made ≡ all
   paired_last none made [] ys all long is = sym (append-nil made) ∙ (ap (λ (zs : List Z). made ++ zs) (sym (none ys)) ∙ is)

@@ -1,7 +1,7 @@
 use Rattle.std.proofs.Common.{◌≡◌, ℕ, suc, ◌+◌, ◌-◌, List, [], ◌∷◌, length, sym, ap, subst, ◌∙◌, arith, length-append}
 use Rattle.std.proofs.lemmas.List.{length-reverse}
 use Rattle.router_ends.specs.Rows.{AreDealt, DealtDown, HaveLeft, Row}
-use Rattle.router_ends.proofs.RowLemmas.{have_full, rowed_left, dealt_next, dealt_turned}
+use Rattle.router_ends.proofs.RowLemmas.{have_full, rowed_left, dealt_next, dealt_turned, none_dealt}
 use Rattle.router_ends.proofs.dealing.deal_rows.Goals as goal
 
 pub last_row-bundle-requires-clause-full : goal.last_row-bundle-requires-clause-full
@@ -24,7 +24,7 @@ loop-j-preserved g c =
       ap length c.push_reserved.ensures.items ∙ (let l = at.invariant.0 in omega (arith, length-append at.bundles.items (c.last_row-bundle.result ∷ []))),
       rw c.push_reserved.ensures.capacity at.invariant.1,
       rowed.0,
-      subst P (sym c.push_reserved.ensures.items) next,
+      subst P (sym {A = List (Row g.row.T.Denot)} c.push_reserved.ensures.items) next,
     )
 
 pub returns-clause-dealt : goal.returns-clause-dealt
@@ -33,3 +33,25 @@ returns-clause-dealt g c =
     let all : length at.bundles.items ≡ c.args.workers = let a = at.auto.j-end in let f = c.loop-j-test.false in let l = at.invariant.0 in omega arith in
     let P : List (Row g.row.T.Denot) → Type 0 = λ l. (length l ≡ c.args.workers) × AreDealt c.args.pipes.now.items 0 l in
     subst P (sym c.reverse.ensures.items) (length-reverse at.bundles.items ∙ all, dealt_turned c.args.pipes.now.items c.args.workers at.bundles.items at.invariant.3 all)
+
+pub loop-j-init : goal.loop-j-init
+loop-j-init g c =
+    let n = c.args.workers in
+    let all : n ≡ n - 0 = omega arith in
+    let none = c.in_ok-bundles.ensures.items in
+    (ap length none, c.in_ok-bundles.ensures.capacity, subst (λ (k : ℕ). HaveLeft n k c.args.pipes.now.items c.args.rows.now.items) all c.requires, none_dealt c.args.pipes.now.items n c.in_ok-bundles.bundles.items none)
+
+pub last_row-bundle-requires-clause-room : goal.last_row-bundle-requires-clause-room
+last_row-bundle-requires-clause-room g c =
+    let made = c.in_ok-room.ensures in
+    (c.of.ensures.ends ∙ made.items, (let l = c.len.ensures in let r = made.capacity in let e = c.of.ensures.room in let o = c.loop-j.rows.ok in omega arith))
+
+pub push_reserved-requires : goal.push_reserved-requires
+push_reserved-requires g c =
+    let at = c.loop-j in let t = c.loop-j-test.true in let l = at.invariant.0 in let r = at.invariant.1 in let o = at.bundles.ok in omega arith
+
+pub returns-clause-emptied : goal.returns-clause-emptied
+returns-clause-emptied g c =
+    let at = c.loop-j in
+    let none : c.args.workers - at.j ≡ 0 = let f = c.loop-j-test.false in omega arith in
+    subst (λ (n : ℕ). HaveLeft c.args.workers n c.args.pipes.now.items at.rows.items) none at.invariant.2

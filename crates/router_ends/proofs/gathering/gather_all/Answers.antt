@@ -1,4 +1,4 @@
-use Rattle.std.proofs.Common.{rules, ◌≡◌, ◌∷◌, [], length, ℕ, List, sym, ap, subst, ◌∙◌, arith, length-append}
+use Rattle.std.proofs.Common.{◌≡◌, ◌∷◌, [], length, ℕ, List, sym, ap, subst, ◌∙◌, arith, length-append}
 use Rattle.ruled_pipe.specs.Producer.{Sender}
 use Rattle.ruled_pipe.specs.Pipe.{Shape}
 use Rattle.router_ends.specs.Rows.{HaveLeft, Row}
@@ -71,4 +71,4 @@ returns g c =
     at.invariant.2 (none_left at.pipes.items at.takers.items _ none (takers_long at.invariant.1.uses (length at.bundles.items) at.pipes.items at.takers.items at.invariant.1.taken))
 
 pub loop-k-init : goal.loop-k-init
-loop-k-init g c = search rules
+loop-k-init g c = (c.requires.rooms, c.requires.ended, (λ a. a), omega arith)

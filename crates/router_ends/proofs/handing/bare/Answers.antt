@@ -1,4 +1,4 @@
-use Rattle.std.proofs.Common.{rules, List, [], ◌∷◌, ◌++◌, length, sym, ap, subst, ◌∙◌, append_assoc, arith}
+use Rattle.std.proofs.Common.{refl, List, [], ◌∷◌, ◌++◌, length, sym, ap, subst, ◌∙◌, append_assoc, arith}
 use Rattle.ruled_pipe.specs.Producer.{Sender}
 use Rattle.router_ends.specs.Handing.{NeverClosed}
 use Rattle.router_ends.proofs.HandingLemmas.{bare_more, never_closed, one_short}
@@ -32,4 +32,6 @@ returns-clause-unclosed g c =
     subst (λ (l : List (Sender g.row.T.Denot)). NeverClosed l) (sym at.invariant.0) (never_closed at.yielded at.invariant.1)
 
 pub loop-outlet-init : goal.loop-outlet-init
-loop-outlet-init g c = search rules
+loop-outlet-init g c =
+    let it = c.into_iter-outlet-iterator in
+    (c.requires.0, tt, refl, refl {a = it.result.rest.items}, it.result.rest.ok.0, it.ensures.into_iter_gives.0)

@@ -1,7 +1,6 @@
-use Rattle.std.proofs.Common.{rules, ◌≡◌, ◌/◌, ℕ, Bool, is_some, slice_get, [], ◌∷◌, ◌++◌, length, sym, ap, ◌∙◌, append_assoc, append-nil, arith}
-use Rattle.std.specs.Vec.Iter.{into_iter_items}
+use Rattle.std.proofs.Common.{◌/◌, ℕ, Bool, is_some, slice_get, ◌++◌, length, refl, sym, ap, ◌∙◌, arith}
 use Rattle.stage_parts.specs.Outlets.{senders}
-use Rattle.router_ends.proofs.HandingLemmas.{ends_of_new, fresh_one, nothing_left, outlets_more}
+use Rattle.router_ends.proofs.HandingLemmas.{all_taken, ends_of_new, fresh_one, one_fewer, one_taken, outlets_more, outlets_none}
 use Rattle.router_ends.proofs.handing.outlets.Goals as goal
 
 pub of-requires : goal.of-requires
@@ -21,7 +20,7 @@ loop-end-preserved g c =
       here.0,
       here.1,
       rw c.push_reserved.ensures.capacity at.invariant.2,
-      append_assoc at.yielded (x ∷ []) _ ∙ rw (← steps) at.invariant.3,
+      one_taken at.yielded at.end-iterator.rest.items c.next.new.self.rest.items c.into_iter-end-iterator.result.rest.items x steps at.invariant.3,
       (let was = at.invariant.4 in let gone = c.in-Some.ensures.steps.1 in let short = ap length steps in omega arith),
       at.invariant.5,
       here.2,
@@ -30,10 +29,31 @@ loop-end-preserved g c =
 pub returns-clause-ends : goal.returns-clause-ends
 returns-clause-ends g c =
     let at = c.loop-end in
-    let none = c.in-None.ensures.steps in
-    let empty : into_iter_items at.end-iterator ≡ [] = nothing_left _ (sym at.invariant.4 ∙ none.0) in
-    let all = sym (append-nil at.yielded) ∙ rw empty at at.invariant.3 ∙ at.invariant.5 in
+    let all = all_taken at.yielded at.end-iterator.rest.items c.into_iter-end-iterator.result.rest.items c.args.bundle.ends at.end-iterator.rest.len at.invariant.3 at.invariant.4 c.in-None.ensures.steps.0 at.invariant.5 in
     λ p shapes is. ends_of_new (senders at.outlets.items) p shapes (at.invariant.0 ∙ (all ∙ is))
 
 pub loop-end-init : goal.loop-end-init
-loop-end-init g c = search rules
+loop-end-init g c =
+    let it = c.into_iter-end-iterator in
+    let none = outlets_none (λ k. is_some (slice_get c.args.events.now (k / c.args.pipes))) c.in_ok-outlets.outlets.items c.in_ok-outlets.ensures.items in (
+      none.0,
+      none.1,
+      (let l = c.len.ensures in let r = c.in_ok-outlets.ensures.capacity in let o = c.into_items-items.result.ok in let n = ap length it.ensures.into_iter_gives.0 in omega arith),
+      refl {a = it.result.rest.items},
+      it.result.rest.ok.0,
+      it.ensures.into_iter_gives.0 ∙ c.into_items-items.ensures.ends,
+      none.2,
+    )
+
+pub push_reserved-requires : goal.push_reserved-requires
+push_reserved-requires g c =
+    let at = c.loop-end in
+    let few = one_fewer at.outlets.items at.yielded at.end-iterator.rest.items c.next.new.self.rest.items c.into_iter-end-iterator.result.rest.items c.in-Some.end at.invariant.0 c.in-Some.ensures.steps.0 at.invariant.3 in
+    let room = at.invariant.2 in
+    let ok = at.outlets.ok in
+    omega arith
+
+pub returns-clause-same : goal.returns-clause-same
+returns-clause-same g c =
+    let at = c.loop-end in
+    at.invariant.0 ∙ all_taken at.yielded at.end-iterator.rest.items c.into_iter-end-iterator.result.rest.items c.args.bundle.ends at.end-iterator.rest.len at.invariant.3 at.invariant.4 c.in-None.ensures.steps.0 at.invariant.5

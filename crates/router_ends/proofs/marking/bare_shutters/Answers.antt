@@ -1,4 +1,4 @@
-use Rattle.std.proofs.Common.{rules, ◌≡◌, List, [], ◌∷◌, ◌++◌, length, sym, ap, subst, ◌∙◌, append_assoc, append-nil, arith}
+use Rattle.std.proofs.Common.{refl, ◌≡◌, List, [], ◌∷◌, ◌++◌, length, sym, ap, subst, ◌∙◌, append_assoc, append-nil, arith}
 use Rattle.std.specs.Vec.Iter.{into_iter_items}
 use Rattle.router_ends.specs.Shutting.{PushMarks, Shutting}
 use Rattle.router_ends.proofs.HandingLemmas.{nothing_left}
@@ -36,4 +36,6 @@ returns-clause-marks g c =
     subst (λ (l : List (Shutting g.row.T.Denot)). PushMarks l) all (push_marks at.yielded at.invariant.1)
 
 pub loop-shutter-init : goal.loop-shutter-init
-loop-shutter-init g c = search rules
+loop-shutter-init g c =
+    let it = c.into_iter-shutter-iterator in
+    (c.requires.0, tt, refl, refl {a = it.result.rest.items}, it.result.rest.ok.0, it.ensures.into_iter_gives.0)

@@ -1,4 +1,4 @@
-use Rattle.std.proofs.Common.{◌≡◌, ℕ, suc, ◌+◌, ◌<◌, slice_set, length, false, sym, subst, arith}
+use Rattle.std.proofs.Common.{◌≡◌, ℕ, suc, ◌+◌, ◌<◌, slice_set, length, false, refl, sym, subst, arith}
 use Rattle.router_ends.specs.Shutting.{Ends, EndsUpTo, Shutting}
 use Rattle.router_ends.proofs.ShuttingLemmas.{all_ended, ended_next, still_open}
 use Rattle.router_ends.proofs.marking.mark_all.Goals as goal
@@ -26,3 +26,6 @@ returns g c =
     let at = c.loop-k in
     let olds = c.args.shutters.now in
     all_ended at.k olds.items at.shutters.items at.invariant (let a = at.auto.k-end in let e = c.len-k-end.ensures in let o = olds.ok in let f = c.loop-k-test.false in omega arith)
+
+pub loop-k-init : goal.loop-k-init
+loop-k-init g c = refl

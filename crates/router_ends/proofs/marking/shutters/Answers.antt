@@ -1,11 +1,11 @@
-use Rattle.std.proofs.Common.{◌≡◌, List, [], ◌∷◌, ◌++◌, length, sym, ap, subst, ◌∙◌, append_assoc, append-nil, arith, length-append}
+use Rattle.std.proofs.Common.{◌≡◌, List, [], ◌∷◌, ◌++◌, length, refl, sym, ap, subst, ◌∙◌, append_assoc, append-nil, arith, length-append}
 use Rattle.std.specs.Vec.Iter.{into_iter_items}
 use Rattle.router_rules.specs.Links.{has_two_bands}
 use Rattle.ruled_pipe.specs.Producer.{Sender}
 use Rattle.stage_parts.specs.Outlets.{is_used}
 use Rattle.router_ends.specs.Shutting.{AreNew, Shutting}
-use Rattle.router_ends.proofs.HandingLemmas.{fresh_one, nothing_left}
-use Rattle.router_ends.proofs.ShuttingLemmas.{new_long, new_more, new_open, shutters_of_new}
+use Rattle.router_ends.proofs.HandingLemmas.{all_taken, fresh_one, nothing_left}
+use Rattle.router_ends.proofs.ShuttingLemmas.{new_long, new_more, new_none, new_open, shutters_of_new}
 use Rattle.router_ends.proofs.marking.shutters.Goals as goal
 
 pub is_used-used-requires : goal.is_used-used-requires
@@ -68,3 +68,19 @@ returns-clause-ends g c =
     let all = sym (append-nil at.yielded) ∙ rw empty at at.invariant.2 ∙ at.invariant.4 in
     let P : List (Sender g.row.T.Denot) → Type 0 = λ l. AreNew uses 0 l at.shutters.items in
     λ p shapes is. shutters_of_new uses c.args.bundle.ends at.shutters.items (subst P all at.invariant.0) p shapes is
+
+pub loop-end-init : goal.loop-end-init
+loop-end-init g c =
+    let it = c.into_iter-end-iterator in (
+      new_none (is_used (has_two_bands c.args.shared.now.config)) c.in_ok-shutters.shutters.items c.in_ok-shutters.ensures.items,
+      (let l = c.len.ensures in let r = c.in_ok-shutters.ensures.capacity in let o = c.into_items-items.result.ok in let n = ap length it.ensures.into_iter_gives.0 in omega arith),
+      refl {a = it.result.rest.items},
+      it.result.rest.ok.0,
+      it.ensures.into_iter_gives.0 ∙ c.into_items-items.ensures.ends,
+    )
+
+pub returns-clause-new : goal.returns-clause-new
+returns-clause-new g c =
+    let at = c.loop-end in
+    let all = all_taken at.yielded at.end-iterator.rest.items c.into_iter-end-iterator.result.rest.items c.args.bundle.ends at.end-iterator.rest.len at.invariant.2 at.invariant.3 c.in-None.ensures.steps.0 at.invariant.4 in
+    subst (λ (l : List (Sender g.row.T.Denot)). AreNew (is_used (has_two_bands c.args.shared.now.config)) 0 l at.shutters.items) all at.invariant.0

@@ -1,4 +1,4 @@
-use Rattle.std.proofs.Common.{rules, List, [], ◌∷◌, length, sym, ap, subst, ◌∙◌, arith, length-append}
+use Rattle.std.proofs.Common.{List, [], ◌∷◌, length, sym, ap, subst, ◌∙◌, arith, length-append}
 use Rattle.ruled_pipe.specs.Pipe.{Shape}
 use Rattle.router_ends.specs.Rows.{AreWide}
 use Rattle.router_ends.proofs.RowLemmas.{wide_more}
@@ -15,7 +15,10 @@ loop-k-preserved g c =
     )
 
 pub loop-k-init : goal.loop-k-init
-loop-k-init g c = search rules
+loop-k-init g c =
+    let new = c.new-opened.ensures in
+    (new.0, ap length new.1, subst (λ (l : List Shape). AreWide c.args.capacity l) (sym new.1) tt)
 
 pub returns-clause-count : goal.returns-clause-count
-returns-clause-count g c = search rules
+returns-clause-count g c =
+    let at = c.loop-k in let a = at.auto.k-end in let f = c.loop-k-test.false in let l = at.invariant.1 in omega arith

@@ -1,11 +1,11 @@
-use Rattle.std.proofs.Common.{rules, ◌≡◌, ◌+◌, ◌*◌, ◌++◌, ◌∷◌, [], length, ℕ, List, sym, ◌∙◌, ap, arith, append_assoc, append-nil, length-append}
+use Rattle.std.proofs.Common.{◌≡◌, ◌+◌, ◌*◌, ◌++◌, ◌∷◌, [], length, ℕ, List, sym, ◌∙◌, ap, arith, append_assoc, append-nil, length-append}
 use Rattle.packet_ledger.specs.Share.{forwarded}
 use Rattle.pipeline_laws.specs.Item.{Outgoing}
 use Rattle.router_rules.specs.Rules.{kinds}
 use Rattle.router_stages.specs.Forwarding.{Forwarding}
 use Rattle.ruled_pipe.specs.Consumer.{Taker}
 use Rattle.run_laws.specs.Ended.{takers_of}
-use Rattle.router_run.proofs.PartLemmas.{each_same, longer, started, same_after, grown, room_kept, fits_still}
+use Rattle.router_run.proofs.PartLemmas.{each_none, each_same, longer, none_left, started, same_after, grown, room_kept, fits_still}
 use Rattle.wired_workers.proofs.RestLemmas.{all_done, each_back, shorter}
 use Rattle.router_run.proofs.parting.part_forwarders.Goals as goal
 
@@ -46,6 +46,24 @@ loop-k-init g c =
       laws = λ all. each_same _ _ _ (sym e) all;
     }
 
+pub next-forwarder-requires : goal.next-forwarder-requires
+next-forwarder-requires g c = let t = c.loop-k-test.true in let n = c.len-count.ensures in let o = c.args.forwarders.ok in let l = c.loop-k.invariant.left in omega arith
+
+pub push_reserved-requires : goal.push_reserved-requires
+push_reserved-requires g c = let t = c.loop-k-test.true in let n = c.len-count.ensures in let o = c.args.forwarders.ok in let l = c.loop-k.invariant.left in let r = c.loop-k.invariant.taker_room in let a = r.0 in let b = r.1 in omega arith
+
+pub push_reserved-requires-in-loop-k : goal.push_reserved-requires-in-loop-k
+push_reserved-requires-in-loop-k g c = let t = c.loop-k-test.true in let n = c.len-count.ensures in let o = c.args.forwarders.ok in let l = c.loop-k.invariant.left in let r = c.loop-k.invariant.taker_room in let a = r.0 in let b = r.1 in let p = longer _ _ _ _ c.push_reserved.ensures.items r.0 in let q = c.push_reserved.ensures.capacity in omega arith
+
+pub push_reserved-requires-in-loop-k-2 : goal.push_reserved-requires-in-loop-k-2
+push_reserved-requires-in-loop-k-2 g c = let t = c.loop-k-test.true in let n = c.len-count.ensures in let o = c.args.forwarders.ok in let l = c.loop-k.invariant.left in let r = c.loop-k.invariant.sink_room in let a = r.0 in let b = r.1 in omega arith
+
+pub push_reserved-requires-in-loop-k-3 : goal.push_reserved-requires-in-loop-k-3
+push_reserved-requires-in-loop-k-3 g c = let t = c.loop-k-test.true in let n = c.len-count.ensures in let o = c.args.forwarders.ok in let l = c.loop-k.invariant.left in let r = c.loop-k.invariant.sent_room in let a = r.0 in let b = r.1 in omega arith
+
+pub push_reserved-requires-in-loop-k-4 : goal.push_reserved-requires-in-loop-k-4
+push_reserved-requires-in-loop-k-4 g c = let r = c.loop-k.invariant.share_room in let i = ap length c.next-forwarder.ensures in omega arith
+
 pub loop-k-preserved : goal.loop-k-preserved
 loop-k-preserved g c =
     let inv = c.loop-k.invariant in
@@ -70,13 +88,16 @@ loop-k-preserved g c =
     }
 
 pub returns-clause-takers : goal.returns-clause-takers
-returns-clause-takers g c = takers_done _ _ _ (search rules) c.loop-k.invariant.takers
+returns-clause-takers g c = takers_done _ _ _ (none_left _ _ _ _ c.loop-k-test.false (c.len-count.ensures ∙ c.args.forwarders.ok.0) c.loop-k.invariant.left) c.loop-k.invariant.takers
 
 pub returns-clause-sinks : goal.returns-clause-sinks
-returns-clause-sinks g c = all_done _ _ _ _ (search rules) c.loop-k.invariant.sinks
+returns-clause-sinks g c = all_done _ _ _ _ (none_left _ _ _ _ c.loop-k-test.false (c.len-count.ensures ∙ c.args.forwarders.ok.0) c.loop-k.invariant.left) c.loop-k.invariant.sinks
 
 pub returns-clause-sent : goal.returns-clause-sent
-returns-clause-sent g c = all_done _ _ _ _ (search rules) c.loop-k.invariant.sent
+returns-clause-sent g c = all_done _ _ _ _ (none_left _ _ _ _ c.loop-k-test.false (c.len-count.ensures ∙ c.args.forwarders.ok.0) c.loop-k.invariant.left) c.loop-k.invariant.sent
 
 pub returns-clause-shares : goal.returns-clause-shares
-returns-clause-shares g c = all_done _ _ _ _ (search rules) c.loop-k.invariant.shares
+returns-clause-shares g c = all_done _ _ _ _ (none_left _ _ _ _ c.loop-k-test.false (c.len-count.ensures ∙ c.args.forwarders.ok.0) c.loop-k.invariant.left) c.loop-k.invariant.shares
+
+pub returns-clause-laws : goal.returns-clause-laws
+returns-clause-laws g c = c.loop-k.invariant.laws (each_none _ _ (none_left _ _ _ _ c.loop-k-test.false (c.len-count.ensures ∙ c.args.forwarders.ok.0) c.loop-k.invariant.left))

@@ -1,9 +1,9 @@
-use Rattle.std.proofs.Common.{rules, length, refl, sym, ◌∙◌, ap, subst, arith}
+use Rattle.std.proofs.Common.{length, refl, sym, ◌∙◌, ap, subst, arith}
 use Rattle.stage_parts.specs.Outlet.{IsMarked, Offering}
 use Rattle.stage_parts.specs.Outlets.{senders}
 use Rattle.router_ends.specs.Handing.{AreMarked, NeverClosed}
 use Rattle.router_ends.specs.Rows.{rows_of}
-use Rattle.router_run.proofs.PartLemmas.{each_same, each_none, longer, started, same_after, grown, one_after, room_kept, fits_still}
+use Rattle.router_run.proofs.PartLemmas.{each_same, each_none, longer, none_left, started, same_after, grown, one_after, room_kept, fits_still}
 use Rattle.wired_workers.proofs.RestLemmas.{all_done, each_back, each_first, shorter}
 use Rattle.router_run.proofs.parting.part_processors.Goals as goal
 
@@ -25,6 +25,24 @@ loop-k-init g c =
       laws = λ all. each_same _ _ _ (sym e) all;
       marks = λ all. each_same _ _ _ (sym e) all;
     }
+
+pub next-processor-requires : goal.next-processor-requires
+next-processor-requires g c = let t = c.loop-k-test.true in let n = c.len-count.ensures in let o = c.args.processors.ok in let l = c.loop-k.invariant.left in omega arith
+
+pub next-row-requires : goal.next-row-requires
+next-row-requires g c = let t = c.loop-k-test.true in let n = c.len-count.ensures in let o = c.args.processors.ok in let l = c.loop-k.invariant.left in let r = c.loop-k.invariant.rows.1 in omega arith
+
+pub push_reserved-requires : goal.push_reserved-requires
+push_reserved-requires g c = let t = c.loop-k-test.true in let n = c.len-count.ensures in let o = c.args.processors.ok in let l = c.loop-k.invariant.left in let r = c.loop-k.invariant.taker_room in let a = r.0 in let b = r.1 in omega arith
+
+pub put-requires : goal.put-requires
+put-requires g c = let t = c.loop-k-test.true in let n = c.len-count.ensures in let o = c.args.processors.ok in let l = c.loop-k.invariant.left in let r = c.loop-k.invariant.asking_room in let a = r.0 in let b = r.1 in omega arith
+
+pub push_reserved-requires-in-loop-k : goal.push_reserved-requires-in-loop-k
+push_reserved-requires-in-loop-k g c = let t = c.loop-k-test.true in let n = c.len-count.ensures in let o = c.args.processors.ok in let l = c.loop-k.invariant.left in let r = c.loop-k.invariant.bundle_room in let a = r.0 in let b = r.1 in omega arith
+
+pub push_reserved-requires-in-loop-k-2 : goal.push_reserved-requires-in-loop-k-2
+push_reserved-requires-in-loop-k-2 g c = let r = c.loop-k.invariant.share_room.0 in let i = ap length c.next-processor.ensures in omega arith
 
 pub loop-k-preserved : goal.loop-k-preserved
 loop-k-preserved g c =
@@ -56,19 +74,19 @@ loop-k-preserved g c =
     }
 
 pub returns-clause-takers : goal.returns-clause-takers
-returns-clause-takers g c = all_done _ _ _ _ (search rules) c.loop-k.invariant.takers
+returns-clause-takers g c = all_done _ _ _ _ (none_left _ _ _ _ c.loop-k-test.false (c.len-count.ensures ∙ c.args.processors.ok.0) c.loop-k.invariant.left) c.loop-k.invariant.takers
 
 pub returns-clause-asking : goal.returns-clause-asking
-returns-clause-asking g c = all_done _ _ _ _ (search rules) c.loop-k.invariant.asking
+returns-clause-asking g c = all_done _ _ _ _ (none_left _ _ _ _ c.loop-k-test.false (c.len-count.ensures ∙ c.args.processors.ok.0) c.loop-k.invariant.left) c.loop-k.invariant.asking
 
 pub returns-clause-bundles : goal.returns-clause-bundles
-returns-clause-bundles g c = (all_done _ _ _ _ (search rules) c.loop-k.invariant.bundles, c.loop-k.invariant.bundle_room.2)
+returns-clause-bundles g c = (all_done _ _ _ _ (none_left _ _ _ _ c.loop-k-test.false (c.len-count.ensures ∙ c.args.processors.ok.0) c.loop-k.invariant.left) c.loop-k.invariant.bundles, c.loop-k.invariant.bundle_room.2)
 
 pub returns-clause-shares : goal.returns-clause-shares
-returns-clause-shares g c = (all_done _ _ _ _ (search rules) c.loop-k.invariant.shares, c.loop-k.invariant.share_room.1)
+returns-clause-shares g c = (all_done _ _ _ _ (none_left _ _ _ _ c.loop-k-test.false (c.len-count.ensures ∙ c.args.processors.ok.0) c.loop-k.invariant.left) c.loop-k.invariant.shares, c.loop-k.invariant.share_room.1)
 
 pub returns-clause-laws : goal.returns-clause-laws
-returns-clause-laws g c = c.loop-k.invariant.laws (each_none _ _ (search rules))
+returns-clause-laws g c = c.loop-k.invariant.laws (each_none _ _ (none_left _ _ _ _ c.loop-k-test.false (c.len-count.ensures ∙ c.args.processors.ok.0) c.loop-k.invariant.left))
 
 pub returns-clause-marks : goal.returns-clause-marks
-returns-clause-marks g c = c.loop-k.invariant.marks (each_none _ _ (search rules))
+returns-clause-marks g c = c.loop-k.invariant.marks (each_none _ _ (none_left _ _ _ _ c.loop-k-test.false (c.len-count.ensures ∙ c.args.processors.ok.0) c.loop-k.invariant.left))

@@ -1,11 +1,11 @@
-use Rattle.std.proofs.Common.{◌≡◌, ℕ, List, Some, true, take, rules}
+use Rattle.std.proofs.Common.{◌≡◌, ℕ, Bool, List, [], Some, true, take, subst, rules}
 use Rattle.std.specs.Io.KnownBytes.{Appends}
 use Rattle.router_engine.specs.ReplayParts.{Same, left_of, lines_in}
 use Rattle.router_engine.specs.declared.fault.LinesFault.TheVariants as faults
 use Rattle.router_lines.specs.Command.{command_of}
 use Rattle.router_lines.specs.declared.command.Command.TheVariants as command
 use Rattle.run_engine.specs.Run.{Obeys}
-use Rattle.run_engine.proofs.RunLemmas.{goes_on, led_and_cut, led_cut, led_lack, led_to_end}
+use Rattle.run_engine.proofs.RunLemmas.{goes_none, goes_on, led_and_cut, led_cut, led_lack, led_out, led_to_end}
 use Rattle.run_engine.proofs.run.lead.Goals as goal
 
 pub returns-in-Err : goal.returns-in-Err
@@ -15,22 +15,22 @@ returns-in-Err g c =
 
 pub returns-in-Ok-false-obey : goal.returns-in-Ok-false-obey
 returns-in-Ok-false-obey g c =
-    let read : Same (lines_in (g.R.Read.remaining c.loop.reader)) (left_of true c.next_line.new.line.items (g.R.Read.remaining c.next_line.new.reader)) = search rules in
+    let read : Same (lines_in (g.R.Read.remaining c.loop.reader)) (left_of true c.next_line.new.line.items (g.R.Read.remaining c.next_line.new.reader)) = rw (← c.in-Ok-true.field-0-test) c.in-Ok-true.ensures.lines in
     let ends : (command_of c.next_line.new.line.items ≡ Some command.End) × (c.obey.new.router ≡ c.loop.router) = search rules in
     led_to_end g.C.Control.closes (lines_in (g.R.Read.remaining c.args.reader.now)) (lines_in (g.R.Read.remaining c.loop.reader)) (g.R.Read.remaining c.next_line.new.reader) c.next_line.new.line.items c.args.router.now c.loop.router
     c.obey.new.router (g.W.Write.contents c.args.writer.now) (g.W.Write.contents c.loop.writer) c.loop.invariant read ends
 
 pub returns-in-Err-obey : goal.returns-in-Err-obey
 returns-in-Err-obey g c =
-    let read : Same (lines_in (g.R.Read.remaining c.loop.reader)) (left_of true c.next_line.new.line.items (g.R.Read.remaining c.next_line.new.reader)) = search rules in
-    let obeys : (one : List ℕ) × Obeys g.C.Control.closes (command_of c.next_line.new.line.items) c.loop.router one c.obey.new.router = search rules in
+    let read : Same (lines_in (g.R.Read.remaining c.loop.reader)) (left_of true c.next_line.new.line.items (g.R.Read.remaining c.next_line.new.reader)) = rw (← c.in-Ok-true.field-0-test) c.in-Ok-true.ensures.lines in
+    let obeys : (one : List ℕ) × Obeys g.C.Control.closes (command_of c.next_line.new.line.items) c.loop.router one c.obey.new.router = rw (← c.as_slice.ensures.value) c.in-Err-obey.ensures in
     led_lack g.C.Control.closes (lines_in (g.R.Read.remaining c.args.reader.now)) (lines_in (g.R.Read.remaining c.loop.reader)) (g.R.Read.remaining c.next_line.new.reader) c.next_line.new.line.items c.args.router.now c.loop.router
     c.obey.new.router (g.W.Write.contents c.args.writer.now) (g.W.Write.contents c.loop.writer) faults.Memory tt c.loop.invariant read obeys
 
 pub returns-in-Err-send : goal.returns-in-Err-send
 returns-in-Err-send g c =
-    let read : Same (lines_in (g.R.Read.remaining c.loop.reader)) (left_of true c.next_line.new.line.items (g.R.Read.remaining c.next_line.new.reader)) = search rules in
-    let wrote : (k : ℕ) × Appends (g.W.Write.contents c.loop.writer) (g.W.Write.contents c.send.new.writer) (take k c.obey.new.text.items) = search rules in
+    let read : Same (lines_in (g.R.Read.remaining c.loop.reader)) (left_of true c.next_line.new.line.items (g.R.Read.remaining c.next_line.new.reader)) = rw (← c.in-Ok-true.field-0-test) c.in-Ok-true.ensures.lines in
+    let wrote : (k : ℕ) × Appends (g.W.Write.contents c.loop.writer) (g.W.Write.contents c.send.new.writer) (take k c.obey.new.text.items) = rw (← c.as_slice-in-loop.ensures.value) c.in-Err-send.ensures.begins in
     let obeys : Obeys g.C.Control.closes (command_of c.next_line.new.line.items) c.loop.router c.obey.new.text.items c.obey.new.router = search rules in
     led_and_cut g.C.Control.closes (lines_in (g.R.Read.remaining c.args.reader.now)) (lines_in (g.R.Read.remaining c.loop.reader)) (g.R.Read.remaining c.next_line.new.reader) c.next_line.new.line.items c.obey.new.text.items
     wrote.0 c.args.router.now c.loop.router c.obey.new.router (g.W.Write.contents c.args.writer.now) (g.W.Write.contents c.loop.writer) (g.W.Write.contents c.send.new.writer) faults.Output tt c.loop.invariant read obeys
@@ -38,8 +38,8 @@ returns-in-Err-send g c =
 
 pub loop-preserved : goal.loop-preserved
 loop-preserved g c =
-    let read : Same (lines_in (g.R.Read.remaining c.loop.reader)) (left_of true c.next_line.new.line.items (g.R.Read.remaining c.next_line.new.reader)) = search rules in
-    let wrote : Appends (g.W.Write.contents c.loop.writer) (g.W.Write.contents c.send.new.writer) c.obey.new.text.items = search rules in
+    let read : Same (lines_in (g.R.Read.remaining c.loop.reader)) (left_of true c.next_line.new.line.items (g.R.Read.remaining c.next_line.new.reader)) = rw (← c.in-Ok-true.field-0-test) c.in-Ok-true.ensures.lines in
+    let wrote : Appends (g.W.Write.contents c.loop.writer) (g.W.Write.contents c.send.new.writer) c.obey.new.text.items = rw (← c.as_slice-in-loop.ensures.value) c.in-Ok.ensures.ok in
     let obeys : Obeys g.C.Control.closes (command_of c.next_line.new.line.items) c.loop.router c.obey.new.text.items c.obey.new.router = search rules in
     goes_on g.C.Control.closes (lines_in (g.R.Read.remaining c.args.reader.now)) (lines_in (g.R.Read.remaining c.loop.reader)) (g.R.Read.remaining c.next_line.new.reader) c.next_line.new.line.items c.obey.new.text.items
     c.args.router.now c.loop.router c.obey.new.router (g.W.Write.contents c.args.writer.now) (g.W.Write.contents c.loop.writer) (g.W.Write.contents c.send.new.writer) c.loop.invariant read obeys wrote
@@ -48,3 +48,13 @@ pub returns : goal.returns
 returns g c =
     led_cut g.C.Control.closes (lines_in (g.R.Read.remaining c.args.reader.now)) (lines_in (g.R.Read.remaining c.loop.reader)) c.args.router.now c.loop.router (g.W.Write.contents c.args.writer.now)
     (g.W.Write.contents c.loop.writer) faults.Input tt c.loop.invariant
+
+pub loop-init : goal.loop-init
+loop-init g c = goes_none g.C.Control.closes (lines_in (g.R.Read.remaining c.args.reader.now)) c.args.router.now (g.W.Write.contents c.args.writer.now)
+
+pub returns-in-Ok-false : goal.returns-in-Ok-false
+returns-in-Ok-false g c =
+    let read : Same (lines_in (g.R.Read.remaining c.loop.reader)) (Some []) =
+    subst (λ (more : Bool). Same (lines_in (g.R.Read.remaining c.loop.reader)) (left_of more c.next_line.new.line.items (g.R.Read.remaining c.next_line.new.reader))) c.in-Ok-false.field-0-test c.in-Ok-false.ensures.lines in
+    led_out g.C.Control.closes (lines_in (g.R.Read.remaining c.args.reader.now)) (lines_in (g.R.Read.remaining c.loop.reader)) c.args.router.now c.loop.router (g.W.Write.contents c.args.writer.now)
+    (g.W.Write.contents c.loop.writer) c.loop.invariant read

@@ -1,5 +1,8 @@
 use Rattle.std.proofs.Common.{ℕ, ◌∙◌, subst}
+use Rattle.process_packet.specs.declared.config.Config.{Config}
+use Rattle.wired_workers.specs.Dealing.{piping}
 use Rattle.run_parts.specs.Room.{HaveWorkerSlots, HaveSpace}
+use Rattle.run_parts.specs.WorkerParts.{AreWorkerParts}
 use Rattle.wired_workers.proofs.OkLemmas.{of_ok}
 use Rattle.run_parts.proofs.preparing.prepare.Goals as goal
 
@@ -31,13 +34,19 @@ returns-clause-forwarders g c =
 pub returns-clause-space : goal.returns-clause-space
 returns-clause-space g c =
     let rest = of_ok _ _ _ c.in_ok-worker_parts.ensures.1 c.both.ensures in
-    let space = of_ok _ _ _ rest.1 c.reserve_for-reserve.ensures.space in
+    let space = of_ok (λ r. HaveSpace c.link_count-links.result c.from-processors.result r.space) c.reserve_for-reserve.result c.in_ok-worker_parts.reserve rest.1 c.reserve_for-reserve.ensures.space in
     subst (λ (n : ℕ). HaveSpace n c.args.config.processors c.in_ok-worker_parts.reserve.space) c.link_count-links.ensures.count
     (subst (λ (n : ℕ). HaveSpace c.link_count-links.result n c.in_ok-worker_parts.reserve.space) c.from-processors.ensures space)
 
 pub returns-clause-worker_slots : goal.returns-clause-worker_slots
 returns-clause-worker_slots g c =
     let rest = of_ok _ _ _ c.in_ok-worker_parts.ensures.1 c.both.ensures in
-    let worker_slots = of_ok _ _ _ rest.1 c.reserve_for-reserve.ensures.worker_slots in
+    let worker_slots = of_ok (λ r. HaveWorkerSlots c.link_count-links.result c.from-processors.result r.worker_slots) c.reserve_for-reserve.result c.in_ok-worker_parts.reserve rest.1 c.reserve_for-reserve.ensures.worker_slots in
     subst (λ (n : ℕ). HaveWorkerSlots n c.args.config.processors c.in_ok-worker_parts.reserve.worker_slots) c.link_count-links.ensures.count
     (subst (λ (n : ℕ). HaveWorkerSlots c.link_count-links.result n c.in_ok-worker_parts.reserve.worker_slots) c.from-processors.ensures worker_slots)
+
+pub returns-clause-worker_parts : goal.returns-clause-worker_parts
+returns-clause-worker_parts g c =
+    let w = c.in_ok-worker_parts.worker_parts in
+    let made = of_ok _ c.make_all-worker_parts.result w c.in_ok-worker_parts.ensures.0 c.make_all-worker_parts.ensures in
+    subst (λ (k : Config). AreWorkerParts k (piping w.pipes.inner.items w.pipes.middle w.pipes.outer.items) w.pipes.inner_rooms.items w.pipes.outer_rooms.items w.receivers.items w.processors.items w.slow w.forwarders.items w.shutters.items) c.in_ok-base.ensures.shared made

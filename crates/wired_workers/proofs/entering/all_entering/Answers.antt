@@ -7,7 +7,7 @@ use Rattle.wired_workers.specs.Dealing.{IsBundleOf, IsUnlooked}
 use Rattle.wired_workers.specs.Kits.{IsEnteringAt}
 use Rattle.wired_workers.specs.Rest.{IsRest}
 use Rattle.wired_workers.proofs.Fresh.{bundles_are, fresh_long}
-use Rattle.wired_workers.proofs.Making.{all_none, all_pushed, none_gone, one_gone, pushed_long, rest_as}
+use Rattle.wired_workers.proofs.Making.{all_none, all_pushed, next_new, none_gone, one_gone, pushed_long, rest_as}
 use Rattle.wired_workers.proofs.RestLemmas.{rest_first, rest_next}
 use Rattle.wired_workers.proofs.entering.all_entering.Goals as goal
 
@@ -29,6 +29,21 @@ loop-link-init g c =
       free = rest_as IsUnlooked 0 c.link_count-links.result (link_count config) c.of-free.result c.args.free.items c.of-free.ensures links c.requires.free;
       shares = none_gone (link_count config) c.args.shares.now c.requires.shares;
     }
+
+pub next-bundle-requires : goal.next-bundle-requires
+next-bundle-requires g c = let t = c.loop-link-test.true in let n = c.loop-link.invariant.bundles.count in omega arith
+
+pub next-taker-requires : goal.next-taker-requires
+next-taker-requires g c = let t = c.loop-link-test.true in let n = c.loop-link.invariant.free.count in omega arith
+
+pub entering_at-requires-clause-free : goal.entering_at-requires-clause-free
+entering_at-requires-clause-free g c = rest_first IsUnlooked c.loop-link.link c.link_count-links.result c.loop-link.free c.next-taker.new.self c.next-taker.result c.next-taker.ensures c.loop-link.invariant.free
+
+pub entering_at-requires-clause-share : goal.entering_at-requires-clause-share
+entering_at-requires-clause-share g c = next_new c.loop-link.link c.args.shares.now c.loop-link.shares c.next-share.new.self c.next-share.result c.next-share.ensures c.loop-link.invariant.shares
+
+pub push_reserved-requires : goal.push_reserved-requires
+push_reserved-requires g c = let t = c.loop-link-test.true in let n = c.loop-link.invariant.count.0 in let room = c.loop-link.invariant.count.1 in omega arith
 
 pub entering_at-requires-clause-bundle : goal.entering_at-requires-clause-bundle
 entering_at-requires-clause-bundle g c =

@@ -14,7 +14,7 @@ use Rattle.wired_workers.specs.Dealing.{IsLong, IsTakerThere}
 use Rattle.wired_workers.specs.Kits.{Exit, IsLeavingAt}
 use Rattle.wired_workers.specs.Rest.{IsRest}
 use Rattle.wired_workers.proofs.Fresh.{takers_are}
-use Rattle.wired_workers.proofs.Making.{all_none, all_pushed, none_gone, one_gone, pushed_long, rest_as, taker_new}
+use Rattle.wired_workers.proofs.Making.{all_none, all_pushed, next_new, none_gone, one_gone, pushed_long, rest_as, taker_new}
 use Rattle.wired_workers.proofs.RestLemmas.{rest_first, rest_next}
 use Rattle.wired_workers.proofs.leaving.all_leaving.Goals as goal
 
@@ -69,6 +69,21 @@ loop-link-init g c =
       free = long_rest c.link_count-links.result (link_count config) config.processors c.args.remaining.now.free links c.requires.free;
       shares = none_gone (link_count config) c.args.remaining.now.shares c.requires.shares;
     }
+
+pub next-low-requires : goal.next-low-requires
+next-low-requires g c = let t = c.loop-link-test.true in let n = c.loop-link.invariant.takers.count in omega arith
+
+pub next-high-requires : goal.next-high-requires
+next-high-requires g c = let t = c.loop-link-test.true in let n = c.loop-link.invariant.takers.count in let l = ap length c.next-low.ensures in omega arith
+
+pub next-back-requires : goal.next-back-requires
+next-back-requires g c = let t = c.loop-link-test.true in let n = c.loop-link.invariant.free.count in omega arith
+
+pub leaving_at-requires-clause-share : goal.leaving_at-requires-clause-share
+leaving_at-requires-clause-share g c = next_new c.loop-link.link c.args.remaining.now.shares c.loop-link.remaining.shares c.next-share.new.self c.next-share.result c.next-share.ensures c.loop-link.invariant.shares
+
+pub push_reserved-requires : goal.push_reserved-requires
+push_reserved-requires g c = let t = c.loop-link-test.true in let n = c.loop-link.invariant.count.0 in let room = c.loop-link.invariant.count.1 in omega arith
 
 pub leaving_at-requires-clause-low : goal.leaving_at-requires-clause-low
 leaving_at-requires-clause-low g c =

@@ -1,15 +1,36 @@
-use Rattle.std.proofs.Common.{◌≡◌, ◌+◌, ◌*◌, length, subst, sym, refl, arith}
+use Rattle.std.proofs.Common.{◌≡◌, ◌+◌, ◌*◌, length, subst, sym, refl, ◌∙◌, arith}
 use Rattle.std.specs.Arc.{arc_value}
 use Rattle.router_ends.specs.Rows.{fresh_ends}
 use Rattle.router_rules.specs.Links.{link_count}
 use Rattle.wired_workers.specs.Dealing.{IsBundleOf, IsLong}
 use Rattle.wired_workers.specs.Piping.{IsTakerOf}
-use Rattle.wired_workers.proofs.Making.{bundle_long, one_gone}
+use Rattle.wired_workers.proofs.Making.{bundle_long, next_new, one_gone}
 use Rattle.wired_workers.proofs.RestLemmas.{rest_first, rest_next}
 use Rattle.wired_workers.proofs.middle.deciding_of.Goals as goal
 
 pub processors_of-requires-clause-shares : goal.processors_of-requires-clause-shares
 processors_of-requires-clause-shares g c = let r = c.requires.shares in record { each = r.each; enough = let e = r.enough in omega arith }
+
+pub next-requires-clause-links : goal.next-requires-clause-links
+next-requires-clause-links g c = let n = c.in_ok-processors.ensures.links.count in omega arith
+
+pub next-requires-clause-free : goal.next-requires-clause-free
+next-requires-clause-free g c = let n = c.in_ok-processors.ensures.free.count in omega arith
+
+pub next-requires-clause-shares : goal.next-requires-clause-shares
+next-requires-clause-shares g c = let e = c.requires.shares.enough in let n = c.in_ok-processors.ensures.shares.count in omega arith
+
+pub slow_path_with-requires-clause-taker : goal.slow_path_with-requires-clause-taker
+slow_path_with-requires-clause-taker g c = (c.requires.asked.1, c.requires.asked.0.1 ∙ c.requires.middle)
+
+pub slow_path_with-requires-clause-bundle : goal.slow_path_with-requires-clause-bundle
+slow_path_with-requires-clause-bundle g c =
+    let config = (arc_value c.args.common.now.shared).config in
+    let shapes = c.args.pipes.now.outer.items in
+    (config.processors, shapes, rest_first (IsBundleOf shapes) config.processors (config.processors + 2) c.processors_of.new.remaining.links c.next.new.self.links c.next.result.links c.next.ensures.links c.in_ok-processors.ensures.links)
+
+pub slow_path_with-requires-clause-share : goal.slow_path_with-requires-clause-share
+slow_path_with-requires-clause-share g c = next_new (arc_value c.args.common.now.shared).config.processors c.args.remaining.now.shares c.processors_of.new.remaining.shares c.next.new.self.shares c.next.result.share c.next.ensures.shares c.in_ok-processors.ensures.shares
 
 pub slow_path_with-requires-clause-links : goal.slow_path_with-requires-clause-links
 slow_path_with-requires-clause-links g c =

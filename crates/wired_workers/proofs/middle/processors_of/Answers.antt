@@ -7,7 +7,7 @@ use Rattle.wired_workers.specs.Dealing.{IsBundleOf, IsLong, IsNewEnd, IsTakerThe
 use Rattle.wired_workers.specs.Kits.{IsWorkingThere}
 use Rattle.wired_workers.specs.Rest.{HaveGone}
 use Rattle.wired_workers.proofs.Fresh.{takers_are}
-use Rattle.wired_workers.proofs.Making.{all_made, all_none, all_pushed, bundle_long, long_as, none_gone, one_gone, pushed_long, rest_as, rest_ends, taker_new, working_there}
+use Rattle.wired_workers.proofs.Making.{all_made, all_none, all_pushed, bundle_long, long_as, next_new, none_gone, one_gone, pushed_long, rest_as, rest_ends, taker_new, working_there}
 use Rattle.wired_workers.proofs.RestLemmas.{rest_first, rest_next}
 use Rattle.wired_workers.proofs.middle.processors_of.Goals as goal
 
@@ -28,6 +28,36 @@ loop-index-init g c =
       free = long_as c.link_count-producers.result (link_count config) 0 (count + 1) (config.processors + 1) left.free l (ap (λ (n : ℕ). n + 1) e) c.requires.free;
       shares = none_gone config.processors left.shares c.requires.shares;
     }
+
+pub next-requires-clause-links : goal.next-requires-clause-links
+next-requires-clause-links g c = let t = c.loop-index-test.true in let n = c.loop-index.invariant.links.count in omega arith
+
+pub next-requires-clause-free : goal.next-requires-clause-free
+next-requires-clause-free g c = let t = c.loop-index-test.true in let n = c.loop-index.invariant.free.count in omega arith
+
+pub own_of-requires-clause-bundle : goal.own_of-requires-clause-bundle
+own_of-requires-clause-bundle g c =
+    let at = c.loop-index in
+    let shapes = c.args.pipes.now.outer.items in
+    (at.index, shapes, rest_first (IsBundleOf shapes) at.index (c.from-count.result + 2) at.remaining.links c.next.new.self.links c.next.result.links c.next.ensures.links at.invariant.links)
+
+pub own_of-requires-clause-share : goal.own_of-requires-clause-share
+own_of-requires-clause-share g c = next_new c.loop-index.index c.args.remaining.now.shares c.loop-index.remaining.shares c.next.new.self.shares c.next.result.share c.next.ensures.shares c.loop-index.invariant.shares
+
+pub next-taker-requires : goal.next-taker-requires
+next-taker-requires g c = let t = c.loop-index-test.true in let n = c.loop-index.invariant.takers.count in omega arith
+
+pub next-slow-requires : goal.next-slow-requires
+next-slow-requires g c = let t = c.loop-index-test.true in let n = c.loop-index.invariant.asking.count in omega arith
+
+pub processor_at-requires-clause-asking : goal.processor_at-requires-clause-asking
+processor_at-requires-clause-asking g c =
+    let at = c.loop-index in
+    let new = rest_first (IsNewEnd c.args.pipes.now.middle) at.index c.from-count.result at.asking c.next-slow.new.self c.next-slow.result c.next-slow.ensures at.invariant.asking in
+    (new.1, new.2)
+
+pub push_reserved-requires : goal.push_reserved-requires
+push_reserved-requires g c = let t = c.loop-index-test.true in let n = c.loop-index.invariant.count.0 in let room = c.loop-index.invariant.count.1 in omega arith
 
 pub processor_at-requires-clause-config : goal.processor_at-requires-clause-config
 processor_at-requires-clause-config g c = c.requires.config ∙ ap (λ (s : Shared). Some s.config) (sym c.in_ok-own.ensures.config)

@@ -2,7 +2,7 @@ use Rattle.std.proofs.Common.{◌≡◌, ◌≤◌, ℕ, List, [], ◌∷◌, �
 use Rattle.ruled_pipe.specs.Pipe.{Shape, AreNew}
 use Rattle.ruled_pipe.specs.Consumer.{Taker, new_taker}
 use Rattle.ruled_pipe.specs.Producer.{Sender}
-use Rattle.router_ends.specs.Rows.{AreFor, HaveLeft, new_takers, Row, fresh_row}
+use Rattle.router_ends.specs.Rows.{AreFor, HaveLeft, Opening, new_takers, Row, fresh_row}
 use Rattle.router_ends.proofs.RowLemmas.{have_more, for_more, takers_more, new_row}
 use Rattle.router_ends.proofs.opened.Opened.with_pipe.Goals as goal
 
@@ -37,3 +37,9 @@ invariant_of-result g c =
       rows = subst (λ (l : List Shape). H l c.push-2.new.self.items) (sym pushed) (subst (λ (l : List (Row T)). H (ps ++ s ∷ []) l) (sym c.in_ok-push-2.ensures.items) have);
       takers = c.in_ok-push-3.ensures.items ∙ (ap (λ (l : List (Taker T)). l ++ c.in_ok-pipe.taker ∷ []) was.takers ∙ (ap (λ (t : Taker T). new_takers ps ++ t ∷ []) taker ∙ (sym (takers_more ps s) ∙ ap (λ (l : List Shape). new_takers l) (sym pushed))));
     }
+
+pub returns-clause-pipe : goal.returns-clause-pipe
+returns-clause-pipe g c =
+    let s : Shape = c.in_ok-pipe.pipe in
+    let told = c.in_ok-pipe.ensures.pipe in
+    (s, c.in_ok-push.ensures.items ∙ ap (λ (o : Opening g.row.T.Denot). o.pipes ++ s ∷ []) c.self.view_is, told.1 ∙ ap (λ (o : Opening g.row.T.Denot). o.producers) c.self.view_is, told.0)
