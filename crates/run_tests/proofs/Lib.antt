@@ -1,1 +1,2 @@
+pub mod OkLemmas
 pub mod UntoldLemmas

@@ -1,5 +1,5 @@
 -- Lists of devices that have told nothing yet.
-use Rattle.std.proofs.Common.{◌≡◌, List, [], ◌∷◌, ◌++◌, ◌∙◌, sym, subst, Option, Some}
+use Rattle.std.proofs.Common.{◌≡◌, List, [], ◌∷◌, ◌++◌, ◌∙◌, sym, subst, Option, None, Some}
 use Rattle.pipeline_laws.specs.Deeds.{Each}
 use Rattle.router_laws.specs.Heard.{ToldNothing}
 
@@ -14,3 +14,8 @@ module _ {X T : Type 0} (told : X → Option (List T)) where
   -- one more, which told an empty list
   pub untold_pushed : (old new : List X) (x : X) → new ≡ old ++ x ∷ [] → Each (λ (y : X). ToldNothing (told y)) old → told x ≡ Some [] → Each (λ (y : X). ToldNothing (told y)) new
   untold_pushed old new x is each none = subst (λ (ys : List X). Each (λ (y : X). ToldNothing (told y)) ys) (sym is) (untold_more old x each none)
+
+-- devices that never tell
+pub untold_silent : (T : Type 0) {X : Type 0} (xs : List X) → Each (λ (x : X). ToldNothing {X = T} None) xs
+untold_silent T [] = tt
+untold_silent T (x ∷ xs) = ((λ ts e. cc), untold_silent T xs)

@@ -4,13 +4,12 @@
 use crate::cued::{CuedGate, CuedSink, CuedSource};
 use crate::cues::Cue::{High, Low};
 use crate::cues::{Cue, Order, Words};
-use crate::play::{Lead, Played, ran};
+use crate::play::{Lead, Played, run};
 use crate::reports::sent_by;
-use crate::routers::{router, two_band_router};
+use crate::routers::{CAPACITY_2, CAPACITY_64, router, two_band_router};
 use process_packet::{Config, Totals};
 use router_run::CloseFault;
 use sample_stages::{CLOSED, FULL_PROCESSOR, totals};
-use stage_parts::both;
 use std::alloc::{AllocError, Global};
 use std::process::Abort;
 use std::rt::Clock;
@@ -18,16 +17,7 @@ use std::sync::{Arc, Wait};
 use std::test::*;
 use std::thread::Threads;
 
-// A link's source: link 1's has the cues.
-fn source_of(
-    words: &Arc<Words, Global>,
-    link: usize,
-    cues: &'static [Cue],
-) -> Result<CuedSource, AllocError> {
-    let own: &'static [Cue] = if link == 1 { cues } else { &[] };
-    Ok(CuedSource::new(Arc::try_clone(words)?, own))
-}
-
+// A source for each link: link 1's has the cues.
 fn sources(
     alloc: Global,
     words: &Arc<Words, Global>,
@@ -35,45 +25,22 @@ fn sources(
 ) -> Result<Vec<CuedSource>, AllocError> {
     let mut sources = Vec::new(alloc);
     for link in 0..4 {
-        sources.push(source_of(words, link, cues)?)?;
+        let own: &'static [Cue] = if link == 1 { cues } else { &[] };
+        sources.push(CuedSource::new(Arc::try_clone(words)?, own))?;
     }
     Ok(sources)
 }
 
-fn sinks<R: Clock + Copy + Drop>(
-    rt: R,
-    alloc: Global,
-    words: &Arc<Words, Global>,
-) -> Result<Vec<CuedSink<R>>, AllocError> {
-    let mut sinks = Vec::new(alloc);
+fn sinks<R>(rt: R, words: &Arc<Words, Global>) -> Vec<CuedSink<R>>
+where
+    R: AllocGlobal + Abort + Clock + Copy + Drop,
+{
+    let mut sinks = Vec::new(rt.alloc());
     for _ in 0..4 {
-        sinks.push(CuedSink::new(rt, Arc::try_clone(words)?))?;
+        let words = Arc::try_clone(words).expect(&rt, "memory");
+        sinks.push(CuedSink::new(rt, words)).expect(&rt, "memory");
     }
-    Ok(sinks)
-}
-
-// The devices of a run, and its gate.
-#[derive(Drop)]
-struct Devices<R: Clock + Drop> {
-    sources: Vec<CuedSource>,
-    sinks: Vec<CuedSink<R>>,
-    gate: CuedGate,
-}
-
-fn all_devices<R: Clock + Copy + Drop>(
-    rt: R,
-    alloc: Global,
-    words: &Arc<Words, Global>,
-    cues: &'static [Cue],
-) -> Result<Devices<R>, AllocError> {
-    let gate = CuedGate::new(Arc::try_clone(words)?, cues);
-    let sources = sources(alloc, words, cues);
-    let (sources, sinks) = both(sources, sinks(rt, alloc, words))?;
-    Ok(Devices {
-        sources,
-        sinks,
-        gate,
-    })
+    sinks
 }
 
 // What came of a run.
@@ -111,14 +78,15 @@ where
     R: AllocGlobal + Abort + Threads + Wait + Clock + Copy + Send + Drop + 'static,
 {
     let words = Words::new(rt.alloc()).expect(&rt, "memory");
-    let devices = all_devices(rt, rt.alloc(), &words, cues).expect(&rt, "memory");
-    let Devices {
-        sources,
-        sinks,
-        gate,
-    } = devices;
-    let lead = Some(Lead { words, orders });
-    Outcome::of(&ran(rt, config, sources, sinks, gate, lead))
+    let sources = sources(rt.alloc(), &words, cues).expect(&rt, "memory");
+    let sinks = sinks(rt, &words);
+    let gate = CuedGate {
+        words: Arc::try_clone(&words).expect(&rt, "memory"),
+        cues,
+    };
+    let lead = Lead { words, orders };
+    let played = run(rt, config, sources, sinks, gate, Some(&lead)).ok();
+    Outcome::of(&played.expect(&rt, "a router that starts"))
 }
 
 /// The sink holds packet 1, and 2 and 3 fill the link's pipe, when the closing mark is refused. Packet 4 is
@@ -134,7 +102,7 @@ fn close_while_full(rt: HostRuntime) {
         Order::Close(2, Err(CloseFault::AlreadyClosed)),
         Order::Stage(2),
     ];
-    let outcome = led(rt, router(&rt, 1, 2), &CUES, &ORDERS);
+    let outcome = led(rt, router(&rt, CAPACITY_2), &CUES, &ORDERS);
     assert!(rt; outcome.is(&totals(4, 3, CLOSED, 1), &[1, 2, 3, 0, 0, 0, 0, 0]));
 }
 
@@ -150,7 +118,7 @@ fn close_while_one_band_is_full(rt: HostRuntime) {
         Order::CloseAtLast(2),
         Order::Close(2, Err(CloseFault::AlreadyClosed)),
     ];
-    let outcome = led(rt, two_band_router(&rt, 2), &CUES, &ORDERS);
+    let outcome = led(rt, two_band_router(&rt, CAPACITY_2), &CUES, &ORDERS);
     assert!(rt; outcome.is(&totals(4, 3, CLOSED, 1), &[1, 2, 3, 0, 0, 0, 0, 0]));
 }
 
@@ -167,9 +135,9 @@ fn a_closed_link_sends_nothing(rt: HostRuntime) {
         Order::Close(9, Err(CloseFault::Unknown)),
         Order::Stage(1),
     ];
-    let outcome = led(rt, router(&rt, 1, 64), &CUES, &ORDERS);
+    let outcome = led(rt, router(&rt, CAPACITY_64), &CUES, &ORDERS);
     assert!(rt; outcome.is(&totals(3, 0, CLOSED, 3), &[0; 8]));
-    let outcome = led(rt, two_band_router(&rt, 64), &CUES, &ORDERS);
+    let outcome = led(rt, two_band_router(&rt, CAPACITY_64), &CUES, &ORDERS);
     assert!(rt; outcome.is(&totals(3, 0, CLOSED, 3), &[0; 8]));
 }
 
@@ -184,7 +152,7 @@ fn the_high_band_goes_first(rt: HostRuntime) {
         Low(4, 1, 0),
     ];
     const ORDERS: [Order; 2] = [Order::Asked(5), Order::Stage(1)];
-    let outcome = led(rt, two_band_router(&rt, 64), &CUES, &ORDERS);
+    let outcome = led(rt, two_band_router(&rt, CAPACITY_64), &CUES, &ORDERS);
     assert!(rt; outcome.is(&totals(5, 5, CLOSED, 0), &[1, 4, 2, 3, 5, 0, 0, 0]));
 }
 
@@ -202,6 +170,6 @@ fn full_pipes_are_emptied_at_the_end(rt: HostRuntime) {
         Low(4, 0, 0),
     ];
     const ORDERS: [Order; 2] = [Order::Passed(7), Order::Stage(1)];
-    let outcome = led(rt, router(&rt, 1, 2), &CUES, &ORDERS);
+    let outcome = led(rt, router(&rt, CAPACITY_2), &CUES, &ORDERS);
     assert!(rt; outcome.is(&totals(7, 6, FULL_PROCESSOR, 1), &[1, 2, 3, 4, 5, 6, 0, 0]));
 }

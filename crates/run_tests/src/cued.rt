@@ -73,14 +73,8 @@ impl Source for CuedSource {
 /// Admits each packet at its cue.
 #[derive(Drop)]
 pub struct CuedGate {
-    words: Arc<Words, Global>,
-    cues: &'static [Cue],
-}
-
-impl CuedGate {
-    pub fn new(words: Arc<Words, Global>, cues: &'static [Cue]) -> CuedGate {
-        CuedGate { words, cues }
-    }
+    pub words: Arc<Words, Global>,
+    pub cues: &'static [Cue],
 }
 
 impl Gate for CuedGate {

@@ -3,7 +3,7 @@
 use crate::cues::comes;
 use crate::list_run::ListRun;
 use crate::reports::all_sent;
-use crate::routers::router;
+use crate::routers::{TWO_PROCESSORS, router};
 use router_rules::Worker;
 use sample_packets::{FIRST, IN_TIME, with_bytes};
 use sample_stages::{NEAR, datagram, firsts};
@@ -71,7 +71,13 @@ where
     R: AllocGlobal + Abort + Threads + Wait + Clock + Copy + Send + Sync + Drop + 'static,
 {
     let answers = two_flows(rt.alloc()).expect(&rt, "memory");
-    ListRun::over(rt, router(&rt, 2, 64), answers, 0, Meet { rt, meeting })
+    ListRun::over(
+        rt,
+        router(&rt, TWO_PROCESSORS),
+        answers,
+        0,
+        Meet { rt, meeting },
+    )
 }
 
 /// Two flows are decided by two processors, each of which sees that the other is at work.

@@ -4,7 +4,7 @@ ghost use Rattle.pipeline_laws.specs.Deeds.{Each};
 ghost use Rattle.router_laws.specs.Heard.{ToldNothing};
 
 use crate::lists::{four_sources, list_sinks};
-use crate::play::{Played, ran};
+use crate::play::{Played, run};
 use crate::reports::{sent_by, tells};
 use process_packet::{Config, Totals};
 use stage_parts::{Gate, ListSink, ListSource, Next, Sent, Sink};
@@ -34,8 +34,9 @@ impl ListRun {
         requires sources { Each (λ s. ToldNothing s.told) sources.items }
         requires sinks { Each (λ s. ToldNothing s.told) sinks.items }
     {
+        let played = run(rt, config, sources, sinks, gate, None).ok();
         ListRun {
-            played: ran(rt, config, sources, sinks, gate, None),
+            played: played.expect(&rt, "a router that starts"),
         }
     }
 
@@ -46,7 +47,7 @@ impl ListRun {
         G: Gate + Send + Sync + Drop + 'static,
         R: AllocGlobal + Abort + Threads + Wait + Clock + Copy + Send + Drop + 'static,
     {
-        let sources = four_sources(rt.alloc(), one).expect(&rt, "memory");
+        let sources = four_sources(&rt, one);
         let sinks = list_sinks(rt.alloc(), 4, fails).expect(&rt, "memory");
         ListRun::of(rt, config, sources, sinks, gate)
     }

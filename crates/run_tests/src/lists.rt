@@ -9,6 +9,7 @@ ghost use Rattle.sample_packets.specs.declared.datagram.TheConstants.{FIRST};
 use sample_packets::{FIRST, with_bytes};
 use stage_parts::{ListSink, ListSource, Next};
 use std::alloc::{AllocError, Global};
+use std::process::Abort;
 
 /// The first datagram, with the traffic class of what is urgent.
 pub fn urgent() -> [u8; 92]
@@ -29,11 +30,15 @@ pub fn list_sources(alloc: Global, lists: Vec<Vec<Next>>) -> Result<Vec<ListSour
 }
 
 /// The sources of four links: link 1's gives these answers, the others end at once.
-pub fn four_sources(alloc: Global, one: Vec<Next>) -> Result<Vec<ListSource>, AllocError>
-    ensures { IfOk result (λ v. Each (λ s. ToldNothing s.told) v.items) }
+pub fn four_sources<R: AllocGlobal + Abort>(rt: &R, one: Vec<Next>) -> Vec<ListSource>
+    ensures { Each (λ s. ToldNothing s.told) result.items }
 {
-    let lists = [Vec::new(alloc), one, Vec::new(alloc), Vec::new(alloc)];
-    list_sources(alloc, Vec::from_array(alloc, lists)?)
+    let mut lists = Vec::new(rt.alloc());
+    lists.push(Vec::new(rt.alloc())).expect(rt, "memory");
+    lists.push(one).expect(rt, "memory");
+    lists.push(Vec::new(rt.alloc())).expect(rt, "memory");
+    lists.push(Vec::new(rt.alloc())).expect(rt, "memory");
+    list_sources(rt.alloc(), lists).expect(rt, "memory")
 }
 
 /// A number of sinks, each of which fails at a number of its first calls.

@@ -4,7 +4,7 @@ use crate::cues::Words;
 use crate::list_run::ListRun;
 use crate::paced_run::{BothLists, have_failed};
 use crate::reports::{all_sent, tells};
-use crate::routers::router;
+use crate::routers::{CAPACITY_4, CAPACITY_64, router};
 use sample_packets::{FIRST, PATH_AT, with_bytes};
 use sample_stages::{NOTHING, Open, SEND_FAILED, firsts, totals};
 use stage_parts::{Next, Sent};
@@ -16,7 +16,7 @@ const SEGMENT_AT: usize = 42;
 
 #[test]
 fn ended_sources_count_nothing(rt: HostRuntime) {
-    let run = ListRun::over(rt, router(&rt, 1, 4), Vec::new(rt.alloc()), 0, Open);
+    let run = ListRun::over(rt, router(&rt, CAPACITY_4), Vec::new(rt.alloc()), 0, Open);
     assert!(rt; run.tells(&NOTHING, &[0; 4]));
     drop(run);
 }
@@ -45,7 +45,7 @@ fn has_first(run: &ListRun) -> bool {
 #[test]
 fn the_first_datagram_crosses(rt: HostRuntime) {
     let one = firsts(rt.alloc(), 1).expect(&rt, "memory");
-    let run = ListRun::over(rt, router(&rt, 1, 64), one, 0, Open);
+    let run = ListRun::over(rt, router(&rt, CAPACITY_64), one, 0, Open);
     assert!(rt; run.tells(&all_sent(1), &[0, 0, 1, 0]));
     assert!(rt; has_first(&run));
     drop(run);
@@ -55,7 +55,7 @@ fn the_first_datagram_crosses(rt: HostRuntime) {
 fn sources_that_always_fail_give_nothing(rt: HostRuntime) {
     let words = Words::new(rt.alloc()).expect(&rt, "memory");
     let lists = BothLists::failing(rt.alloc(), &words).expect(&rt, "memory");
-    let played = lists.run(rt, router(&rt, 1, 4), None);
+    let played = lists.run(rt, router(&rt, CAPACITY_4), None);
     assert!(rt; tells(&played.report, &NOTHING, &[0; 4]));
     assert!(rt; have_failed(played.report.sources.as_slice()));
     drop(played);
@@ -71,7 +71,7 @@ fn before_a_failure(alloc: Global) -> Result<Vec<Next>, AllocError> {
 #[test]
 fn a_failure_is_no_datagram(rt: HostRuntime) {
     let answers = before_a_failure(rt.alloc()).expect(&rt, "memory");
-    let run = ListRun::over(rt, router(&rt, 1, 64), answers, 0, Open);
+    let run = ListRun::over(rt, router(&rt, CAPACITY_64), answers, 0, Open);
     assert!(rt; run.tells(&all_sent(2), &[0, 0, 2, 0]));
     drop(run);
 }
@@ -79,7 +79,7 @@ fn a_failure_is_no_datagram(rt: HostRuntime) {
 #[test]
 fn a_sink_that_always_refuses_is_counted(rt: HostRuntime) {
     let many = firsts(rt.alloc(), 20).expect(&rt, "memory");
-    let run = ListRun::over(rt, router(&rt, 1, 64), many, 20, Open);
+    let run = ListRun::over(rt, router(&rt, CAPACITY_64), many, 20, Open);
     assert!(rt; run.tells(&totals(20, 0, SEND_FAILED, 20), &[0; 4]));
     assert!(rt; run.failures(2) == 20);
     drop(run);

@@ -100,7 +100,7 @@ impl BothLists {
         self.sources.len() == counts.0 && self.sinks.len() == counts.1
     }
 
-    pub fn start<R>(self, rt: R, config: Config, lead: Option<Lead>) -> Started
+    pub fn start<R>(self, rt: R, config: Config, lead: Option<&Lead>) -> Started
     where
         R: AllocGlobal + Abort + Threads + Wait + Clock + Copy + Send + Drop + 'static,
     {
@@ -109,7 +109,7 @@ impl BothLists {
     }
 
     /// The same, where the router is started.
-    pub fn run<R>(self, rt: R, config: Config, lead: Option<Lead>) -> Played<Paced, Counting>
+    pub fn run<R>(self, rt: R, config: Config, lead: Option<&Lead>) -> Played<Paced, Counting>
     where
         R: AllocGlobal + Abort + Threads + Wait + Clock + Copy + Send + Drop + 'static,
     {

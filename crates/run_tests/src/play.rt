@@ -34,8 +34,12 @@ pub struct Played<S, K> {
     pub as_told: bool,
 }
 
-// Closes a link again and again, until its marks are there.
-fn close_at_last<N, S, K, G, R>(rt: &R, running: &mut Running<N, S, K, G, R>, link: u16) -> bool
+// What closes links, of whichever devices it is.
+trait Closing {
+    fn close(&mut self, link: u16) -> Result<(), CloseFault>;
+}
+
+impl<N, S, K, G, R> Closing for Running<N, S, K, G, R>
 where
     N: Router,
     S: Source + Drop,
@@ -43,9 +47,16 @@ where
     G: Gate + Drop,
     R: Threads + Wait + Clock + Copy,
 {
+    fn close(&mut self, link: u16) -> Result<(), CloseFault> {
+        self.close_link(link)
+    }
+}
+
+// Closes a link again and again, until its marks are there.
+fn close_at_last<C: Closing, R: Clock>(rt: &R, running: &mut C, link: u16) -> bool {
     let backoff = Backoff::new();
     for _ in 0..LOOKS {
-        match running.close_link(link) {
+        match running.close(link) {
             Ok(()) => return true,
             Err(CloseFault::Full) => pause(rt, &backoff),
             Err(_) => return false,
@@ -55,19 +66,7 @@ where
 }
 
 // Whether it went as the order says.
-fn obey<N, S, K, G, R>(
-    rt: &R,
-    running: &mut Running<N, S, K, G, R>,
-    words: &Words,
-    order: Order,
-) -> bool
-where
-    N: Router,
-    S: Source + Drop,
-    K: Sink + Drop,
-    G: Gate + Drop,
-    R: Threads + Wait + Clock + Copy,
-{
+fn obey<C: Closing, R: Clock>(rt: &R, running: &mut C, words: &Words, order: Order) -> bool {
     match order {
         Order::Passed(count) => comes(rt, &words.passed, count),
         Order::Asked(number) => comes(rt, &words.asked, number),
@@ -76,19 +75,12 @@ where
             words.stage.store(stage, Ordering::SeqCst);
             true
         }
-        Order::Close(link, wanted) => running.close_link(link) == wanted,
+        Order::Close(link, wanted) => running.close(link) == wanted,
         Order::CloseAtLast(link) => close_at_last(rt, running, link),
     }
 }
 
-fn obey_all<N, S, K, G, R>(rt: &R, running: &mut Running<N, S, K, G, R>, lead: &Lead) -> bool
-where
-    N: Router,
-    S: Source + Drop,
-    K: Sink + Drop,
-    G: Gate + Drop,
-    R: Threads + Wait + Clock + Copy,
-{
+fn obey_all<C: Closing, R: Clock>(rt: &R, running: &mut C, lead: &Lead) -> bool {
     let mut as_told = true;
     for order in lead.orders {
         as_told &= obey(rt, running, &lead.words, *order);
@@ -104,7 +96,7 @@ fn play<N, S, K, G, R>(
     sources: Vec<S>,
     sinks: Vec<K>,
     gate: G,
-    lead: Option<Lead>,
+    lead: Option<&Lead>,
 ) -> Result<Played<S, K>, StartFault<S, K>>
 where
     N: Router + Send + Sync + 'static,
@@ -120,7 +112,7 @@ where
 {
     match start::<N, S, K, G, R>(rt, alloc, blank, config, sources, sinks, gate) {
         Ok(mut running) => {
-            let as_told = match &lead {
+            let as_told = match lead {
                 Some(lead) => obey_all(&rt, &mut running, lead),
                 None => true,
             };
@@ -140,7 +132,7 @@ pub fn run<S, K, G, R>(
     sources: Vec<S>,
     sinks: Vec<K>,
     gate: G,
-    lead: Option<Lead>,
+    lead: Option<&Lead>,
 ) -> Result<Played<S, K>, StartFault<S, K>>
 where
     S: Source + Send + Drop + 'static,
@@ -153,25 +145,4 @@ where
     let alloc = rt.alloc();
     let blank = Blank::new(alloc).expect(&rt, "memory");
     play::<Brand, S, K, G, R>(rt, alloc, blank, config, sources, sinks, gate, lead)
-}
-
-/// The same, where it is started.
-pub fn ran<S, K, G, R>(
-    rt: R,
-    config: Config,
-    sources: Vec<S>,
-    sinks: Vec<K>,
-    gate: G,
-    lead: Option<Lead>,
-) -> Played<S, K>
-where
-    S: Source + Send + Drop + 'static,
-    K: Sink + Send + Drop + 'static,
-    G: Gate + Send + Sync + Drop + 'static,
-    R: AllocGlobal + Abort + Threads + Wait + Clock + Copy + Send + 'static,
-    requires sources { Each (λ s. ToldNothing (S.told s)) sources.items }
-    requires sinks { Each (λ k. ToldNothing (K.told k)) sinks.items }
-{
-    let played = run(rt, config, sources, sinks, gate, lead).ok();
-    played.expect(&rt, "a router that starts")
 }

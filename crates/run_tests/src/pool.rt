@@ -5,7 +5,7 @@ use crate::devices::{Counting, Paced};
 use crate::paced_run::{BothLists, Started};
 use crate::play::{Lead, Played};
 use crate::reports::{all_sent, tells};
-use crate::routers::router;
+use crate::routers::{CAPACITY_64, router};
 use router_run::StartFault;
 use std::process::Abort;
 use std::rt::Clock;
@@ -26,7 +26,7 @@ where
         words,
         orders: &ORDERS,
     };
-    lists.run(rt, router(&rt, 1, 64), Some(lead))
+    lists.run(rt, router(&rt, CAPACITY_64), Some(&lead))
 }
 
 /// Neither the devices nor the router take memory after the start: the first growth past those of `start` may
@@ -43,7 +43,7 @@ fn started<R>(rt: R, lists: BothLists) -> Started
 where
     R: AllocGlobal + Abort + Threads + Wait + Clock + Copy + Send + Drop + 'static,
 {
-    lists.start(rt, router(&rt, 1, 64), None)
+    lists.start(rt, router(&rt, CAPACITY_64), None)
 }
 
 // The lists that came back for their wrong count.

@@ -6,29 +6,35 @@ use sample_packets::CONFIGURATION;
 use sample_stages::TWO_BANDS;
 use std::process::Abort;
 
-// The text of a configuration, in which a number has another value.
-fn with<R: AllocGlobal + Abort>(rt: &R, text: &str, key: &str, from: u32, to: u32) -> String {
-    let from = format!(in rt.alloc(); "{key} = {from}\n").expect(rt, "memory");
-    let to = format!(in rt.alloc(); "{key} = {to}\n").expect(rt, "memory");
-    text.replace(rt.alloc(), from.as_str(), to.as_str())
-        .expect(rt, "memory")
-}
-
 fn read<R: AllocGlobal + Abort>(rt: &R, text: &str) -> Config {
     read_config(rt.alloc(), text).expect(rt, "configuration")
 }
 
-/// The first datagram's router, of four links, with this number of processors and pipes of this capacity.
-pub fn router<R: AllocGlobal + Abort>(rt: &R, processors: u8, capacity: u32) -> Config {
-    let text = with(rt, CONFIGURATION, "processors", 1, u32::from(processors));
-    let text = with(rt, text.as_str(), "capacity", 4, capacity);
-    read(rt, text.as_str())
+/// Lines for one processor and pipes of this capacity.
+pub const CAPACITY_2: &str = "processors = 1\ncapacity = 2\n";
+
+pub const CAPACITY_4: &str = "processors = 1\ncapacity = 4\n";
+
+pub const CAPACITY_64: &str = "processors = 1\ncapacity = 64\n";
+
+/// Lines for two processors.
+pub const TWO_PROCESSORS: &str = "processors = 2\ncapacity = 64\n";
+
+// With other lines for its number of processors and the capacity of its pipes.
+fn sized<R: AllocGlobal + Abort>(rt: &R, text: &str, sizes: &str) -> Config {
+    let text = text.replace(rt.alloc(), "processors = 1\ncapacity = 4\n", sizes);
+    read(rt, text.expect(rt, "memory").as_str())
+}
+
+/// The first datagram's router, of four links, with these lines for its number of processors and the capacity of
+/// its pipes.
+pub fn router<R: AllocGlobal + Abort>(rt: &R, sizes: &str) -> Config {
+    sized(rt, CONFIGURATION, sizes)
 }
 
 /// A router like it, of three links, whose link 2 has two bands.
-pub fn two_band_router<R: AllocGlobal + Abort>(rt: &R, capacity: u32) -> Config {
-    let text = with(rt, TWO_BANDS, "capacity", 4, capacity);
-    read(rt, text.as_str())
+pub fn two_band_router<R: AllocGlobal + Abort>(rt: &R, sizes: &str) -> Config {
+    sized(rt, TWO_BANDS, sizes)
 }
 
 /// A router of 33 links, each to a core AS, with 16 processors, whose pipes hold one entry each.

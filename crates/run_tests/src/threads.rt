@@ -5,9 +5,10 @@ ghost use Rattle.std.specs.Prelude.{◌≡◌, ◌≤◌, [], false, length, vec
 use crossbeam_utils::sync::EventCount;
 use packet_ledger::{Blank, Book, Ledger, Share};
 use router_stages::Turn;
-use ruled_pipe::{Load, Pipe};
+use ruled_pipe::Load;
+use sample_stages::{ends_of, next_producer};
 use stage_parts::{Event, Inlet, Outlet};
-use std::alloc::{AllocError, Global};
+use std::alloc::Global;
 use std::marker::Brand;
 use std::process::Abort;
 use std::sync::atomic::AtomicU64;
@@ -209,10 +210,11 @@ where
     requires six { L.workers ≡ 6 }
 {
     let (orders, mut shares) = orders_for::<L, R>(&rt, alloc, blank, 6);
-    let one = team(rt, alloc, &orders, &mut shares, sizes[0]);
-    let two = team(rt, alloc, &orders, &mut shares, sizes[1]);
-    let three = team(rt, alloc, &orders, &mut shares, sizes[2]);
-    let four = team(rt, alloc, &orders, &mut shares, sizes[3]);
+    let [one, two, three, four] = sizes;
+    let one = team(rt, alloc, &orders, &mut shares, one);
+    let two = team(rt, alloc, &orders, &mut shares, two);
+    let three = team(rt, alloc, &orders, &mut shares, three);
+    let four = team(rt, alloc, &orders, &mut shares, four);
     start_four(rt, &orders, (one, two), (three, four))
 }
 
@@ -227,15 +229,15 @@ where
     (first, joined(rt, alloc, second))
 }
 
-// Four teams, one of them empty: how many came back.
-fn four_teams<L, R>(rt: R, alloc: Global, blank: Blank) -> Option<[usize; 4]>
+// How many came back of each of four teams; none where a thread was refused.
+fn four_teams<L, R>(rt: R, alloc: Global, blank: Blank, sizes: [Size; 4]) -> Option<[usize; 4]>
 where
     L: Ledger + Send + Sync + 'static,
     R: Abort + Threads + Wait + Clock + Copy + Send + Drop + 'static,
     requires name { blank.table ≡ L.table }
     requires six { L.workers ≡ 6 }
 {
-    match started::<L, R>(rt, alloc, blank, [(3, 3), (2, 2), (1, 1), (0, 0)]) {
+    match started::<L, R>(rt, alloc, blank, sizes) {
         Ok((front, back)) => {
             let (one, two) = both_joined(&rt, alloc, front);
             let (three, four) = both_joined(&rt, alloc, back);
@@ -248,24 +250,16 @@ where
 #[test]
 fn workers_come_back(rt: HostRuntime) {
     let blank = Blank::new(rt.alloc()).expect(&rt, "memory");
-    assert!(rt; four_teams::<Brand, _>(rt, rt.alloc(), blank) == Some([3, 2, 1, 0]));
+    let back = four_teams::<Brand, _>(rt, rt.alloc(), blank, [(3, 3), (2, 2), (1, 1), (0, 0)]);
+    assert!(rt; back == Some([3, 2, 1, 0]));
 }
 
-// A team with orders for fewer threads than it has workers is refused, and no thread is left.
-fn one_short<L, R>(rt: R, alloc: Global, blank: Blank) -> bool
-where
-    L: Ledger + Send + Sync + 'static,
-    R: Abort + Threads + Wait + Clock + Copy + Send + Drop + 'static,
-    requires name { blank.table ≡ L.table }
-    requires six { L.workers ≡ 6 }
-{
-    started::<L, R>(rt, alloc, blank, [(3, 3), (1, 1), (2, 1), (0, 0)]).is_err()
-}
-
+/// A team with orders for fewer threads than it has workers is refused, and no thread is left.
 #[test]
 fn a_refused_thread_ends_all(rt: HostRuntime) {
     let blank = Blank::new(rt.alloc()).expect(&rt, "memory");
-    assert!(rt; one_short::<Brand, _>(rt, rt.alloc(), blank));
+    let back = four_teams::<Brand, _>(rt, rt.alloc(), blank, [(3, 3), (1, 1), (2, 1), (0, 0)]);
+    assert!(rt; back.is_none());
 }
 
 // It offers the numbers below a bound, one in eight turns, and then its end mark.
@@ -413,16 +407,14 @@ fn alone<L: Ledger, W: Work<L> + Drop, R: Abort>(
 }
 
 // Two workers at the ends of a pipe. The one that offers notifies the event.
-fn at_both_ends<R: Wait + Copy>(
+fn at_both_ends<R: Abort + Wait + Copy>(
     rt: R,
     alloc: Global,
     event: Event,
-) -> Result<Option<(Feeder<R>, Drain<R>)>, AllocError> {
-    let (_, mut ends, consumer) = Pipe::<u64>::new(alloc, 4, 1)?;
-    let Some(end) = ends.pop() else {
-        return Ok(None);
-    };
-    let to = Outlet::of(end, Some(event));
+) -> (Feeder<R>, Drain<R>) {
+    let made = ends_of::<u64>(alloc, 4, 1);
+    let (mut ends, consumer) = made.expect(&rt, "memory");
+    let to = Outlet::of(next_producer(&mut ends), Some(event));
     let feeder = Feeder {
         rt,
         to,
@@ -434,46 +426,35 @@ fn at_both_ends<R: Wait + Copy>(
         from: Inlet::of(consumer, 1),
         sum: 0,
     };
-    Ok(Some((feeder, drain)))
+    (feeder, drain)
 }
 
-// Both workers' teams. The second one sleeps until the first one's event.
-fn feeding<L: Ledger, R: Abort + Wait + Copy + Drop>(
-    rt: R,
-    alloc: Global,
-    orders: &Orders<L>,
-) -> (Team<L, Feeder<R>>, Team<L, Drain<R>>)
-    ensures first { (result.0.room.items ≡ []) × (length result.0.workers.items ≤ vec_capacity result.0.room) }
-    ensures second { (result.1.room.items ≡ []) × (length result.1.workers.items ≤ vec_capacity result.1.room) }
+// Both workers in threads. The second one sleeps until the first one's event.
+fn feeding<L, R>(rt: R, alloc: Global, orders: &Orders<L>) -> Both<L, Feeder<R>, Drain<R>>
+where
+    L: Ledger + Send + Sync + 'static,
+    R: Abort + Threads + Wait + Clock + Copy + Send + Drop + 'static,
 {
     let event = Arc::new(alloc, EventCount::new()).expect(&rt, "memory");
     let woken = orders.another_with(&event).expect(&rt, "memory");
     let plain = orders.another().expect(&rt, "memory");
-    let made = at_both_ends(rt, alloc, event).expect(&rt, "memory");
-    let (feeder, drain) = made.expect(&rt, "an end");
+    let (feeder, drain) = at_both_ends(rt, alloc, event);
     let first = alone(&rt, alloc, feeder, plain);
-    (first, alone(&rt, alloc, drain, woken))
+    let second = alone(&rt, alloc, drain, woken);
+    let both = start_both(rt, orders, first, second).ok();
+    both.expect(&rt, "threads")
 }
 
-// Starts both and joins them: what the second one took, in sum.
-fn taken_by<L, R>(
-    rt: R,
-    alloc: Global,
-    orders: &Orders<L>,
-    teams: (Team<L, Feeder<R>>, Team<L, Drain<R>>),
-) -> u64
+// Joins both: what the second one took, in sum.
+fn taken_by<L, R>(rt: &R, alloc: Global, both: Both<L, Feeder<R>, Drain<R>>) -> u64
 where
-    L: Ledger + Send + Sync + 'static,
-    R: Abort + Threads + Wait + Clock + Copy + Send + Drop + 'static,
-    requires first { (teams.0.room.items ≡ []) × (length teams.0.workers.items ≤ vec_capacity teams.0.room) }
-    requires second { (teams.1.room.items ≡ []) × (length teams.1.workers.items ≤ vec_capacity teams.1.room) }
+    L: Ledger,
+    R: Abort + Threads + Wait + Clock + Drop,
 {
-    let both = start_both(rt, orders, teams.0, teams.1).ok();
-    let Both { first, second } = both.expect(&rt, "threads");
-    orders.run();
-    drop(workers_of(&rt, alloc, first));
-    let mut back = workers_of(&rt, alloc, second);
-    back.pop().expect(&rt, "worker").sum
+    let Both { first, second } = both;
+    drop(workers_of(rt, alloc, first));
+    let mut back = workers_of(rt, alloc, second);
+    back.pop().expect(rt, "worker").sum
 }
 
 // What a worker that sleeps takes of a pipe into which another pushes now and then: the sum.
@@ -485,8 +466,9 @@ where
     requires none { L.workers ≡ 0 }
 {
     let (orders, _) = orders_for::<L, R>(&rt, alloc, blank, 0);
-    let teams = feeding(rt, alloc, &orders);
-    taken_by(rt, alloc, &orders, teams)
+    let both = feeding(rt, alloc, &orders);
+    orders.run();
+    taken_by(&rt, alloc, both)
 }
 
 #[test]
