@@ -4,7 +4,6 @@
 use crossbeam_utils::Backoff;
 use router_run::CloseFault;
 use std::alloc::{AllocError, Global};
-use std::rt::Clock;
 use std::sync::Arc;
 use std::sync::atomic::{AtomicU64, Ordering};
 use std::thread;
@@ -16,25 +15,71 @@ pub const LOOKS: u32 = 400_000;
 /// What the devices, the gate and the controller of a test tell one another.
 #[derive(Drop)]
 pub struct Words {
+    rt: HostRuntime,
     /// How many datagrams of link 1 were passed on to the processor, or dropped.
     pub passed: AtomicU64,
     /// The number of the last packet for which the gate was asked.
     pub asked: AtomicU64,
-    /// How many packets link 2's sink was handed, the one that it holds among them.
+    /// How often sources were asked.
+    pub tried: AtomicU64,
+    /// How many packets the sinks were handed, one that is held among them.
     pub handed: AtomicU64,
     /// How far the controller has come.
     pub stage: AtomicU64,
+    /// Whether processor 0 asked at a meeting, and whether another one did.
+    pub zero: AtomicU64,
+    pub other: AtomicU64,
+    /// How many packets met.
+    pub met: AtomicU64,
 }
 
 impl Words {
-    pub fn new(alloc: Global) -> Result<Arc<Words, Global>, AllocError> {
+    pub fn new(rt: HostRuntime) -> Result<Arc<Words, Global>, AllocError> {
         let words = Words {
+            rt,
             passed: AtomicU64::new(0),
             asked: AtomicU64::new(0),
+            tried: AtomicU64::new(0),
             handed: AtomicU64::new(0),
             stage: AtomicU64::new(0),
+            zero: AtomicU64::new(0),
+            other: AtomicU64::new(0),
+            met: AtomicU64::new(0),
         };
-        Ok(Arc::new(alloc, words)?)
+        Ok(Arc::new(rt.alloc(), words)?)
+    }
+
+    /// The allocator.
+    pub fn alloc(&self) -> Global {
+        self.rt.alloc()
+    }
+
+    /// Waits a little.
+    pub fn pause(&self, backoff: &Backoff) {
+        if backoff.is_completed() {
+            thread::sleep(&self.rt, Duration::from_micros(1));
+        } else {
+            backoff.snooze();
+        }
+    }
+
+    /// Waits until a word has come so far; false at the limit.
+    pub fn comes(&self, word: &AtomicU64, to: u64) -> bool {
+        let backoff = Backoff::new();
+        for _ in 0..LOOKS {
+            if word.load(Ordering::SeqCst) >= to {
+                return true;
+            }
+            self.pause(&backoff);
+        }
+        false
+    }
+
+    /// Waits until a little after the controller has come to stage 1; false at the limit.
+    pub fn releases(&self) -> bool {
+        let released = self.comes(&self.stage, 1);
+        thread::sleep(&self.rt, Duration::from_millis(20));
+        released
     }
 }
 
@@ -90,25 +135,4 @@ pub enum Order {
     Close(u16, Result<(), CloseFault>),
     /// Closes it again and again, until its marks are there.
     CloseAtLast(u16),
-}
-
-/// Waits a little.
-pub fn pause<R: Clock>(rt: &R, backoff: &Backoff) {
-    if backoff.is_completed() {
-        thread::sleep(rt, Duration::from_micros(1));
-    } else {
-        backoff.snooze();
-    }
-}
-
-/// Waits until a word has come so far; false at the limit.
-pub fn comes<R: Clock>(rt: &R, word: &AtomicU64, to: u64) -> bool {
-    let backoff = Backoff::new();
-    for _ in 0..LOOKS {
-        if word.load(Ordering::SeqCst) >= to {
-            return true;
-        }
-        pause(rt, &backoff);
-    }
-    false
 }

@@ -5,25 +5,17 @@
 #[cfg(test)]
 mod closing;
 #[cfg(test)]
-mod cued;
-#[cfg(test)]
 mod cues;
 #[cfg(test)]
 mod dealing;
 #[cfg(test)]
-mod devices;
+mod gate;
 #[cfg(test)]
 mod gates;
-#[cfg(test)]
-mod list_run;
-#[cfg(test)]
-mod lists;
 #[cfg(test)]
 mod many;
 #[cfg(test)]
 mod memory;
-#[cfg(test)]
-mod paced_run;
 #[cfg(test)]
 mod play;
 #[cfg(test)]
@@ -31,6 +23,12 @@ mod pool;
 mod reports;
 #[cfg(test)]
 mod routers;
+#[cfg(test)]
+mod setup;
+#[cfg(test)]
+mod sink;
+#[cfg(test)]
+mod source;
 #[cfg(test)]
 mod threads;
 

@@ -2,31 +2,29 @@
 
 ghost use Rattle.std.specs.Prelude.{◌≡◌, ◌<◌, length};
 
-use crate::list_run::ListRun;
-use crate::lists::{list_sinks, list_sources};
+use crate::cues::Words;
+use crate::play::{Played, run};
+use crate::reports::sent_by;
 use crate::routers::wide_router;
+use crate::setup::{Devices, OPEN, Setup, sinks};
+use crate::sink::Taking;
+use crate::source::{FLOWS, Plan, PlannedSource};
 use cmac_core::Cmac;
 use hop_check::beacon;
 use path_fields::Hop;
 use process_packet::{Ip, Totals, Underlay};
-use sample_packets::{FIRST, IN_TIME, KEY, PATH_AT, with_bytes};
-use sample_stages::{FULL_LINK, FULL_PROCESSOR, NO_BUFFER, NOTHING, Open, datagram};
-use stage_parts::{Next, Sent};
+use sample_packets::{FIRST, KEY, PATH_AT, with_bytes};
+use sample_stages::{FULL_LINK, FULL_PROCESSOR, NO_BUFFER, NOTHING};
+use stage_parts::{Sent, both};
 use std::alloc::{AllocError, Global};
-use std::process::Abort;
-use std::rt::Clock;
-use std::sync::Wait;
+use std::sync::Arc;
 use std::test::*;
-use std::thread::Threads;
 
 /// All links, the internal network's among them.
 const LINKS: u16 = 33;
 
 /// How many datagrams come by each.
 const DATAGRAMS: u64 = 1000;
-
-/// How many flows they are of.
-const FLOWS: u64 = 50;
 
 /// The first datagram's segment.
 const SEGMENT_ID: u16 = 0x1234;
@@ -70,27 +68,31 @@ fn datagram_by(link: u8) -> [u8; 92] {
     with_bytes(local, FIRST_HOP, &hop)
 }
 
-fn datagrams_by(alloc: Global, link: u8) -> Result<Vec<Next>, AllocError> {
+// What the source of a link gives: its datagrams, at once.
+fn plan(link: u8) -> Plan {
     let from = Underlay {
         ip: Ip::V4([10, 2, 0, link]),
         port: 40000,
     };
-    let first = datagram_by(link);
-    let mut answers = Vec::new(alloc);
-    for k in 0..DATAGRAMS {
-        let flow = ((k + 1) % FLOWS) as u8;
-        let bytes = with_bytes(first, 3, &[flow]);
-        answers.push(datagram(alloc, &bytes, from, IN_TIME)?)?;
-    }
-    Ok(answers)
+    Plan::Flows(DATAGRAMS, from, datagram_by(link))
 }
 
-fn all_datagrams(alloc: Global) -> Result<Vec<Vec<Next>>, AllocError> {
-    let mut lists = Vec::new(alloc);
-    for link in 0..LINKS {
-        lists.push(datagrams_by(alloc, link as u8)?)?;
+fn sources(words: &Arc<Words, Global>) -> Result<Vec<PlannedSource>, AllocError> {
+    let mut sources = Vec::new(words.alloc());
+    for link in 0..33u8 {
+        sources.push(PlannedSource::new(words, plan(link))?)?;
     }
-    Ok(lists)
+    Ok(sources)
+}
+
+fn devices(words: &Arc<Words, Global>) -> Option<Devices> {
+    let (sources, sinks) = both(sources(words), sinks(words, 33, Taking::Keeps(0))).ok()?;
+    Some(Devices { sources, sinks })
+}
+
+fn all_links(rt: HostRuntime) -> Option<Setup> {
+    let words = Words::new(rt).ok()?;
+    Setup::over(&words, wide_router(rt.alloc()), devices(&words), OPEN)
 }
 
 /// Whether the sink took a packet, and it is of its flow and comes after the last one of its link and flow, whose
@@ -136,25 +138,35 @@ fn adds_up(totals: &Totals, sent: u128) -> bool {
     *totals == wanted && dropped.wrapping_add(sent) == 33_000
 }
 
-fn wide_run<R>(rt: R) -> ListRun
-where
-    R: AllocGlobal + Abort + Threads + Wait + Clock + Copy + Send + Drop + 'static,
-{
-    let lists = all_datagrams(rt.alloc()).expect(&rt, "memory");
-    let sources = list_sources(rt.alloc(), lists).expect(&rt, "memory");
-    let sinks = list_sinks(rt.alloc(), 33, 0).expect(&rt, "memory");
-    ListRun::of(rt, wide_router(&rt), sources, sinks, Open)
+// What link 1's sink was handed: how many packets, where they are in order.
+fn in_order(played: &Played) -> Option<u128> {
+    let list = played.told(1)?;
+    if is_in_order(list) {
+        Some(list.len() as u128)
+    } else {
+        None
+    }
+}
+
+// Whether this number of packets was sent, all by link 1, and all others were dropped.
+fn went_by_one(played: &Played, sent: u128) -> bool {
+    let mut counts = [0; 33];
+    counts[1] = sent;
+    adds_up(&played.report.totals, sent) && sent_by(&played.report, &counts)
+}
+
+// Whether packets were sent by link 1 alone, in order, and all others were dropped.
+fn is_wide(played: Option<Played>) -> bool {
+    let Some(played) = played else {
+        return false;
+    };
+    match in_order(&played) {
+        Some(sent) => went_by_one(&played, sent),
+        None => false,
+    }
 }
 
 #[test]
 fn capacity_one(rt: HostRuntime) {
-    let run = wide_run(rt);
-    let list = run.told(1).expect(&rt, "a list");
-    assert!(rt; is_in_order(list));
-    let sent = list.len() as u128;
-    assert!(rt; adds_up(run.totals(), sent));
-    let mut counts = [0; 33];
-    counts[1] = sent;
-    assert!(rt; run.sent_by(&counts));
-    drop(run);
+    assert!(rt; is_wide(run(rt, all_links(rt))));
 }

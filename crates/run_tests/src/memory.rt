@@ -1,14 +1,14 @@
-//! Runs over lists: what a router without datagrams, one with a single one, and failing devices come to.
+//! What a router without datagrams, one with a single one, and failing devices come to.
 
-use crate::cues::Words;
-use crate::list_run::ListRun;
-use crate::paced_run::{BothLists, have_failed};
-use crate::reports::{all_sent, tells};
-use crate::routers::{CAPACITY_4, CAPACITY_64, router};
+use crate::play::{Played, run, tells};
+use crate::reports::all_sent;
+use crate::routers::{CAPACITY_4, CAPACITY_64};
+use crate::setup::{OPEN, Setup};
+use crate::sink::Taking;
+use crate::source::{ENDED, FAILS, Plan};
 use sample_packets::{FIRST, PATH_AT, with_bytes};
-use sample_stages::{NOTHING, Open, SEND_FAILED, firsts, totals};
-use stage_parts::{Next, Sent};
-use std::alloc::{AllocError, Global};
+use sample_stages::{NOTHING, SEND_FAILED, totals};
+use stage_parts::{Sent, Sink, Source};
 use std::test::*;
 
 /// Where the identifier of the first datagram's segment is.
@@ -16,9 +16,8 @@ const SEGMENT_AT: usize = 42;
 
 #[test]
 fn ended_sources_count_nothing(rt: HostRuntime) {
-    let run = ListRun::over(rt, router(&rt, CAPACITY_4), Vec::new(rt.alloc()), 0, Open);
-    assert!(rt; run.tells(&NOTHING, &[0; 4]));
-    drop(run);
+    let played = run(rt, Setup::of(rt, CAPACITY_4, ENDED));
+    assert!(rt; tells(played, NOTHING, &[0; 4]));
 }
 
 // Whether the first datagram of link 1 was taken, as it leaves: one hop further, and its identifier chained.
@@ -34,53 +33,64 @@ fn is_first(sent: &Sent) -> bool {
         && sent.bytes.as_slice() == wanted.as_slice()
 }
 
-// Whether link 2's sink was handed the first datagram alone.
-fn has_first(run: &ListRun) -> bool {
-    match run.told(2) {
-        Some([sent]) => is_first(sent),
+// Whether the first datagram alone crossed, to link 2.
+fn crosses(played: Option<Played>) -> bool {
+    let Some(played) = played else {
+        return false;
+    };
+    match played.told(2) {
+        Some([sent]) => is_first(sent) && played.tells(all_sent(1), &[0, 0, 1, 0]),
         _ => false,
     }
 }
 
 #[test]
 fn the_first_datagram_crosses(rt: HostRuntime) {
-    let one = firsts(rt.alloc(), 1).expect(&rt, "memory");
-    let run = ListRun::over(rt, router(&rt, CAPACITY_64), one, 0, Open);
-    assert!(rt; run.tells(&all_sent(1), &[0, 0, 1, 0]));
-    assert!(rt; has_first(&run));
-    drop(run);
+    let played = run(rt, Setup::of(rt, CAPACITY_64, Plan::Failing(1, 0)));
+    assert!(rt; crosses(played));
+}
+
+// Whether nothing was counted, and all sources failed.
+fn gave_nothing(played: Option<Played>) -> bool {
+    let Some(played) = played else {
+        return false;
+    };
+    for source in &played.report.sources {
+        if source.failures() == 0 {
+            return false;
+        }
+    }
+    played.tells(NOTHING, &[0; 4])
 }
 
 #[test]
 fn sources_that_always_fail_give_nothing(rt: HostRuntime) {
-    let words = Words::new(rt.alloc()).expect(&rt, "memory");
-    let lists = BothLists::failing(rt.alloc(), &words).expect(&rt, "memory");
-    let played = lists.run(rt, router(&rt, CAPACITY_4), None);
-    assert!(rt; tells(&played.report, &NOTHING, &[0; 4]));
-    assert!(rt; have_failed(played.report.sources.as_slice()));
-    drop(played);
-}
-
-// Two datagrams, and a failure.
-fn before_a_failure(alloc: Global) -> Result<Vec<Next>, AllocError> {
-    let mut answers = firsts(alloc, 2)?;
-    answers.push(Next::Failed)?;
-    Ok(answers)
+    let setup = Setup::of_four(rt, CAPACITY_4, (FAILS, FAILS), Taking::Counts, OPEN);
+    assert!(rt; gave_nothing(run(rt, setup)));
 }
 
 #[test]
 fn a_failure_is_no_datagram(rt: HostRuntime) {
-    let answers = before_a_failure(rt.alloc()).expect(&rt, "memory");
-    let run = ListRun::over(rt, router(&rt, CAPACITY_64), answers, 0, Open);
-    assert!(rt; run.tells(&all_sent(2), &[0, 0, 2, 0]));
-    drop(run);
+    let played = run(rt, Setup::of(rt, CAPACITY_64, Plan::Failing(2, 1)));
+    assert!(rt; tells(played, all_sent(2), &[0, 0, 2, 0]));
+}
+
+// Whether 20 datagrams were dropped, at as many failures of link 2's sink.
+fn was_refused(played: Option<Played>) -> bool {
+    let Some(played) = played else {
+        return false;
+    };
+    match played.report.sinks.get(2) {
+        Some(sink) => {
+            sink.failures() == 20 && played.tells(totals(20, 0, SEND_FAILED, 20), &[0; 4])
+        }
+        None => false,
+    }
 }
 
 #[test]
 fn a_sink_that_always_refuses_is_counted(rt: HostRuntime) {
-    let many = firsts(rt.alloc(), 20).expect(&rt, "memory");
-    let run = ListRun::over(rt, router(&rt, CAPACITY_64), many, 20, Open);
-    assert!(rt; run.tells(&totals(20, 0, SEND_FAILED, 20), &[0; 4]));
-    assert!(rt; run.failures(2) == 20);
-    drop(run);
+    let plans = (Plan::Failing(20, 0), ENDED);
+    let setup = Setup::of_four(rt, CAPACITY_64, plans, Taking::Keeps(20), OPEN);
+    assert!(rt; was_refused(run(rt, setup)));
 }

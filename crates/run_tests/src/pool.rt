@@ -1,67 +1,111 @@
 //! A router that takes all its memory at its start, and what a refused start gives back.
 
 use crate::cues::{Order, Words};
-use crate::devices::{Counting, Paced};
-use crate::paced_run::{BothLists, Started};
-use crate::play::{Lead, Played};
-use crate::reports::{all_sent, tells};
+use crate::gate::Rule;
+use crate::play::{Started, start, tells};
+use crate::reports::all_sent;
 use crate::routers::{CAPACITY_64, router};
+use crate::setup::{Course, Devices, OPEN, Setup, sinks};
+use crate::sink::Taking;
+use crate::source::{ENDED, Plan, PlannedSource};
 use router_run::StartFault;
-use std::process::Abort;
+use stage_parts::both;
+use std::alloc::{AllocError, Global};
 use std::rt::Clock;
-use std::sync::Wait;
+use std::sync::atomic::Ordering;
+use std::sync::{Arc, Wait};
 use std::test::*;
 use std::thread::Threads;
 
 const ORDERS: [Order; 1] = [Order::Handed(1000)];
 
-// A run over a thousand datagrams.
-fn thousand<R>(rt: R) -> Played<Paced, Counting>
-where
-    R: AllocGlobal + Abort + Threads + Wait + Clock + Copy + Send + Drop + 'static,
-{
-    let words = Words::new(rt.alloc()).expect(&rt, "memory");
-    let lists = BothLists::new(rt.alloc(), &words, (4, 4), 1000).expect(&rt, "memory");
-    let lead = Lead {
-        words,
+// A thousand datagrams, and orders to wait for them.
+fn thousand(rt: HostRuntime) -> Option<Setup> {
+    let plans = (Plan::Paced(1000), ENDED);
+    let course = Course {
+        rule: Rule::Open,
         orders: &ORDERS,
     };
-    lists.run(rt, router(&rt, CAPACITY_64), Some(&lead))
+    Setup::of_four(rt, CAPACITY_64, plans, Taking::Counts, course)
 }
 
 /// Neither the devices nor the router take memory after the start: the first growth past those of `start` may
 /// be refused, and all is sent.
 #[test]
 fn a_thousand_datagrams_take_no_memory(rt: HostRuntime) {
-    let played = thousand(rt);
-    assert!(rt; played.as_told);
-    assert!(rt; tells(&played.report, &all_sent(1000), &[0, 0, 1000, 0]));
-    drop(played);
+    let setup = thousand(rt).ok_or(AllocError).expect(&rt, "memory");
+    let played = start(rt, setup).ok().expect(&rt, "a router that starts");
+    assert!(rt; tells(Some(played), all_sent(1000), &[0, 0, 1000, 0]));
 }
 
-fn started<R>(rt: R, lists: BothLists) -> Started
+// So many sources, of which link 1's gives a datagram, and so many sinks.
+fn counted(words: &Arc<Words, Global>, counts: (usize, usize)) -> Option<Devices> {
+    Devices::new(words, counts, (Plan::Paced(1), ENDED), Taking::Counts)
+}
+
+fn started<R>(rt: R, words: &Arc<Words, Global>, devices: Option<Devices>) -> Option<Started>
 where
-    R: AllocGlobal + Abort + Threads + Wait + Clock + Copy + Send + Drop + 'static,
+    R: Threads + Wait + Clock + Copy + Send + 'static,
 {
-    lists.start(rt, router(&rt, CAPACITY_64), None)
+    let setup = Setup::over(words, router(words.alloc(), CAPACITY_64), devices, OPEN)?;
+    Some(start(rt, setup))
 }
 
-// The lists that came back for their wrong count.
-fn miscounted(started: Started) -> Option<BothLists> {
-    match started {
-        Err(StartFault::Count { sources, sinks }) => Some(BothLists { sources, sinks }),
+// Whether so many sources and sinks are there, and none was asked.
+fn are_unasked(words: &Words, devices: &Devices, counts: (usize, usize)) -> bool {
+    words.tried.load(Ordering::SeqCst) == 0
+        && words.handed.load(Ordering::SeqCst) == 0
+        && devices.sources.len() == counts.0
+        && devices.sinks.len() == counts.1
+}
+
+// The devices that came back for their wrong count, where so many are there, and none was asked.
+fn back(words: &Words, started: Option<Started>, counts: (usize, usize)) -> Option<Devices> {
+    match started? {
+        Err(StartFault::Count { sources, sinks }) => {
+            let devices = Devices { sources, sinks };
+            if are_unasked(words, &devices, counts) {
+                Some(devices)
+            } else {
+                None
+            }
+        }
         _ => None,
     }
 }
 
+// One source more, which gives nothing.
+fn with_source(
+    words: &Arc<Words, Global>,
+    sources: Vec<PlannedSource>,
+) -> Result<Vec<PlannedSource>, AllocError> {
+    let mut sources = sources;
+    sources.push(PlannedSource::new(words, ENDED)?)?;
+    Ok(sources)
+}
+
+// The same sources and one more, and five sinks.
+fn grown(words: &Arc<Words, Global>, devices: Option<Devices>) -> Option<Devices> {
+    let sources = with_source(words, devices?.sources);
+    let (sources, sinks) = both(sources, sinks(words, 5, Taking::Counts)).ok()?;
+    Some(Devices { sources, sinks })
+}
+
+// The same without the last sink.
+fn smaller(devices: Option<Devices>) -> Option<Devices> {
+    let mut devices = devices?;
+    drop(devices.sinks.pop());
+    Some(devices)
+}
+
 // Whether all crossed, or both lists came back since no memory was left.
-fn crossed_or_back(started: Started) -> bool {
+fn crossed_or_back(words: &Words, started: Option<Started>) -> bool {
     match started {
-        Ok(played) => tells(&played.report, &all_sent(1), &[0, 0, 1, 0]),
-        Err(StartFault::NoMemory { sources, sinks }) => {
-            BothLists { sources, sinks }.is_unasked((4, 4))
+        Some(Ok(played)) => played.tells(all_sent(1), &[0, 0, 1, 0]),
+        Some(Err(StartFault::NoMemory { sources, sinks })) => {
+            are_unasked(words, &Devices { sources, sinks }, (4, 4))
         }
-        Err(_) => false,
+        _ => false,
     }
 }
 
@@ -69,13 +113,10 @@ fn crossed_or_back(started: Started) -> bool {
 /// growth of the start refused by hand they come back too, except one for a thread, which drops them.
 #[test]
 fn a_refused_start_gives_both_lists_back(rt: HostRuntime) {
-    let words = Words::new(rt.alloc()).expect(&rt, "memory");
-    let lists = BothLists::new(rt.alloc(), &words, (3, 4), 1).expect(&rt, "memory");
-    let back = miscounted(started(rt, lists)).expect(&rt, "both lists");
-    assert!(rt; back.is_unasked((3, 4)));
-    let lists = back.grown(rt.alloc(), &words).expect(&rt, "memory");
-    let mut back = miscounted(started(rt, lists)).expect(&rt, "both lists");
-    assert!(rt; back.is_unasked((4, 5)));
-    drop(back.sinks.pop());
-    assert!(rt; crossed_or_back(started(rt, back)));
+    let words = Words::new(rt).expect(&rt, "memory");
+    let few = started(rt, &words, counted(&words, (3, 4)));
+    let few = back(&words, few, (3, 4));
+    let many = started(rt, &words, grown(&words, few));
+    let many = back(&words, many, (4, 5));
+    assert!(rt; crossed_or_back(&words, started(rt, &words, smaller(many))));
 }
