@@ -11,6 +11,9 @@ use Rattle.wired_workers.proofs.middle.deciding_of.Goals as goal
 pub processors_of-requires-clause-shares : goal.processors_of-requires-clause-shares
 processors_of-requires-clause-shares g c = let r = c.requires.shares in record { each = r.each; enough = let e = r.enough in omega arith }
 
+pub processors_of-requires-clause-takers : goal.processors_of-requires-clause-takers
+processors_of-requires-clause-takers g c = c.requires.packets
+
 pub next-requires-clause-links : goal.next-requires-clause-links
 next-requires-clause-links g c = let n = c.in_ok-processors.ensures.links.count in omega arith
 
