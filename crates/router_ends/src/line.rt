@@ -39,4 +39,12 @@ impl<X> Line<X> {
             None => unreachable!(),
         }
     }
+
+    /// Gives up a line of which nothing is left, without a way to drop what it held.
+    pub fn destroy_empty(self)
+        requires { length self ≡ 0 }
+    {
+        let Line { items } = self;
+        items.destroy_empty();
+    }
 }

@@ -26,7 +26,7 @@ use Rattle.run_laws.specs.Came.{CrewsReturn, HasKept, HasSettled, back_of, forwa
 use Rattle.run_laws.specs.Crew.{Crew, IsCrew}
 use Rattle.wired_workers.specs.Piping.{Piping}
 use Rattle.run_laws.specs.Ended.{IsBack, PipesEnd, inner_rows, inner_takers, middle_takers, outer_rows, takers_of}
-use Rattle.run_parts.specs.Room.{WorkerSlots, HaveWorkerSlots, HaveSpace, Space}
+use Rattle.run_parts.specs.Room.{HaveSpace, Space}
 use Rattle.router_run.specs.Run.{HasRun, IsParted, IsSized, Run, shares_in}
 use Rattle.router_run.proofs.Parted.{rows_long}
 
@@ -142,8 +142,5 @@ left_as n m ss rs e left = subst (λ (k : ℕ). HaveLeft k 0 ss rs) (sym e) left
 pub crew_as : {S G K : Type 0} (a b : Config) (p : Piping) (w : Crew S G K) → a ≡ b → IsCrew b p w → IsCrew a p w
 crew_as a b p w e is = subst (λ (c : Config). IsCrew c p w) (sym e) is
 
-pub worker_slots_as : (a b : Config) (r : WorkerSlots) → a ≡ b → HaveWorkerSlots (link_count b) b.processors r → HaveWorkerSlots (link_count a) a.processors r
-worker_slots_as a b r e have = subst (λ (c : Config). HaveWorkerSlots (link_count c) c.processors r) (sym e) have
-
-pub space_for : (a b : Config) (r : Space) → a ≡ b → HaveSpace (link_count b) b.processors r → HaveSpace (link_count a) a.processors r
-space_for a b r e have = subst (λ (c : Config). HaveSpace (link_count c) c.processors r) (sym e) have
+pub space_as : (a b : Config) (r : Space) → a ≡ b → HaveSpace (link_count b) b.processors r → HaveSpace (link_count a) a.processors r
+space_as a b r e have = subst (λ (c : Config). HaveSpace (link_count c) c.processors r) (sym e) have

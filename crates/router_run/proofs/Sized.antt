@@ -74,25 +74,13 @@ module _ {T : Type 0} where
   each_ends_long (h ∷ hs) [] e = absurd e
   each_ends_long (h ∷ hs) (k ∷ ks) e = let r = each_ends_long hs ks e.1 in omega arith
 
-answering_one : (c : Config) (p : Piping) (xs : List Answering) → AreAnswering c p xs → length xs ≡ 1
-answering_one c p [] are = absurd are
-answering_one c p (x ∷ []) are = refl
-answering_one c p (x ∷ y ∷ xs) are = absurd are
-
 -- how many workers there are
 module _ {S G K : Type 0} (c : Config) (p : Piping) (w : Crew S G K) (is : IsCrew c p w) where
-  pub crew_processors : length w.processors ≡ c.processors
+  crew_processors : length w.processors ≡ c.processors
   crew_processors = working_long c p 0 p.inner w.processors is.processors ∙ is.pipes.processors
 
-  pub crew_slow : length w.slow ≡ 1
-  crew_slow = answering_one c p w.slow is.slow
-
-  pub crew_forwarders : length w.forwarders ≡ link_count c
+  crew_forwarders : length w.forwarders ≡ link_count c
   crew_forwarders = let x = forwarding_long c 0 p.outer w.forwarders is.forwarders in let y = is.pipes.links in omega arith
-
--- there is room for as many as these are read of
-pub mapped_fits : {X Y : Type 0} (f : X → Y) (xs : List X) (n room : ℕ) → length (map f xs) ≡ n → n ≤ room → length xs ≤ room
-mapped_fits f xs n room e fits = let l = length-map xs f in omega arith
 
 pub is_sized : {S G K : Type 0} (c : Config) (p : Piping) (old new : Crew S G K) → IsCrew c p old → IsBack old new → IsSized (link_count c) c.processors new
 is_sized {S = S} {G = G} c p old new is back =

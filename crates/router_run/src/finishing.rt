@@ -18,7 +18,7 @@ use process_packet::Totals;
 use router_ends::{Ends, Line, Shutter, gather_all, gather_one, mark_all};
 use router_stages::{Forwarder, Processor, Receiver, SlowPath};
 use ruled_pipe::Consumer;
-use run_parts::{Space, WorkerSlots};
+use run_parts::Space;
 use stage_parts::{EgressPacket, Gate, Packet, Router, Sink, SlowPathRequest, Source};
 use std::marker::Model;
 use std::rt::Clock;
@@ -45,14 +45,6 @@ pub type Threaded<N, S, K, G, R> = (
     Both<N, Receiver<N, R, S>, Processor<N, R, G>>,
     Both<N, SlowPath<N, R>, Forwarder<N, R, K>>,
 );
-
-/// Room for the workers.
-pub type Slots<N, S, K, G, R> = WorkerSlots<
-    Receiver<N, R, S>,
-    Processor<N, R, G>,
-    SlowPath<N, R>,
-    Forwarder<N, R, K>,
->;
 
 /// Workers that came back, and the controller's ends. Contracts see them as a crew.
 #[derive(Drop)]
@@ -99,40 +91,29 @@ fn marked<N: Router, R: Wait>(rt: &R, controller: Controller<N>) -> Vec<Shutter<
     shutters
 }
 
-/// Stops the workers and joins them, each into the room for it.
+/// Stops the workers and joins them.
 pub fn join_workers<N, S, K, G, R>(
     rt: &R,
     orders: &Orders<N>,
     controller: Controller<N>,
     threads: Threaded<N, S, K, G, R>,
-    slots: Slots<N, S, K, G, R>,
 ) -> Joined<N, S, K, G, R>
 where
     N: Router,
-    S: Source + Drop,
-    K: Sink + Drop,
+    S: Source,
+    K: Sink,
     G: Gate + Drop,
     R: Threads + Wait + Clock + Copy,
-    requires receivers { length threads.0.first.items ≤ slots.receivers }
-    requires processors { length threads.0.second.items ≤ slots.processors }
-    requires slow { length threads.1.first.items ≤ slots.slow }
-    requires forwarders { length threads.1.second.items ≤ slots.forwarders }
     requires unmarked { AreOpen controller.shutters.items }
-    ensures { IsBack (crew_of (map (λ h. h.promise.0.value) threads.0.first.items) (map (λ h. h.promise.0.value) threads.0.second.items) (map (λ h. h.promise.0.value) threads.1.first.items) (map (λ h. h.promise.0.value) threads.1.second.items) controller.shutters.items) result }
+    ensures { IsBack (crew_of threads.0.first threads.0.second threads.1.first threads.1.second controller.shutters.items) result }
 {
     let (front, rear) = threads;
-    let WorkerSlots {
-        receivers,
-        processors,
-        slow,
-        forwarders,
-    } = slots;
     orders.stop();
-    let receivers = join_all(rt, front.first, receivers);
-    let processors = join_all(rt, front.second, processors);
-    let slow = join_all(rt, rear.first, slow);
+    let receivers = join_all(rt, front.first);
+    let processors = join_all(rt, front.second);
+    let slow = join_all(rt, rear.first);
     let shutters = marked(rt, controller);
-    let forwarders = join_all(rt, rear.second, forwarders);
+    let forwarders = join_all(rt, rear.second);
     Joined {
         receivers,
         processors,
@@ -169,8 +150,8 @@ pub fn part_all<N, S, K, G, R>(
 ) -> (Parted<N>, Left<N, S, K>)
 where
     N: Router,
-    S: Source + Drop,
-    K: Sink + Drop,
+    S: Source,
+    K: Sink,
     G: Gate + Drop,
     R: Copy,
     requires sized { IsSized (length joined.receivers) (length joined.processors) joined }
@@ -222,6 +203,7 @@ where
         middle.bundles,
         middle.shares,
     );
+    slow.destroy_empty();
     let rear = part_forwarders(
         forwarders,
         outer.takers,

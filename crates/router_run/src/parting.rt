@@ -28,7 +28,7 @@ pub struct ReceiverParts<N: Router, S> {
 }
 
 /// Takes the receivers apart.
-pub fn part_receivers<N: Router, S: Source + Drop, R: Copy>(
+pub fn part_receivers<N: Router, S: Source, R: Copy>(
     receivers: Vec<Receiver<N, R, S>>,
     pipes: usize,
     rows: Vec<Ends<Packet<N>>>,
@@ -61,6 +61,7 @@ pub fn part_receivers<N: Router, S: Source + Drop, R: Copy>(
         sources.push_reserved(source);
         shares.push_reserved(share);
     }
+    receivers.destroy_empty();
     ReceiverParts {
         bundles,
         sources,
@@ -118,6 +119,7 @@ pub fn part_processors<N: Router, G: Gate + Drop, R: Copy>(
         bundles.push_reserved(bare(links, row));
         shares.push_reserved(share);
     }
+    processors.destroy_empty();
     ProcessorParts {
         takers,
         asking,
@@ -179,7 +181,7 @@ pub struct ForwarderParts<N: Router, K> {
 }
 
 /// Takes the forwarders apart.
-pub fn part_forwarders<N: Router, K: Sink + Drop, R: Copy>(
+pub fn part_forwarders<N: Router, K: Sink, R: Copy>(
     forwarders: Vec<Forwarder<N, R, K>>,
     takers: Vec<Consumer<EgressPacket<N>>>,
     sinks: Vec<K>,
@@ -211,6 +213,7 @@ pub fn part_forwarders<N: Router, K: Sink + Drop, R: Copy>(
         sent.push_reserved(share.forwarded());
         shares.push_reserved(share);
     }
+    forwarders.destroy_empty();
     ForwarderParts {
         takers,
         sinks,

@@ -9,7 +9,7 @@ ghost use Rattle.router_run.specs.Closing.{Closing, IsSameRun};
 ghost use Rattle.wired_workers.specs.Dealing.{piping};
 ghost use Rattle.wired_workers.specs.Kits.{forwardings, receivings};
 ghost use Rattle.run_parts.specs.WorkerParts.{AreWorkerParts};
-ghost use Rattle.run_parts.specs.Room.{HaveWorkerSlots, HaveSpace};
+ghost use Rattle.run_parts.specs.Room.{HaveSpace};
 ghost use Rattle.router_run.specs.Run.{HasRun};
 ghost use Rattle.router_run.specs.Starting.{Begins, GivesBack, IsOneALink};
 
@@ -21,7 +21,7 @@ use process_packet::Config;
 use router_rules::{causes_are_apart, link_count, links_stand_in_order, rules_are_lawful};
 use router_stages::{Forwarder, Processor, Receiver, SlowPath};
 use run_laws::{crews_end, crews_return};
-use run_parts::{Base, Prepared, Reserve, WorkerParts, prepare};
+use run_parts::{Base, Prepared, Space, WorkerParts, prepare};
 use stage_parts::{Event, Gate, Router, Sink, Source};
 use std::alloc::Global;
 use std::marker::Model;
@@ -36,8 +36,8 @@ use worker_threads::{Orders, Team, start_four};
 pub struct Running<N, S, K, G, R>
 where
     N: Router,
-    S: Source + Drop,
-    K: Sink + Drop,
+    S: Source,
+    K: Sink,
     G: Gate + Drop,
     R: Wait + Copy,
 {
@@ -46,22 +46,14 @@ where
     orders: Orders<N>,
     threads: Threaded<N, S, K, G, R>,
     pipes: Pipes<N>,
-    reserve: Reserve<
-        N,
-        Receiver<N, R, S>,
-        Processor<N, R, G>,
-        SlowPath<N, R>,
-        Forwarder<N, R, K>,
-        S,
-        K,
-    >,
+    space: Space<N, S, K>,
 }
 
 impl<N, S, K, G, R> Model for Running<N, S, K, G, R>
 where
     N: Router,
-    S: Source + Drop,
-    K: Sink + Drop,
+    S: Source,
+    K: Sink,
     G: Gate + Drop,
     R: Wait + Copy,
 {
@@ -71,14 +63,14 @@ where
     ghost use Rattle.router_rules.specs.Links.{link_count};
     ghost use Rattle.run_laws.specs.Crew.{IsCrew};
     ghost use Rattle.wired_workers.specs.Dealing.{piping};
-    ghost use Rattle.run_parts.specs.Room.{HaveWorkerSlots, HaveSpace};
+    ghost use Rattle.run_parts.specs.Room.{HaveSpace};
     ghost use Rattle.router_run.specs.Run.{Run, crew_of};
 
     ghost Value = { Run S G K };
 
-    ghost view = { λ r. record { config = (arc_value r.controller.shared).config; pipes = piping r.pipes.inner.items r.pipes.middle r.pipes.outer.items; crew = crew_of (map (λ h. h.promise.0.value) r.threads.0.first.items) (map (λ h. h.promise.0.value) r.threads.0.second.items) (map (λ h. h.promise.0.value) r.threads.1.first.items) (map (λ h. h.promise.0.value) r.threads.1.second.items) r.controller.shutters.items } };
+    ghost view = { λ r. record { config = (arc_value r.controller.shared).config; pipes = piping r.pipes.inner.items r.pipes.middle r.pipes.outer.items; crew = crew_of r.threads.0.first r.threads.0.second r.threads.1.first r.threads.1.second r.controller.shutters.items } };
 
-    ghost invariant = { λ r. (N.workers ≡ 2 * link_count (arc_value r.controller.shared).config + (arc_value r.controller.shared).config.processors + 1) × IsCrew (arc_value r.controller.shared).config (piping r.pipes.inner.items r.pipes.middle r.pipes.outer.items) (crew_of (map (λ h. h.promise.0.value) r.threads.0.first.items) (map (λ h. h.promise.0.value) r.threads.0.second.items) (map (λ h. h.promise.0.value) r.threads.1.first.items) (map (λ h. h.promise.0.value) r.threads.1.second.items) r.controller.shutters.items) × HaveLeft (link_count (arc_value r.controller.shared).config) 0 r.pipes.inner.items r.pipes.inner_rooms.items × HaveLeft ((arc_value r.controller.shared).config.processors + 2) 0 r.pipes.outer.items r.pipes.outer_rooms.items × HaveWorkerSlots (link_count (arc_value r.controller.shared).config) (arc_value r.controller.shared).config.processors r.reserve.worker_slots × HaveSpace (link_count (arc_value r.controller.shared).config) (arc_value r.controller.shared).config.processors r.reserve.space };
+    ghost invariant = { λ r. (N.workers ≡ 2 * link_count (arc_value r.controller.shared).config + (arc_value r.controller.shared).config.processors + 1) × IsCrew (arc_value r.controller.shared).config (piping r.pipes.inner.items r.pipes.middle r.pipes.outer.items) (crew_of r.threads.0.first r.threads.0.second r.threads.1.first r.threads.1.second r.controller.shutters.items) × HaveLeft (link_count (arc_value r.controller.shared).config) 0 r.pipes.inner.items r.pipes.inner_rooms.items × HaveLeft ((arc_value r.controller.shared).config.processors + 2) 0 r.pipes.outer.items r.pipes.outer_rooms.items × HaveSpace (link_count (arc_value r.controller.shared).config) (arc_value r.controller.shared).config.processors r.space };
 }
 
 // Whether there is one source and one sink a link.
@@ -137,17 +129,19 @@ fn front_of<N, S, G, R>(
 ) -> (Team<N, Receiver<N, R, S>>, Team<N, Processor<N, R, G>>)
 where
     N: Router,
-    S: Source + Drop,
+    S: Source,
     G: Gate + Drop,
     R: Wait + Copy,
     requires count { length sources.items ≡ length receivers.items }
     requires untold { Each (λ s. ToldNothing (S.told s)) sources.items }
     requires room { (teams.0.workers.items ≡ []) × (length receivers.items ≤ vec_capacity teams.0.workers) }
+    requires none { teams.1.workers.items ≡ [] }
     ensures receivers { result.0.workers.items ≡ receivings receivers.items sources.items }
     ensures processors { result.1.workers ≡ processors }
     ensures rooms { (result.0.room ≡ teams.0.room) × (result.1.room ≡ teams.1.room) }
 {
     let (receiving, working) = teams;
+    working.workers.destroy_empty();
     let receivers = receivers_of(rt, receivers, sources, receiving.workers);
     (
         Team {
@@ -173,7 +167,7 @@ fn rear_of<N, K, R>(
 ) -> (Team<N, SlowPath<N, R>>, Team<N, Forwarder<N, R, K>>)
 where
     N: Router,
-    K: Sink + Drop,
+    K: Sink,
     R: Wait + Copy,
     requires count { length sinks.items ≡ length forwarders.items }
     requires untold { Each (λ k. ToldNothing (K.told k)) sinks.items }
@@ -226,11 +220,10 @@ where
     R: Threads + Wait + Clock + Copy + Send + 'static,
     requires worker_parts { AreWorkerParts (arc_value prepared.base.common.shared).config (piping prepared.worker_parts.pipes.inner.items prepared.worker_parts.pipes.middle prepared.worker_parts.pipes.outer.items) prepared.worker_parts.pipes.inner_rooms.items prepared.worker_parts.pipes.outer_rooms.items prepared.worker_parts.receivers.items prepared.worker_parts.processors.items prepared.worker_parts.slow prepared.worker_parts.forwarders.items prepared.worker_parts.shutters.items }
     requires receivers { (prepared.teams.front.0.workers.items ≡ []) × (vec_capacity prepared.teams.front.0.workers ≡ link_count (arc_value prepared.base.common.shared).config) × (prepared.teams.front.0.room.items ≡ []) × (vec_capacity prepared.teams.front.0.room ≡ link_count (arc_value prepared.base.common.shared).config) }
-    requires processors { (prepared.teams.front.1.room.items ≡ []) × (vec_capacity prepared.teams.front.1.room ≡ (arc_value prepared.base.common.shared).config.processors) }
+    requires processors { (prepared.teams.front.1.workers.items ≡ []) × (prepared.teams.front.1.room.items ≡ []) × (vec_capacity prepared.teams.front.1.room ≡ (arc_value prepared.base.common.shared).config.processors) }
     requires slow { (prepared.teams.rear.0.workers.items ≡ []) × (vec_capacity prepared.teams.rear.0.workers ≡ 1) × (prepared.teams.rear.0.room.items ≡ []) × (vec_capacity prepared.teams.rear.0.room ≡ 1) }
     requires forwarders { (prepared.teams.rear.1.workers.items ≡ []) × (vec_capacity prepared.teams.rear.1.workers ≡ link_count (arc_value prepared.base.common.shared).config) × (prepared.teams.rear.1.room.items ≡ []) × (vec_capacity prepared.teams.rear.1.room ≡ link_count (arc_value prepared.base.common.shared).config) }
-    requires worker_slots { HaveWorkerSlots (link_count (arc_value prepared.base.common.shared).config) (arc_value prepared.base.common.shared).config.processors prepared.reserve.worker_slots }
-    requires space { HaveSpace (link_count (arc_value prepared.base.common.shared).config) (arc_value prepared.base.common.shared).config.processors prepared.reserve.space }
+    requires space { HaveSpace (link_count (arc_value prepared.base.common.shared).config) (arc_value prepared.base.common.shared).config.processors prepared.space }
     requires workers { N.workers ≡ 2 * link_count (arc_value prepared.base.common.shared).config + (arc_value prepared.base.common.shared).config.processors + 1 }
     requires sources { Each (λ s. ToldNothing (S.told s)) sources.items × (length sources.items ≡ link_count (arc_value prepared.base.common.shared).config) }
     requires sinks { Each (λ k. ToldNothing (K.told k)) sinks.items × (length sinks.items ≡ link_count (arc_value prepared.base.common.shared).config) }
@@ -240,7 +233,7 @@ where
         base,
         worker_parts,
         teams,
-        reserve,
+        space,
     } = prepared;
     let Base { common, orders } = base;
     let Common {
@@ -270,11 +263,11 @@ where
             orders,
             threads,
             pipes,
-            reserve,
+            space,
         }),
         Err(_) => {
             drop(pipes);
-            drop(reserve);
+            drop(space);
             Err(StartFault::Thread)
         }
     }
@@ -283,8 +276,8 @@ where
 impl<N, S, K, G, R> Running<N, S, K, G, R>
 where
     N: Router,
-    S: Source + Drop,
-    K: Sink + Drop,
+    S: Source,
+    K: Sink,
     G: Gate + Drop,
     R: Threads + Wait + Clock + Copy,
 {
@@ -314,10 +307,10 @@ where
             orders,
             threads,
             pipes,
-            reserve,
+            space,
         } = self;
-        let joined = join_workers(&rt, &orders, controller, threads, reserve.worker_slots);
-        let (ends, left) = part_all(joined, reserve.space);
+        let joined = join_workers(&rt, &orders, controller, threads);
+        let (ends, left) = part_all(joined, space);
         gather_pipes(pipes, ends);
         report_of(&rt, &orders.book, left)
     }

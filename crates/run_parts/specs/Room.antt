@@ -1,4 +1,4 @@
--- Room for all that comes back.
+-- Room for what comes back with the workers.
 use Rattle.std.specs.Prelude.{◌≡◌, ◌+◌, ◌*◌, ◌≤◌, ℕ, List, [], length}
 use Rattle.pipeline_laws.specs.Deeds.{Each}
 use Rattle.pipeline_laws.specs.Item.{Arrival, Outgoing}
@@ -9,13 +9,6 @@ use Rattle.router_ends.specs.Rows.{Row}
 -- an empty row with room for n
 abbrev pub IsRoomy : {T : Type 0} → ℕ → Row T → Type 0
 IsRoomy n r = (r.ends ≡ []) × (n ≤ r.room)
-
--- for how many workers there is room
-pub record WorkerSlots : Type 0 where
-  pub receivers : ℕ
-  pub processors : ℕ
-  pub slow : ℕ
-  pub forwarders : ℕ
 
 -- the rows and for how many ends, shares and devices there is room
 pub record Space : Type 0 where
@@ -32,12 +25,6 @@ pub record Space : Type 0 where
   pub sinks : ℕ
 
 -- of a router with these numbers of links and processors
-pub record HaveWorkerSlots (links processors : ℕ) (r : WorkerSlots) : Type 0 where
-  pub receivers_fit : links ≤ r.receivers
-  pub processors_fit : processors ≤ r.processors
-  pub slow_fits : 1 ≤ r.slow
-  pub forwarders_fit : links ≤ r.forwarders
-
 pub record HaveSpace (links processors : ℕ) (r : Space) : Type 0 where
   pub inner_rows : Each (IsRoomy processors) r.inner_rows × (links ≤ length r.inner_rows)
   pub inner_bundles : links ≤ r.inner_bundles

@@ -3,11 +3,11 @@
 #![tactic(auto)]
 
 mod preparing;
-mod reserve;
+mod space;
 mod teams;
 mod worker_parts;
 
 pub use preparing::{Base, Prepared, prepare};
-pub use reserve::{EndsSpace, ReportSpace, Reserve, Space, WorkerSlots};
+pub use space::{EndsSpace, ReportSpace, Space};
 pub use teams::Teams;
 pub use worker_parts::WorkerParts;

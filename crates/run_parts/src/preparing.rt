@@ -5,10 +5,10 @@ ghost use Rattle.std.specs.Arc.{arc_value};
 ghost use Rattle.router_rules.specs.Links.{link_count};
 ghost use Rattle.wired_workers.specs.Dealing.{piping};
 ghost use Rattle.wired_workers.specs.Rest.{AreNewShares};
-ghost use Rattle.run_parts.specs.Room.{HaveWorkerSlots, HaveSpace};
+ghost use Rattle.run_parts.specs.Room.{HaveSpace};
 ghost use Rattle.run_parts.specs.WorkerParts.{AreWorkerParts};
 
-use crate::reserve::{Reserve, reserve_for};
+use crate::space::{Space, space_for};
 use crate::teams::{Teams, teams_for};
 use crate::worker_parts::{WorkerParts, make_all};
 use packet_ledger::{Blank, Book, Share};
@@ -114,7 +114,7 @@ where
     pub base: Base<N>,
     pub worker_parts: WorkerParts<N, G, R>,
     pub teams: Teams<N, A, B, C, D>,
-    pub reserve: Reserve<N, A, B, C, D, S, K>,
+    pub space: Space<N, S, K>,
 }
 
 /// It is given no device, so that each stays with the caller where memory runs out.
@@ -141,11 +141,10 @@ where
     ensures shared { IfOk result (λ p. (arc_value p.base.common.shared).config ≡ config) }
     ensures worker_parts { IfOk result (λ p. AreWorkerParts config (piping p.worker_parts.pipes.inner.items p.worker_parts.pipes.middle p.worker_parts.pipes.outer.items) p.worker_parts.pipes.inner_rooms.items p.worker_parts.pipes.outer_rooms.items p.worker_parts.receivers.items p.worker_parts.processors.items p.worker_parts.slow p.worker_parts.forwarders.items p.worker_parts.shutters.items) }
     ensures receivers { IfOk result (λ p. (p.teams.front.0.workers.items ≡ []) × (vec_capacity p.teams.front.0.workers ≡ link_count config) × (p.teams.front.0.room.items ≡ []) × (vec_capacity p.teams.front.0.room ≡ link_count config)) }
-    ensures processors { IfOk result (λ p. (p.teams.front.1.room.items ≡ []) × (vec_capacity p.teams.front.1.room ≡ config.processors)) }
+    ensures processors { IfOk result (λ p. (p.teams.front.1.workers.items ≡ []) × (p.teams.front.1.room.items ≡ []) × (vec_capacity p.teams.front.1.room ≡ config.processors)) }
     ensures slow { IfOk result (λ p. (p.teams.rear.0.workers.items ≡ []) × (vec_capacity p.teams.rear.0.workers ≡ 1) × (p.teams.rear.0.room.items ≡ []) × (vec_capacity p.teams.rear.0.room ≡ 1)) }
     ensures forwarders { IfOk result (λ p. (p.teams.rear.1.workers.items ≡ []) × (vec_capacity p.teams.rear.1.workers ≡ link_count config) × (p.teams.rear.1.room.items ≡ []) × (vec_capacity p.teams.rear.1.room ≡ link_count config)) }
-    ensures worker_slots { IfOk result (λ p. HaveWorkerSlots (link_count config) config.processors p.reserve.worker_slots) }
-    ensures space { IfOk result (λ p. HaveSpace (link_count config) config.processors p.reserve.space) }
+    ensures space { IfOk result (λ p. HaveSpace (link_count config) config.processors p.space) }
 {
     let links = link_count(&config);
     let processors = usize::from(config.processors);
@@ -153,12 +152,12 @@ where
     let worker_parts = make_all(rt, alloc, &base.common, gate, shares);
     let events = &base.common.events;
     let teams = teams_for(alloc, &base.orders, events, links, processors);
-    let reserve = reserve_for(alloc, links, processors);
-    let (worker_parts, (teams, reserve)) = both(worker_parts, both(teams, reserve))?;
+    let space = space_for(alloc, links, processors);
+    let (worker_parts, (teams, space)) = both(worker_parts, both(teams, space))?;
     Ok(Prepared {
         base,
         worker_parts,
         teams,
-        reserve,
+        space,
     })
 }

@@ -95,7 +95,7 @@ where
     C: Work<N> + Drop,
     D: Work<N> + Drop,
     ensures receivers { IfOk result (λ t. (t.front.0.workers.items ≡ []) × (vec_capacity t.front.0.workers ≡ links) × (t.front.0.room.items ≡ []) × (vec_capacity t.front.0.room ≡ links)) }
-    ensures processors { IfOk result (λ t. (t.front.1.room.items ≡ []) × (vec_capacity t.front.1.room ≡ processors)) }
+    ensures processors { IfOk result (λ t. (t.front.1.workers.items ≡ []) × (t.front.1.room.items ≡ []) × (vec_capacity t.front.1.room ≡ processors)) }
     ensures slow { IfOk result (λ t. (t.rear.0.workers.items ≡ []) × (vec_capacity t.rear.0.workers ≡ 1) × (t.rear.0.room.items ≡ []) × (vec_capacity t.rear.0.room ≡ 1)) }
     ensures forwarders { IfOk result (λ t. (t.rear.1.workers.items ≡ []) × (vec_capacity t.rear.1.workers ≡ links) × (t.rear.1.room.items ≡ []) × (vec_capacity t.rear.1.room ≡ links)) }
 {

@@ -17,7 +17,7 @@ use std::test::*;
 use std::thread::Threads;
 use std::time::Clock;
 use worker_threads::{
-    Both, HOLD, Handle, Orders, Team, ThreadFault, Work, join_all, start_both, start_four,
+    Both, HOLD, Orders, Started, Team, ThreadFault, Work, join_all, start_both, start_four,
 };
 
 // It counts a number of datagrams as received, one in a turn, is quiet for a number of turns, and has ended.
@@ -152,24 +152,13 @@ fn is_over<L: Ledger, R>(worker: &Countdown<L, R>) -> bool {
     worker.left == 0 && worker.quiet == 0 && worker.share.posted().received == 3000
 }
 
-// The workers, once their threads have ended.
-fn workers_of<L, W, R>(rt: &R, alloc: Global, handles: Vec<Handle<L, W>>) -> Vec<W>
-where
-    L: Ledger,
-    W: Work<L> + Drop,
-    R: Abort + Threads + Wait + Clock,
-{
-    let room = Vec::with_capacity(alloc, handles.len()).expect(rt, "memory");
-    join_all(rt, handles, room)
-}
-
 // How many workers came back, each over.
-fn joined<L, R>(rt: &R, alloc: Global, handles: Vec<Handle<L, Countdown<L, R>>>) -> usize
+fn joined<L, R>(rt: &R, started: Started<L, Countdown<L, R>>) -> usize
 where
     L: Ledger,
-    R: Abort + Threads + Wait + Clock + Drop,
+    R: Threads + Wait + Clock + Drop,
 {
-    let back = workers_of(rt, alloc, handles);
+    let back = join_all(rt, started);
     for worker in back.iter() {
         if !is_over(worker) {
             return 0;
@@ -219,14 +208,14 @@ where
 }
 
 // How many came back of each of two teams.
-fn both_joined<L, R>(rt: &R, alloc: Global, both: Countdowns<L, R>) -> (usize, usize)
+fn both_joined<L, R>(rt: &R, both: Countdowns<L, R>) -> (usize, usize)
 where
     L: Ledger,
-    R: Abort + Threads + Wait + Clock + Drop,
+    R: Threads + Wait + Clock + Drop,
 {
     let Both { first, second } = both;
-    let first = joined(rt, alloc, first);
-    (first, joined(rt, alloc, second))
+    let first = joined(rt, first);
+    (first, joined(rt, second))
 }
 
 // How many came back of each of four teams; none where a thread was refused.
@@ -239,8 +228,8 @@ where
 {
     match started::<L, R>(rt, alloc, blank, sizes) {
         Ok((front, back)) => {
-            let (one, two) = both_joined(&rt, alloc, front);
-            let (three, four) = both_joined(&rt, alloc, back);
+            let (one, two) = both_joined(&rt, front);
+            let (three, four) = both_joined(&rt, back);
             Some([one, two, three, four])
         }
         Err(_) => None,
@@ -446,14 +435,14 @@ where
 }
 
 // Joins both: what the second one took, in sum.
-fn taken_by<L, R>(rt: &R, alloc: Global, both: Both<L, Feeder<R>, Drain<R>>) -> u64
+fn taken_by<L, R>(rt: &R, both: Both<L, Feeder<R>, Drain<R>>) -> u64
 where
     L: Ledger,
     R: Abort + Threads + Wait + Clock + Drop,
 {
     let Both { first, second } = both;
-    drop(workers_of(rt, alloc, first));
-    let mut back = workers_of(rt, alloc, second);
+    drop(join_all(rt, first));
+    let mut back = join_all(rt, second);
     back.pop().expect(rt, "worker").sum
 }
 
@@ -468,7 +457,7 @@ where
     let (orders, _) = orders_for::<L, R>(&rt, alloc, blank, 0);
     let both = feeding(rt, alloc, &orders);
     orders.run();
-    taken_by(&rt, alloc, both)
+    taken_by(&rt, both)
 }
 
 #[test]

@@ -162,7 +162,7 @@ pub fn all_entering<N: Router>(
 }
 
 /// The receivers over their sources. It takes no memory.
-pub fn receivers_of<N: Router, S: Source + Drop, R: Copy>(
+pub fn receivers_of<N: Router, S: Source, R: Copy>(
     rt: R,
     entering: Vec<Entering<N>>,
     sources: Vec<S>,
@@ -181,5 +181,7 @@ pub fn receivers_of<N: Router, S: Source + Drop, R: Copy>(
         let source = sources.next();
         receivers.push_reserved(entering.next().over(rt, source));
     }
+    entering.destroy_empty();
+    sources.destroy_empty();
     receivers
 }

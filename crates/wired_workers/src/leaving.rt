@@ -139,7 +139,7 @@ pub fn all_leaving<N: Router>(
 }
 
 /// The forwarders over their sinks. It takes no memory.
-pub fn forwarders_of<N: Router, K: Sink + Drop, R: Copy>(
+pub fn forwarders_of<N: Router, K: Sink, R: Copy>(
     rt: R,
     leaving: Vec<Leaving<N>>,
     sinks: Vec<K>,
@@ -158,5 +158,7 @@ pub fn forwarders_of<N: Router, K: Sink + Drop, R: Copy>(
         let sink = sinks.next();
         forwarders.push_reserved(leaving.next().over(rt, sink));
     }
+    leaving.destroy_empty();
+    sinks.destroy_empty();
     forwarders
 }

@@ -1,51 +1,60 @@
--- Workers that come back, one more.
-use Rattle.std.proofs.Common.{◌≡◌, ℕ, suc, ◌<◌, List, [], ◌∷◌, ◌++◌, length, map, refl, sym, ap, subst, ◌∙◌, arith, append_assoc, append-nil, length-append}
-use Rattle.std.proofs.lemmas.List.{length-map, map-append}
+-- Lists of workers that go into threads and come back, taken from their ends.
+use Rattle.std.proofs.Common.{◌≡◌, ◌+◌, ◌<◌, List, [], ◌∷◌, ◌++◌, length, map, reverse, refl, sym, ap, subst, ◌∙◌, arith, append_assoc, append-nil, length-append}
+use Rattle.std.proofs.lemmas.List.{length-map, length-reverse, map-append, reverse-append, reverse-reverse}
 use Rattle.worker_threads.specs.Back.{AreBack}
 
-module _ {X Y : Type 0} (R : X → Y → Type 0) where
-  back_more : (xs : List X) (ys : List Y) (x : X) (y : Y) → AreBack R xs ys → R x y → AreBack R (xs ++ x ∷ []) (ys ++ y ∷ [])
-  back_more [] [] x y r s = (s, tt)
-  back_more [] (b ∷ ys) x y r s = absurd r
-  back_more (a ∷ xs) [] x y r s = absurd r
-  back_more (a ∷ xs) (b ∷ ys) x y r s = (r.0, back_more xs ys x y r.1 s)
-
-  back_long : (xs : List X) (ys : List Y) → AreBack R xs ys → length ys ≡ length xs
-  back_long [] [] r = refl
-  back_long [] (y ∷ ys) r = absurd r
-  back_long (x ∷ xs) [] r = absurd r
-  back_long (x ∷ xs) (y ∷ ys) r = ap suc (back_long xs ys r.1)
-
-  module _ {H : Type 0} (f : H → X) where
-    pub mapped_more : (xs : List H) (ys more : List Y) (h : H) (b : Y) → AreBack R (map f xs) ys → R (f h) b → more ≡ ys ++ b ∷ [] → AreBack R (map f (xs ++ h ∷ [])) more
-    mapped_more xs ys more h b r s is =
-        subst (λ (l : List Y). AreBack R (map f (xs ++ h ∷ [])) l) (sym is) (subst (λ (l : List X). AreBack R l (ys ++ b ∷ [])) (sym (map-append f xs (h ∷ []))) (back_more (map f xs) ys (f h) b r s))
-
-    -- one is still to come
-    pub one_short : (xs old new all given : List H) (ys : List Y) (h : H) → old ≡ h ∷ new → xs ++ old ≡ all → all ≡ given → AreBack R (map f xs) ys → length ys < length given
-    one_short xs old new all given ys h is split same r =
-        let a = back_long (map f xs) ys r in let b = length-map xs f in let c = ap length is in let d = ap length split in let e = ap length same in omega (arith, length-append xs old)
-
-    pub back_all : (xs given : List H) (ys : List Y) → xs ≡ given → AreBack R (map f xs) ys → AreBack R (map f given) ys
-    back_all xs given ys same r = subst (λ (l : List H). AreBack R (map f l) ys) same r
-
--- what is taken of a list: one more, and all
 module _ {X : Type 0} where
-  pub one_taken : (xs old new all : List X) (x : X) → old ≡ x ∷ new → xs ++ old ≡ all → (xs ++ x ∷ []) ++ new ≡ all
-  one_taken xs old new all x is split = append_assoc xs (x ∷ []) new ∙ (ap (λ (l : List X). xs ++ l) (sym is) ∙ split)
+  pub turned_long : (xs ys : List X) → ys ≡ reverse xs → length ys ≡ length xs
+  turned_long xs ys is = ap length is ∙ length-reverse xs
 
-  pub all_taken : (xs old all given : List X) (n : ℕ) → xs ++ old ≡ all → n ≡ length old → n ≡ 0 → all ≡ given → xs ≡ given
-  all_taken xs [] all given n split long none same = sym (append-nil xs) ∙ (split ∙ same)
-  all_taken xs (y ∷ old) all given n split long none same = absurd (omega arith)
+  pub one_popped : (old new : List X) (x : X) → old ≡ new ++ x ∷ [] → length old ≡ length new + 1
+  one_popped old new x is = ap length is ∙ length-append new (x ∷ [])
 
--- one more is known by what was
+  -- the one that is popped comes first
+  first_of : (old new : List X) (x : X) → old ≡ new ++ x ∷ [] → reverse old ≡ x ∷ reverse new
+  first_of old new x is = ap reverse is ∙ reverse-append new (x ∷ [])
+
+  -- one more at the end of some, before others
+  one_later : (xs ys : List X) (x : X) → (xs ++ x ∷ []) ++ ys ≡ xs ++ x ∷ ys
+  one_later xs ys x = append_assoc xs (x ∷ []) ys
+
+  pub none_of : (xs : List X) → length xs ≡ 0 → xs ≡ []
+  none_of [] e = refl
+  none_of (x ∷ xs) e = absurd (omega arith)
+
+-- what is known of those that have threads, and those that have none yet
 module _ {H X : Type 0} (f : H → X) where
-  pub mapped_one : (hs more : List H) (xs : List X) (h : H) (x : X) → map f hs ≡ xs → more ≡ hs ++ h ∷ [] → f h ≡ x → map f more ≡ xs ++ x ∷ []
-  mapped_one hs more xs h x were is same = ap (map f) is ∙ (map-append f hs (h ∷ []) ∙ (ap (λ (zs : List X). zs ++ f h ∷ []) were ∙ ap (λ (z : X). xs ++ z ∷ []) same))
+  pub none_made : (hs : List H) (ws all : List X) → hs ≡ [] → ws ≡ reverse all → map f hs ++ reverse ws ≡ all
+  none_made hs ws all none is = ap (λ (l : List H). map f l ++ reverse ws) none ∙ (ap reverse is ∙ reverse-reverse all)
 
-  pub one_fewer : (hs : List H) (xs old new all given : List X) (x : X) → map f hs ≡ xs → old ≡ x ∷ new → xs ++ old ≡ all → all ≡ given → length hs < length given
-  one_fewer hs xs old new all given x were is split same =
-      let a = ap length were in let b = length-map hs f in let c = ap length is in let d = ap length split in let e = ap length same in omega (arith, length-append xs old)
+  pub one_made : (hs more : List H) (old new all : List X) (h : H) (x : X) → map f hs ++ reverse old ≡ all → old ≡ new ++ x ∷ [] → more ≡ hs ++ h ∷ [] → f h ≡ x → map f more ++ reverse new ≡ all
+  one_made hs more old new all h x was is pushed same =
+      ap (λ (l : List H). map f l ++ reverse new) pushed
+      ∙ (ap (λ (l : List X). l ++ reverse new) (map-append f hs (h ∷ []) ∙ ap (λ (y : X). map f hs ++ y ∷ []) same)
+      ∙ (one_later (map f hs) (reverse new) x ∙ (ap (λ (l : List X). map f hs ++ l) (sym (first_of old new x is)) ∙ was)))
 
-  pub all_known : (hs : List H) (xs old all given : List X) (n : ℕ) → xs ++ old ≡ all → n ≡ length old → n ≡ 0 → all ≡ given → map f hs ≡ xs → map f hs ≡ given
-  all_known hs xs old all given n split long none same were = were ∙ all_taken xs old all given n split long none same
+  pub made_long : (hs : List H) (ws all : List X) → map f hs ++ reverse ws ≡ all → length hs + length ws ≡ length all
+  made_long hs ws all was =
+      let a = ap length was in let b = length-append (map f hs) (reverse ws) in let c = length-map hs f in let d = length-reverse ws in omega arith
+
+  pub one_to_make : (hs : List H) (old new all : List X) (x : X) → map f hs ++ reverse old ≡ all → old ≡ new ++ x ∷ [] → length hs < length all
+  one_to_make hs old new all x was is =
+      let a = ap length was in let b = length-append (map f hs) (reverse old) in let c = length-map hs f in let d = length-reverse old in let e = one_popped old new x is in omega arith
+
+  pub all_made : (hs : List H) (ws all : List X) → map f hs ++ reverse ws ≡ all → ws ≡ [] → map f hs ≡ all
+  all_made hs ws all was none = sym (append-nil (map f hs)) ∙ (ap (λ (l : List X). map f hs ++ reverse l) (sym none) ∙ was)
+
+-- those that came back, and those that are still to come
+module _ {X Y H : Type 0} (R : X → Y → Type 0) (f : H → X) where
+  pub back_first : (hs left : List H) (bs : List Y) (all : List X) → left ≡ reverse hs → map f hs ≡ all → bs ≡ [] → (ys : List Y) → AreBack R (map f (reverse left)) ys → AreBack R all (bs ++ ys)
+  back_first hs left bs all turned are none ys rest =
+      subst (λ (l : List Y). AreBack R all (l ++ ys)) (sym none) (subst (λ (l : List X). AreBack R l ys) are (subst (λ (l : List H). AreBack R (map f l) ys) (ap reverse turned ∙ reverse-reverse hs) rest))
+
+  pub back_next : (old new : List H) (bs more : List Y) (h : H) (b : Y) (all : List X) → ((ys : List Y) → AreBack R (map f (reverse old)) ys → AreBack R all (bs ++ ys)) → old ≡ new ++ h ∷ [] → R (f h) b → more ≡ bs ++ b ∷ [] → (ys : List Y) → AreBack R (map f (reverse new)) ys → AreBack R all (more ++ ys)
+  back_next old new bs more h b all was is back pushed ys rest =
+      subst (λ (l : List Y). AreBack R all l) (sym (ap (λ (l : List Y). l ++ ys) pushed ∙ one_later bs ys b))
+      (was (b ∷ ys) (subst (λ (l : List H). AreBack R (map f l) (b ∷ ys)) (sym (first_of old new h is)) (back, rest)))
+
+  pub back_last : (hs : List H) (bs : List Y) (all : List X) → length hs ≡ 0 → ((ys : List Y) → AreBack R (map f (reverse hs)) ys → AreBack R all (bs ++ ys)) → AreBack R all bs
+  back_last hs bs all none was =
+      subst (λ (l : List Y). AreBack R all l) (append-nil bs) (was [] (subst (λ (l : List H). AreBack R (map f (reverse l)) []) (sym (none_of hs none)) tt))

@@ -1,8 +1,8 @@
 //! Workers that come back from their threads.
 
-ghost use Rattle.std.specs.Prelude.{◌≡◌, ◌≤◌, [], length, map, vec_capacity};
 ghost use Rattle.worker_threads.specs.Back.{AreBack};
 
+use crate::starting::Started;
 use crate::thread::Handle;
 use crate::work::Work;
 use packet_ledger::Ledger;
@@ -15,7 +15,7 @@ use std::time::{Clock, Duration};
 fn join_worker<N, W, R>(rt: &R, handle: Handle<N, W>) -> W
 where
     N: Ledger,
-    W: Work<N> + Drop,
+    W: Work<N>,
     R: Threads + Wait + Clock,
     ensures { W.same handle.promise.0.value result × W.has_ended result }
 {
@@ -28,19 +28,27 @@ where
     unreachable!()
 }
 
-/// Joins workers that were told to run, one by one, and puts them where there is room for them. It takes
-/// no memory. Each has ended, and is the same as when its thread was made.
-pub fn join_all<N, W, R>(rt: &R, handles: Vec<Handle<N, W>>, mut back: Vec<W>) -> Vec<W>
+/// Joins workers that were told to run, one by one, into the list that they came from. It takes no memory.
+/// Each has ended, and is the same as when its thread was made.
+pub fn join_all<N, W, R>(rt: &R, started: Started<N, W>) -> Vec<W>
 where
     N: Ledger,
-    W: Work<N> + Drop,
+    W: Work<N>,
     R: Threads + Wait + Clock,
-    requires room { (back.items ≡ []) × (length handles.items ≤ vec_capacity back) }
-    ensures { AreBack (λ a b. W.same a b × W.has_ended b) (map (λ h. h.promise.0.value) handles.items) result.items }
+    ensures { AreBack (λ a b. W.same a b × W.has_ended b) started result.items }
 {
-    for handle in handles {
-        let worker = join_worker(rt, handle);
-        back.push_reserved(worker);
+    let Started {
+        mut handles,
+        room: mut back,
+    } = started;
+    let count = handles.len();
+    handles.reverse();
+    for k in 0..count {
+        let Some(handle) = handles.pop() else {
+            unreachable!()
+        };
+        back.push_reserved(join_worker(rt, handle));
     }
+    handles.destroy_empty();
     back
 }

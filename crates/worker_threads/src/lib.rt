@@ -14,6 +14,6 @@ mod work;
 
 pub use joining::join_all;
 pub use orders::{GIVE_UP, HOLD, Orders, RUN};
-pub use starting::{Both, Team, start_all, start_both, start_four};
+pub use starting::{Both, Started, Team, start_all, start_both, start_four};
 pub use thread::{Handle, STACK, ThreadFault, WillEnd, start_worker, work_on};
 pub use work::Work;

@@ -6,6 +6,7 @@ use crate::orders::Orders;
 use crate::thread::{Handle, ThreadFault, start_worker};
 use crate::work::Work;
 use packet_ledger::Ledger;
+use std::marker::Model;
 use std::sync::Wait;
 use std::thread::Threads;
 use std::time::Clock;
@@ -18,23 +19,46 @@ pub struct Team<N: Ledger, W: Work<N>> {
     pub room: Vec<Handle<N, W>>,
 }
 
+/// Workers of one kind in threads of their own, and their list, which is empty now: the room that they come
+/// back into. Contracts see the workers as they were when their threads were made.
+#[derive(Drop)]
+pub struct Started<N: Ledger, W: Work<N>> {
+    pub(crate) handles: Vec<Handle<N, W>>,
+    pub(crate) room: Vec<W>,
+}
+
+impl<N: Ledger, W: Work<N>> Model for Started<N, W> {
+    ghost use Rattle.std.specs.Prelude.{◌≡◌, ◌≤◌, List, [], length, map, vec_capacity};
+
+    ghost Value = { List W };
+
+    ghost view = { λ s. map (λ h. h.promise.0.value) s.handles.items };
+
+    ghost invariant = { λ s. (s.room.items ≡ []) × (length s.handles.items ≤ vec_capacity s.room) };
+}
+
 // At `Err` one thread was refused, and those that were made are given.
-fn start_each<N, W, R>(rt: R, team: Team<N, W>) -> Result<Vec<Handle<N, W>>, Vec<Handle<N, W>>>
+fn start_each<N, W, R>(rt: R, team: Team<N, W>) -> Result<Started<N, W>, Vec<Handle<N, W>>>
 where
     N: Ledger + Send + Sync + 'static,
     W: Work<N> + Send + Drop + 'static,
     R: Threads + Wait + Clock + Copy + Send + 'static,
     requires room { (team.room.items ≡ []) × (length team.workers.items ≤ vec_capacity team.room) }
-    ensures { IfOk result (λ hs. map (λ h. h.promise.0.value) hs.items ≡ team.workers.items) }
+    ensures { IfOk result (λ s. s ≡ team.workers.items) }
 {
     let Team {
-        workers,
+        mut workers,
         mut orders,
         room: mut handles,
     } = team;
+    let count = workers.len();
+    workers.reverse();
     orders.reverse();
-    for worker in workers {
+    for k in 0..count {
         let Some(own) = orders.pop() else {
+            return Err(handles);
+        };
+        let Some(worker) = workers.pop() else {
             return Err(handles);
         };
         match start_worker(rt, own, worker) {
@@ -42,7 +66,10 @@ where
             Err(_) => return Err(handles),
         }
     }
-    Ok(handles)
+    Ok(Started {
+        handles,
+        room: workers,
+    })
 }
 
 // Tells the threads to give up, and joins them.
@@ -65,16 +92,16 @@ pub fn start_all<N, W, R>(
     rt: R,
     orders: &Orders<N>,
     team: Team<N, W>,
-) -> Result<Vec<Handle<N, W>>, ThreadFault>
+) -> Result<Started<N, W>, ThreadFault>
 where
     N: Ledger + Send + Sync + 'static,
     W: Work<N> + Send + Drop + 'static,
     R: Threads + Wait + Clock + Copy + Send + 'static,
     requires room { (team.room.items ≡ []) × (length team.workers.items ≤ vec_capacity team.room) }
-    ensures { IfOk result (λ hs. map (λ h. h.promise.0.value) hs.items ≡ team.workers.items) }
+    ensures { IfOk result (λ s. s ≡ team.workers.items) }
 {
     match start_each(rt, team) {
-        Ok(handles) => Ok(handles),
+        Ok(started) => Ok(started),
         Err(some) => {
             give_up(&rt, orders, some);
             Err(ThreadFault)
@@ -85,8 +112,8 @@ where
 /// The threads of two kinds of workers.
 #[derive(Drop)]
 pub struct Both<N: Ledger, V: Work<N>, W: Work<N>> {
-    pub first: Vec<Handle<N, V>>,
-    pub second: Vec<Handle<N, W>>,
+    pub first: Started<N, V>,
+    pub second: Started<N, W>,
 }
 
 /// Threads for the workers of two teams, or none.
@@ -103,14 +130,14 @@ where
     R: Threads + Wait + Clock + Copy + Send + 'static,
     requires first { (first.room.items ≡ []) × (length first.workers.items ≤ vec_capacity first.room) }
     requires second { (second.room.items ≡ []) × (length second.workers.items ≤ vec_capacity second.room) }
-    ensures first { IfOk result (λ b. map (λ h. h.promise.0.value) b.first.items ≡ first.workers.items) }
-    ensures second { IfOk result (λ b. map (λ h. h.promise.0.value) b.second.items ≡ second.workers.items) }
+    ensures first { IfOk result (λ b. b.first ≡ first.workers.items) }
+    ensures second { IfOk result (λ b. b.second ≡ second.workers.items) }
 {
     let first = start_all(rt, orders, first)?;
     match start_all(rt, orders, second) {
         Ok(second) => Ok(Both { first, second }),
         Err(fault) => {
-            give_up(&rt, orders, first);
+            give_up(&rt, orders, first.handles);
             Err(fault)
         }
     }
@@ -134,10 +161,10 @@ where
     requires two { (one.1.room.items ≡ []) × (length one.1.workers.items ≤ vec_capacity one.1.room) }
     requires three { (other.0.room.items ≡ []) × (length other.0.workers.items ≤ vec_capacity other.0.room) }
     requires four { (other.1.room.items ≡ []) × (length other.1.workers.items ≤ vec_capacity other.1.room) }
-    ensures one { IfOk result (λ r. map (λ h. h.promise.0.value) r.0.first.items ≡ one.0.workers.items) }
-    ensures two { IfOk result (λ r. map (λ h. h.promise.0.value) r.0.second.items ≡ one.1.workers.items) }
-    ensures three { IfOk result (λ r. map (λ h. h.promise.0.value) r.1.first.items ≡ other.0.workers.items) }
-    ensures four { IfOk result (λ r. map (λ h. h.promise.0.value) r.1.second.items ≡ other.1.workers.items) }
+    ensures one { IfOk result (λ r. r.0.first ≡ one.0.workers.items) }
+    ensures two { IfOk result (λ r. r.0.second ≡ one.1.workers.items) }
+    ensures three { IfOk result (λ r. r.1.first ≡ other.0.workers.items) }
+    ensures four { IfOk result (λ r. r.1.second ≡ other.1.workers.items) }
 {
     let front = start_both(rt, orders, one.0, one.1)?;
     match start_both(rt, orders, other.0, other.1) {
@@ -147,8 +174,8 @@ where
         }
         Err(fault) => {
             let Both { first, second } = front;
-            give_up(&rt, orders, first);
-            give_up(&rt, orders, second);
+            give_up(&rt, orders, first.handles);
+            give_up(&rt, orders, second.handles);
             Err(fault)
         }
     }

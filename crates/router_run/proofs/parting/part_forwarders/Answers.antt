@@ -87,6 +87,9 @@ loop-k-preserved g c =
       laws = each_back _ _ _ _ _ is inv.laws c.into_parts-sink.ensures.law;
     }
 
+pub destroy_empty-requires : goal.destroy_empty-requires
+destroy_empty-requires g c = none_left _ _ _ _ c.loop-k-test.false (c.len-count.ensures ∙ c.args.forwarders.ok.0) c.loop-k.invariant.left
+
 pub returns-clause-takers : goal.returns-clause-takers
 returns-clause-takers g c = takers_done _ _ _ (none_left _ _ _ _ c.loop-k-test.false (c.len-count.ensures ∙ c.args.forwarders.ok.0) c.loop-k.invariant.left) c.loop-k.invariant.takers
 

@@ -73,6 +73,9 @@ loop-k-preserved g c =
       );
     }
 
+pub destroy_empty-requires : goal.destroy_empty-requires
+destroy_empty-requires g c = none_left _ _ _ _ c.loop-k-test.false (c.len-count.ensures ∙ c.args.processors.ok.0) c.loop-k.invariant.left
+
 pub returns-clause-takers : goal.returns-clause-takers
 returns-clause-takers g c = all_done _ _ _ _ (none_left _ _ _ _ c.loop-k-test.false (c.len-count.ensures ∙ c.args.processors.ok.0) c.loop-k.invariant.left) c.loop-k.invariant.takers
 

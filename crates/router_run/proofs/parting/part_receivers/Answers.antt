@@ -63,6 +63,9 @@ loop-k-preserved g c =
       marks = each_back _ _ _ _ _ is inv.marks (subst (λ xs. AreMarked xs) parts.1 c.bare.ensures.marks);
     }
 
+pub destroy_empty-requires : goal.destroy_empty-requires
+destroy_empty-requires g c = none_left _ _ _ _ c.loop-k-test.false (c.len-count.ensures ∙ c.args.receivers.ok.0) c.loop-k.invariant.left
+
 pub returns-clause-bundles : goal.returns-clause-bundles
 returns-clause-bundles g c = all_done _ _ _ _ (none_left _ _ _ _ c.loop-k-test.false (c.len-count.ensures ∙ c.args.receivers.ok.0) c.loop-k.invariant.left) c.loop-k.invariant.bundles
 

@@ -13,6 +13,9 @@ front_of-front-requires-clause-untold g c = c.requires.sources.0
 pub front_of-front-requires-clause-room : goal.front_of-front-requires-clause-room
 front_of-front-requires-clause-room g c = (c.requires.receivers.0, let n = c.requires.worker_parts.entering.count in let fits = c.requires.receivers.1 in omega arith)
 
+pub front_of-front-requires-clause-none : goal.front_of-front-requires-clause-none
+front_of-front-requires-clause-none g c = c.requires.processors.0
+
 pub rear_of-rear-requires-clause-count : goal.rear_of-rear-requires-clause-count
 rear_of-rear-requires-clause-count g c = let a = c.requires.sinks.1 in let b = c.requires.worker_parts.leaving.count in omega arith
 
@@ -36,7 +39,7 @@ pub start_four-requires-clause-two : goal.start_four-requires-clause-two
 start_four-requires-clause-two g c κs within =
     let room = c.front_of-front.ensures.rooms.1 in
     let long = ap (λ r. length r.items) c.front_of-front.ensures.processors in
-    (ap (λ r. r.items) room ∙ c.requires.processors.0, let n = c.requires.worker_parts.working.count in let fits = c.requires.processors.1 in let same = ap (λ r. vec_capacity r) room in omega arith)
+    (ap (λ r. r.items) room ∙ c.requires.processors.1, let n = c.requires.worker_parts.working.count in let fits = c.requires.processors.2 in let same = ap (λ r. vec_capacity r) room in omega arith)
 
 pub start_four-requires-clause-three : goal.start_four-requires-clause-three
 start_four-requires-clause-three g c κs within =
@@ -63,7 +66,6 @@ invariant_of-result g c =
           (is_crew g.K.Sink.failed _ _ made.pipes.inner_rooms.items made.pipes.outer_rooms.items made.receivers.items made.processors.items made.slow made.forwarders.items made.shutters.items c.args.sources.items c.args.sinks.items c.requires.worker_parts c.requires.sources.1 c.requires.sinks.1),
       c.requires.worker_parts.inner_room,
       c.requires.worker_parts.outer_room,
-      c.requires.worker_slots,
       c.requires.space,
     )
 

@@ -2,7 +2,7 @@ use Rattle.std.proofs.Common.{◌+◌, ◌*◌, refl, sym, ◌∙◌, ap}
 use Rattle.process_packet.specs.declared.config.Config.{Config}
 use Rattle.router_rules.specs.Links.{link_count}
 use Rattle.router_run.proofs.Begin.{parts_as, starts}
-use Rattle.router_run.proofs.Finish.{space_for, worker_slots_as}
+use Rattle.router_run.proofs.Finish.{space_as}
 use Rattle.router_run.proofs.running.start.Goals as goal
 
 pub prepare-requires-clause-name : goal.prepare-requires-clause-name
@@ -26,7 +26,7 @@ run-requires-clause-receivers g c κs within =
 pub run-requires-clause-processors : goal.run-requires-clause-processors
 run-requires-clause-processors g c κs within =
     let room = c.in-Ok.ensures.processors in
-    (room.0, room.1 ∙ ap (λ (k : Config). k.processors) (sym c.in-Ok.ensures.shared))
+    (room.0, room.1, room.2 ∙ ap (λ (k : Config). k.processors) (sym c.in-Ok.ensures.shared))
 
 pub run-requires-clause-slow : goal.run-requires-clause-slow
 run-requires-clause-slow g c κs within = c.in-Ok.ensures.slow
@@ -37,11 +37,8 @@ run-requires-clause-forwarders g c κs within =
     let links = ap link_count (sym c.in-Ok.ensures.shared) in
     (room.0, room.1 ∙ links, room.2, room.3 ∙ links)
 
-pub run-requires-clause-worker_slots : goal.run-requires-clause-worker_slots
-run-requires-clause-worker_slots g c κs within = worker_slots_as _ _ _ c.in-Ok.ensures.shared c.in-Ok.ensures.worker_slots
-
 pub run-requires-clause-space : goal.run-requires-clause-space
-run-requires-clause-space g c κs within = space_for _ _ _ c.in-Ok.ensures.shared c.in-Ok.ensures.space
+run-requires-clause-space g c κs within = space_as _ _ _ c.in-Ok.ensures.shared c.in-Ok.ensures.space
 
 pub run-requires-clause-sources : goal.run-requires-clause-sources
 run-requires-clause-sources g c κs within = (c.requires.sources, c.if-not-is_one_a_link.ensures.0 ∙ ap link_count (sym c.in-Ok.ensures.shared))

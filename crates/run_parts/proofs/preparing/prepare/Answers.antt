@@ -1,7 +1,7 @@
 use Rattle.std.proofs.Common.{ℕ, ◌∙◌, subst}
 use Rattle.process_packet.specs.declared.config.Config.{Config}
 use Rattle.wired_workers.specs.Dealing.{piping}
-use Rattle.run_parts.specs.Room.{HaveWorkerSlots, HaveSpace}
+use Rattle.run_parts.specs.Room.{HaveSpace}
 use Rattle.run_parts.specs.WorkerParts.{AreWorkerParts}
 use Rattle.wired_workers.proofs.OkLemmas.{of_ok}
 use Rattle.run_parts.proofs.preparing.prepare.Goals as goal
@@ -17,7 +17,7 @@ pub returns-clause-processors : goal.returns-clause-processors
 returns-clause-processors g c =
     let rest = of_ok _ _ _ c.in_ok-worker_parts.ensures.1 c.both.ensures in
     let d = of_ok _ _ _ rest.0 c.teams_for-teams.ensures.processors in
-    (d.0, d.1 ∙ c.from-processors.ensures)
+    (d.0, d.1, d.2 ∙ c.from-processors.ensures)
 
 pub returns-clause-slow : goal.returns-clause-slow
 returns-clause-slow g c =
@@ -34,16 +34,9 @@ returns-clause-forwarders g c =
 pub returns-clause-space : goal.returns-clause-space
 returns-clause-space g c =
     let rest = of_ok _ _ _ c.in_ok-worker_parts.ensures.1 c.both.ensures in
-    let space = of_ok (λ r. HaveSpace c.link_count-links.result c.from-processors.result r.space) c.reserve_for-reserve.result c.in_ok-worker_parts.reserve rest.1 c.reserve_for-reserve.ensures.space in
-    subst (λ (n : ℕ). HaveSpace n c.args.config.processors c.in_ok-worker_parts.reserve.space) c.link_count-links.ensures.count
-    (subst (λ (n : ℕ). HaveSpace c.link_count-links.result n c.in_ok-worker_parts.reserve.space) c.from-processors.ensures space)
-
-pub returns-clause-worker_slots : goal.returns-clause-worker_slots
-returns-clause-worker_slots g c =
-    let rest = of_ok _ _ _ c.in_ok-worker_parts.ensures.1 c.both.ensures in
-    let worker_slots = of_ok (λ r. HaveWorkerSlots c.link_count-links.result c.from-processors.result r.worker_slots) c.reserve_for-reserve.result c.in_ok-worker_parts.reserve rest.1 c.reserve_for-reserve.ensures.worker_slots in
-    subst (λ (n : ℕ). HaveWorkerSlots n c.args.config.processors c.in_ok-worker_parts.reserve.worker_slots) c.link_count-links.ensures.count
-    (subst (λ (n : ℕ). HaveWorkerSlots c.link_count-links.result n c.in_ok-worker_parts.reserve.worker_slots) c.from-processors.ensures worker_slots)
+    let space = of_ok (λ r. HaveSpace c.link_count-links.result c.from-processors.result r) c.space_for-space.result c.in_ok-worker_parts.space rest.1 c.space_for-space.ensures in
+    subst (λ (n : ℕ). HaveSpace n c.args.config.processors c.in_ok-worker_parts.space) c.link_count-links.ensures.count
+    (subst (λ (n : ℕ). HaveSpace c.link_count-links.result n c.in_ok-worker_parts.space) c.from-processors.ensures space)
 
 pub returns-clause-worker_parts : goal.returns-clause-worker_parts
 returns-clause-worker_parts g c =

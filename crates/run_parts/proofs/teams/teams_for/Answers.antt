@@ -5,7 +5,7 @@ pub returns-clause-receivers : goal.returns-clause-receivers
 returns-clause-receivers g c = of_ok _ _ _ c.in_ok-front.ensures.0 c.two_teams_for-front.ensures.first
 
 pub returns-clause-processors : goal.returns-clause-processors
-returns-clause-processors g c = let t = of_ok _ _ _ c.in_ok-front.ensures.0 c.two_teams_for-front.ensures.second in (t.2, t.3)
+returns-clause-processors g c = let t = of_ok _ _ _ c.in_ok-front.ensures.0 c.two_teams_for-front.ensures.second in (t.0, t.2, t.3)
 
 pub returns-clause-slow : goal.returns-clause-slow
 returns-clause-slow g c = of_ok _ _ _ c.in_ok-front.ensures.1 c.two_teams_for-rear.ensures.first

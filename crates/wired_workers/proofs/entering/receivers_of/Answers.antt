@@ -47,6 +47,12 @@ loop-k-preserved g c =
           (receivings c.args.entering.items c.args.sources.items) c.over.ensures es ss made.items at.invariant.made;
     }
 
+pub destroy_empty-requires : goal.destroy_empty-requires
+destroy_empty-requires g c = let at = c.loop-k in let f = c.loop-k-test.false in let n = c.len-count.ensures in let l = at.invariant.left in omega arith
+
+pub destroy_empty-requires-2 : goal.destroy_empty-requires-2
+destroy_empty-requires-2 g c = let at = c.loop-k in let f = c.loop-k-test.false in let n = c.len-count.ensures in let l = at.invariant.left in let b = at.invariant.both in omega arith
+
 pub returns : goal.returns
 returns g c =
     let at = c.loop-k in

@@ -48,6 +48,12 @@ loop-k-preserved g c =
           (forwardings failed c.args.leaving.items c.args.sinks.items) c.over.ensures es ks made.items at.invariant.made;
     }
 
+pub destroy_empty-requires : goal.destroy_empty-requires
+destroy_empty-requires g c = let at = c.loop-k in let f = c.loop-k-test.false in let n = c.len-count.ensures in let l = at.invariant.left in omega arith
+
+pub destroy_empty-requires-2 : goal.destroy_empty-requires-2
+destroy_empty-requires-2 g c = let at = c.loop-k in let f = c.loop-k-test.false in let n = c.len-count.ensures in let l = at.invariant.left in let b = at.invariant.both in omega arith
+
 pub returns : goal.returns
 returns g c =
     let at = c.loop-k in

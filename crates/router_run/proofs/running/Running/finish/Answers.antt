@@ -2,29 +2,17 @@ use Rattle.std.proofs.Common.{length, sym, ◌∙◌, ap}
 use Rattle.router_laws.proofs.Returned.{runs_as_told}
 use Rattle.router_run.proofs.Finish.{has_run, inner_count, inner_ended, left_as, middle_ended, outer_count, outer_ended, run_as, settled, shares_count, the_slow}
 use Rattle.router_run.proofs.Parted.{own_size, own_space}
-use Rattle.router_run.proofs.Sized.{crew_forwarders, crew_processors, crew_slow, is_sized, mapped_fits}
+use Rattle.router_run.proofs.Sized.{is_sized}
 use Rattle.router_run.proofs.running.Running.finish.Goals as goal
 
-pub join_workers-joined-requires-clause-receivers : goal.join_workers-joined-requires-clause-receivers
-join_workers-joined-requires-clause-receivers g c = mapped_fits _ _ _ _ c.self.invariant.1.receiver_count c.self.invariant.4.receivers_fit
-
-pub join_workers-joined-requires-clause-processors : goal.join_workers-joined-requires-clause-processors
-join_workers-joined-requires-clause-processors g c = mapped_fits _ _ _ _ (crew_processors _ _ _ c.self.invariant.1) c.self.invariant.4.processors_fit
-
-pub join_workers-joined-requires-clause-slow : goal.join_workers-joined-requires-clause-slow
-join_workers-joined-requires-clause-slow g c = mapped_fits _ _ _ _ (crew_slow _ _ _ c.self.invariant.1) c.self.invariant.4.slow_fits
-
-pub join_workers-joined-requires-clause-forwarders : goal.join_workers-joined-requires-clause-forwarders
-join_workers-joined-requires-clause-forwarders g c = mapped_fits _ _ _ _ (crew_forwarders _ _ _ c.self.invariant.1) c.self.invariant.4.forwarders_fit
-
-pub join_workers-joined-requires-clause-unmarked : goal.join_workers-joined-requires-clause-unmarked
-join_workers-joined-requires-clause-unmarked g c = c.self.invariant.1.unmarked
+pub join_workers-joined-requires : goal.join_workers-joined-requires
+join_workers-joined-requires g c = record { unmarked = c.self.invariant.1.unmarked }
 
 pub part_all-ends-requires-clause-sized : goal.part_all-ends-requires-clause-sized
 part_all-ends-requires-clause-sized g c = own_size _ _ _ (is_sized _ _ _ _ c.self.invariant.1 c.join_workers-joined.ensures)
 
 pub part_all-ends-requires-clause-space : goal.part_all-ends-requires-clause-space
-part_all-ends-requires-clause-space g c = own_space _ _ _ _ (is_sized _ _ _ _ c.self.invariant.1 c.join_workers-joined.ensures) c.self.invariant.5
+part_all-ends-requires-clause-space g c = own_space _ _ _ _ (is_sized _ _ _ _ c.self.invariant.1 c.join_workers-joined.ensures) c.self.invariant.4
 
 pub gather_pipes-requires-clause-inner : goal.gather_pipes-requires-clause-inner
 gather_pipes-requires-clause-inner g c =

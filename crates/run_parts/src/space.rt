@@ -1,35 +1,15 @@
-//! Room for all that comes back, taken before the first thread is made.
+//! Room for what comes back with the workers, taken before the first thread is made.
 
 ghost use Rattle.std.specs.Prelude.{◌≡◌, ◌≤◌, ◌+◌, ◌*◌, IfOk, [], length, vec_capacity};
 ghost use Rattle.pipeline_laws.specs.Deeds.{Each};
-ghost use Rattle.run_parts.specs.Room.{HaveWorkerSlots, HaveSpace, IsRoomy};
+ghost use Rattle.run_parts.specs.Room.{HaveSpace, IsRoomy};
 
 use packet_ledger::Share;
 use router_ends::Ends;
 use ruled_pipe::Consumer;
-use stage_parts::{EgressPacket, Packet, Router, SlowPathRequest, both};
+use stage_parts::{EgressPacket, Packet, Router, SlowPathRequest};
 use std::alloc::{AllocError, Global};
 use std::marker::Model;
-
-/// Room for the workers, which are of any four kinds.
-#[derive(Drop)]
-pub struct WorkerSlots<A, B, C, D> {
-    pub receivers: Vec<A>,
-    pub processors: Vec<B>,
-    pub slow: Vec<C>,
-    pub forwarders: Vec<D>,
-}
-
-impl<A, B, C, D> Model for WorkerSlots<A, B, C, D> {
-    ghost use Rattle.std.specs.Prelude.{◌≡◌, [], vec_capacity};
-    ghost use Rattle.run_parts.specs.Room.{WorkerSlots as Seen};
-
-    ghost Value = { Seen };
-
-    ghost view = { λ r. record { receivers = vec_capacity r.receivers; processors = vec_capacity r.processors; slow = vec_capacity r.slow; forwarders = vec_capacity r.forwarders } };
-
-    ghost invariant = { λ r. (r.receivers.items ≡ []) × (r.processors.items ≡ []) × (r.slow.items ≡ []) × (r.forwarders.items ≡ []) };
-}
 
 /// Room for the ends of the pipes of one kind: an empty row for each worker, and room for the filled rows
 /// and for the consumers.
@@ -69,13 +49,6 @@ impl<N: Router, S, K> Model for Space<N, S, K> {
     ghost invariant = { λ r. (r.inner.bundles.items ≡ []) × (r.inner.takers.items ≡ []) × (r.outer.bundles.items ≡ []) × (r.outer.takers.items ≡ []) × (r.report.shares.items ≡ []) × (r.report.sent.items ≡ []) × (r.report.sources.items ≡ []) × (r.report.sinks.items ≡ []) };
 }
 
-/// Room for all that comes back, of workers of any four kinds.
-#[derive(Drop)]
-pub struct Reserve<N: Router, A, B, C, D, S, K> {
-    pub worker_slots: WorkerSlots<A, B, C, D>,
-    pub space: Space<N, S, K>,
-}
-
 // An empty row for each worker, with room for an end of each pipe.
 fn rows_of<T: Drop>(alloc: Global, workers: usize, pipes: usize) -> Result<Vec<Ends<T>>, AllocError>
     ensures { IfOk result (λ v. Each (IsRoomy pipes) v.items × (length v.items ≡ workers)) }
@@ -85,26 +58,6 @@ fn rows_of<T: Drop>(alloc: Global, workers: usize, pipes: usize) -> Result<Vec<E
         rows.push_reserved(Ends::with_room(alloc, pipes)?);
     }
     Ok(rows)
-}
-
-// Room for the workers of a router with these numbers of links and processors.
-fn worker_slots_for<A: Drop, B: Drop, C: Drop, D: Drop>(
-    alloc: Global,
-    links: usize,
-    processors: usize,
-) -> Result<WorkerSlots<A, B, C, D>, AllocError>
-    ensures { IfOk result (λ r. HaveWorkerSlots links processors r) }
-{
-    let receivers = Vec::<A>::with_capacity(alloc, links)?;
-    let workers = Vec::<B>::with_capacity(alloc, processors)?;
-    let slow = Vec::<C>::with_capacity(alloc, 1)?;
-    let forwarders = Vec::<D>::with_capacity(alloc, links)?;
-    Ok(WorkerSlots {
-        receivers,
-        processors: workers,
-        slow,
-        forwarders,
-    })
 }
 
 fn ends_space_for<T: Drop>(
@@ -148,8 +101,8 @@ fn report_space_for<N: Router, S: Drop, K: Drop>(
     })
 }
 
-// Room for all else of such a router.
-fn space_for<N: Router, S: Drop, K: Drop>(
+/// Room for what comes back of a router with these numbers of links and processors.
+pub fn space_for<N: Router, S: Drop, K: Drop>(
     alloc: Global,
     links: usize,
     processors: usize,
@@ -166,32 +119,5 @@ fn space_for<N: Router, S: Drop, K: Drop>(
         middle_row,
         outer,
         report,
-    })
-}
-
-/// Room for all that comes back of a router with these numbers of links and processors.
-pub fn reserve_for<N, A, B, C, D, S, K>(
-    alloc: Global,
-    links: usize,
-    processors: usize,
-) -> Result<Reserve<N, A, B, C, D, S, K>, AllocError>
-where
-    N: Router,
-    A: Drop,
-    B: Drop,
-    C: Drop,
-    D: Drop,
-    S: Drop,
-    K: Drop,
-    requires few { (links ≤ 33) × (processors ≤ 16) }
-    ensures worker_slots { IfOk result (λ r. HaveWorkerSlots links processors r.worker_slots) }
-    ensures space { IfOk result (λ r. HaveSpace links processors r.space) }
-{
-    let worker_slots = worker_slots_for(alloc, links, processors);
-    let space = space_for(alloc, links, processors);
-    let (worker_slots, space) = both(worker_slots, space)?;
-    Ok(Reserve {
-        worker_slots,
-        space,
     })
 }
