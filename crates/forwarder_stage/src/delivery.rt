@@ -16,15 +16,14 @@ use std::marker::Model;
 use std::sync::{Arc, Wait};
 
 /// A link's sink, the ends of the links' pipes of free buffers, and the counts.
-pub struct Delivery<N: Router, R, K: Sink> {
-    pub(crate) rt: R,
+pub struct Delivery<N: Router, K: Sink> {
     pub(crate) shared: Arc<Shared, Global>,
     pub(crate) sink: K,
     pub(crate) free: Vec<Producer<Buffer>>,
     pub(crate) share: Share<N>,
 }
 
-impl<N: Router, R, K: Sink> Model for Delivery<N, R, K> {
+impl<N: Router, K: Sink> Model for Delivery<N, K> {
     ghost use Rattle.std.specs.Prelude.{◌≡◌, length, Some};
     ghost use Rattle.std.specs.Arc.{arc_value};
     ghost use Rattle.router_rules.specs.Links.{link_count};
@@ -38,10 +37,9 @@ impl<N: Router, R, K: Sink> Model for Delivery<N, R, K> {
 }
 
 // Not derived: a derived drop is proved again in each crate that drops one.
-impl<N: Router, R: Drop, K: Sink + Drop> Drop for Delivery<N, R, K> {
+impl<N: Router, K: Sink + Drop> Drop for Delivery<N, K> {
     fn drop(self) {
         let Delivery {
-            rt: _,
             shared: _,
             sink: _,
             free: _,
@@ -64,13 +62,12 @@ fn count<N: Router>(share: &mut Share<N>, took: bool, answer: bool)
     }
 }
 
-impl<N: Router, R: Copy, K: Sink> Delivery<N, R, K> {
+impl<N: Router, K: Sink> Delivery<N, K> {
     /// The sink, the ends of the pipes of free buffers, and the counts.
     pub fn into_parts(self) -> (K, Vec<Producer<Buffer>>, Share<N>)
         ensures { (result.0 ≡ self.sink) × (result.1.items ≡ self.free) × (result.2 ≡ self.share) }
     {
         let Delivery {
-            rt: _,
             shared: _,
             sink,
             free,
@@ -78,9 +75,7 @@ impl<N: Router, R: Copy, K: Sink> Delivery<N, R, K> {
         } = self;
         (sink, free, share)
     }
-}
 
-impl<N: Router, R: Wait + Copy, K: Sink> Delivery<N, R, K> {
     /// Whether each of its counts can still be raised.
     pub fn has_room(&self) -> bool
         ensures { MatchBool result (HasRoom self.now.share.counts) (HasRoom self.now.share.counts → ⊥) }
@@ -103,30 +98,30 @@ impl<N: Router, R: Wait + Copy, K: Sink> Delivery<N, R, K> {
     }
 
     /// Hands a packet to the sink, or sweeps it where its pipe was closed.
-    pub fn deliver(&mut self, shut: bool, egress_packet: EgressPacket<N>)
+    pub fn deliver<R: Wait>(&mut self, rt: &R, shut: bool, egress_packet: EgressPacket<N>)
         requires sink { K.failed self.old.sink < 2 ^ 64 - 1 }
         requires room { MayRaise self.old.share.counts }
         ensures { Delivered K.told K.failed shut egress_packet self.old self.new }
     {
         if shut {
-            self.sweep(egress_packet)
+            self.sweep(rt, egress_packet)
         } else {
-            self.hand_on(egress_packet)
+            self.hand_on(rt, egress_packet)
         }
     }
 
     /// Passes on what was met in a pipe that is shut, or not.
-    pub fn pass(&mut self, shut: bool, met: Option<EgressPacket<N>>)
+    pub fn pass<R: Wait>(&mut self, rt: &R, shut: bool, met: Option<EgressPacket<N>>)
         requires sink { K.failed self.old.sink < 2 ^ 64 - 1 }
         requires room { MayRaise self.old.share.counts }
         ensures { PassedMet K.told K.failed shut met self.old self.new }
     {
         if let Some(egress_packet) = met {
-            self.deliver(shut, egress_packet);
+            self.deliver(rt, shut, egress_packet);
         }
     }
 
-    fn hand_on(&mut self, egress_packet: EgressPacket<N>)
+    fn hand_on<R: Wait>(&mut self, rt: &R, egress_packet: EgressPacket<N>)
         requires sink { K.failed self.old.sink < 2 ^ 64 - 1 }
         requires room { MayRaise self.old.share.counts }
         ensures { HandedOn K.told K.failed egress_packet self.old self.new }
@@ -137,23 +132,23 @@ impl<N: Router, R: Wait + Copy, K: Sink> Delivery<N, R, K> {
             .send(&egress_packet.named(), egress_packet.bytes())
             .is_ok();
         count(&mut self.share, took, egress_packet.is_answer());
-        give_back(&self.rt, &mut self.free, link, egress_packet.into_buffer());
+        give_back(rt, &mut self.free, link, egress_packet.into_buffer());
     }
 
-    fn sweep(&mut self, egress_packet: EgressPacket<N>)
+    fn sweep<R: Wait>(&mut self, rt: &R, egress_packet: EgressPacket<N>)
         requires { MayRaise self.old.share.counts }
         ensures { Swept egress_packet self.old self.new }
     {
         let link = egress_packet.arrived();
         self.share.fate(Cause::Closed);
-        give_back(&self.rt, &mut self.free, link, egress_packet.into_buffer());
+        give_back(rt, &mut self.free, link, egress_packet.into_buffer());
     }
 
     /// Posts the counts.
-    pub fn post(&mut self, book: &Book<N>)
+    pub fn post<R: Wait>(&mut self, rt: &R, book: &Book<N>)
         ensures share { IsPosted self.old.share self.new.share }
         ensures same { self.new ≡ with_share self.new.share self.old }
     {
-        book.post(&self.rt, &mut self.share);
+        book.post(rt, &mut self.share);
     }
 }

@@ -21,17 +21,16 @@ use std::sync::{Arc, Wait};
 
 /// Takes what leaves from the pipes of its link, the high band's first, and hands it to the link's sink.
 /// What comes after a closing mark in a pipe is swept.
-pub struct Forwarder<N: Router, R, K: Sink> {
-    rt: R,
+pub struct Forwarder<N: Router, K: Sink> {
     link: u16,
     low: Band<N>,
     high: Band<N>,
     // How often the sink had failed before.
     began: u64,
-    delivery: Delivery<N, R, K>,
+    delivery: Delivery<N, K>,
 }
 
-impl<N: Router, R, K: Sink> Model for Forwarder<N, R, K> {
+impl<N: Router, K: Sink> Model for Forwarder<N, K> {
     ghost use Rattle.forwarder_stage.specs.Forwarding.{Forwarding, KeepsForwarding};
 
     ghost Value = { Forwarding K };
@@ -42,10 +41,9 @@ impl<N: Router, R, K: Sink> Model for Forwarder<N, R, K> {
 }
 
 // Not derived: a derived drop is proved again in each crate that drops one.
-impl<N: Router, R: Drop, K: Sink + Drop> Drop for Forwarder<N, R, K> {
+impl<N: Router, K: Sink + Drop> Drop for Forwarder<N, K> {
     fn drop(self) {
         let Forwarder {
-            rt: _,
             link: _,
             low: _,
             high: _,
@@ -55,11 +53,10 @@ impl<N: Router, R: Drop, K: Sink + Drop> Drop for Forwarder<N, R, K> {
     }
 }
 
-impl<N: Router, R: Copy, K: Sink> Forwarder<N, R, K> {
+impl<N: Router, K: Sink> Forwarder<N, K> {
     /// The forwarder of the link with a number, over a sink that was handed nothing yet. Buffers go back
     /// by one pipe a link. Of a link with one band the high band's pipe isn't used.
     pub fn new(
-        rt: R,
         shared: Arc<Shared, Global>,
         link: u16,
         low: Band<N>,
@@ -67,7 +64,7 @@ impl<N: Router, R: Copy, K: Sink> Forwarder<N, R, K> {
         sink: K,
         free: Vec<Producer<Buffer>>,
         share: Share<N>,
-    ) -> Forwarder<N, R, K>
+    ) -> Forwarder<N, K>
         requires config { N.config ≡ Some (arc_value shared).config }
         requires low { (low.taker.taken ≡ []) × (low.shut ≡ false) }
         requires high { (high.taker.taken ≡ []) × (high.shut ≡ false) }
@@ -78,14 +75,12 @@ impl<N: Router, R: Copy, K: Sink> Forwarder<N, R, K> {
     {
         let began = sink.failures();
         let delivery = Delivery {
-            rt,
             shared,
             sink,
             free,
             share,
         };
         Forwarder {
-            rt,
             link,
             low,
             high,
@@ -108,7 +103,6 @@ impl<N: Router, R: Copy, K: Sink> Forwarder<N, R, K> {
         ensures law { IsForwarding told_of self.low.taker self.high.taker self.low.shut self.high.shut (K.told self.side.sink) self.began (K.failed self.side.sink) self.side.share }
     {
         let Forwarder {
-            rt: _,
             link: _,
             low,
             high,
@@ -118,9 +112,7 @@ impl<N: Router, R: Copy, K: Sink> Forwarder<N, R, K> {
         let (sink, free, share) = delivery.into_parts();
         (sink, low.into_consumer(), high.into_consumer(), free, share)
     }
-}
 
-impl<N: Router, R: Wait + Copy, K: Sink> Forwarder<N, R, K> {
     /// Whether each of its counts can still be raised.
     pub fn has_room(&self) -> bool
         ensures { MatchBool result (HasRoom self.now.side.share.counts) (HasRoom self.now.side.share.counts → ⊥) }
@@ -154,7 +146,7 @@ impl<N: Router, R: Wait + Copy, K: Sink> Forwarder<N, R, K> {
 
     /// Takes one entry of the high band's pipe, or, where that was seen empty, of the low one's. A sink
     /// whose count of failures is at the largest number isn't asked.
-    pub fn turn(&mut self) -> Turn
+    pub fn turn<R: Wait>(&mut self, rt: &R) -> Turn
         requires { HasRoom self.old.side.share.counts }
         ensures { Forwarded K.told K.failed result self.old self.new }
     {
@@ -165,24 +157,24 @@ impl<N: Router, R: Wait + Copy, K: Sink> Forwarder<N, R, K> {
             return Turn::Quiet;
         }
         let two_bands = self.delivery.has_two_bands(self.link);
-        if let Some(met) = self.high.take_if(&self.rt, two_bands) {
-            self.delivery.pass(self.high.is_shut(), met);
+        if let Some(met) = self.high.take_if(rt, two_bands) {
+            self.delivery.pass(rt, self.high.is_shut(), met);
             return Turn::Did;
         }
-        match self.low.take(&self.rt) {
+        match self.low.take(rt) {
             None => Turn::Quiet,
             Some(met) => {
-                self.delivery.pass(self.low.is_shut(), met);
+                self.delivery.pass(rt, self.low.is_shut(), met);
                 Turn::Did
             }
         }
     }
 
     /// Posts its counts into the book, where there is room.
-    pub fn post(&mut self, book: &Book<N>)
+    pub fn post<R: Wait>(&mut self, rt: &R, book: &Book<N>)
         ensures share { IsPosted self.old.side.share self.new.side.share }
         ensures same { self.new ≡ posted self.new.side.share self.old }
     {
-        self.delivery.post(book);
+        self.delivery.post(rt, book);
     }
 }

@@ -20,17 +20,16 @@ use std::marker::Model;
 use std::sync::{Arc, Wait};
 
 /// A receiver's side of its link: its buffers, its ends of the processors' pipes, and its counts.
-pub struct Intake<N: Router, R> {
-    pub(crate) rt: R,
+pub struct Intake<N: Router> {
     pub(crate) shared: Arc<Shared, Global>,
     pub(crate) link: u16,
     pub(crate) interface: u16,
-    pub(crate) pool: Pool<R>,
+    pub(crate) pool: Pool,
     pub(crate) processors: Vec<Outlet<Packet<N>>>,
     pub(crate) share: Share<N>,
 }
 
-impl<N: Router, R> Model for Intake<N, R> {
+impl<N: Router> Model for Intake<N> {
     ghost use Rattle.std.specs.Prelude.{◌≡◌, length, Some};
     ghost use Rattle.std.specs.Arc.{arc_value};
     ghost use Rattle.receiver_stage.specs.Intake.{Taking};
@@ -44,10 +43,9 @@ impl<N: Router, R> Model for Intake<N, R> {
 }
 
 // Not derived: a derived drop is proved again in each crate that drops one.
-impl<N: Router, R: Drop> Drop for Intake<N, R> {
+impl<N: Router> Drop for Intake<N> {
     fn drop(self) {
         let Intake {
-            rt: _,
             shared: _,
             link: _,
             interface: _,
@@ -58,13 +56,12 @@ impl<N: Router, R: Drop> Drop for Intake<N, R> {
     }
 }
 
-impl<N: Router, R: Copy> Intake<N, R> {
+impl<N: Router> Intake<N> {
     /// Its ends of pipes, and its counts.
     pub fn into_parts(self) -> (Vec<Outlet<Packet<N>>>, Consumer<Buffer>, Share<N>)
         ensures { (result.0.items ≡ self.side.processors) × (result.1 ≡ self.side.stock.free) × (result.2 ≡ self.side.share) }
     {
         let Intake {
-            rt: _,
             shared: _,
             link: _,
             interface: _,
@@ -74,11 +71,9 @@ impl<N: Router, R: Copy> Intake<N, R> {
         } = self;
         (processors, pool.into_free(), share)
     }
-}
 
-impl<N: Router, R: Wait + Copy> Intake<N, R> {
     /// Passes the first bytes of what was read on as the datagram of a number.
-    pub fn pass_in(&mut self, number: u64, from: Underlay, now: u64, len: usize)
+    pub fn pass_in<R: Wait>(&mut self, rt: &R, number: u64, from: Underlay, now: u64, len: usize)
         requires len { len ≤ 9217 }
         requires room { MayRaise self.old.side.share.counts }
         requires unended { AreOpen self.old.side.processors }
@@ -90,12 +85,12 @@ impl<N: Router, R: Wait + Copy> Intake<N, R> {
             Ok(at) => at,
             Err(why) => return self.share.fate(why),
         };
-        let Some(buffer) = self.pool.another() else {
+        let Some(buffer) = self.pool.another(rt) else {
             return self.share.fate(Cause::NoBuffer);
         };
         let read = self.pool.exchange(buffer);
         let packet = Packet::new(self.link, self.interface, number, from, now, len, read);
-        if let Err(packet) = offer_at(&self.rt, &mut self.processors, at, packet) {
+        if let Err(packet) = offer_at(rt, &mut self.processors, at, packet) {
             self.pool.keep(packet.into_buffer());
             self.share.fate(Cause::ProcessorFull);
         }
@@ -120,18 +115,18 @@ impl<N: Router, R: Wait + Copy> Intake<N, R> {
     }
 
     /// Tries the end marks that are owed, and says whether all are there.
-    pub fn end(&mut self) -> bool
+    pub fn end<R: Wait>(&mut self, rt: &R) -> bool
         ensures tried { Trying (λ j. true) self.old.side.processors self.new.side.processors result }
         ensures same { self.new.side ≡ with_processors self.new.side.processors self.old.side }
     {
-        end_all(&self.rt, &mut self.processors)
+        end_all(rt, &mut self.processors)
     }
 
     /// Posts its counts.
-    pub fn post(&mut self, book: &Book<N>)
+    pub fn post<R: Wait>(&mut self, rt: &R, book: &Book<N>)
         ensures share { IsPosted self.old.side.share self.new.side.share }
         ensures same { self.new.side ≡ with_share self.new.side.share self.old.side }
     {
-        book.post(&self.rt, &mut self.share);
+        book.post(rt, &mut self.share);
     }
 }

@@ -12,14 +12,13 @@ use std::mem;
 use std::sync::Wait;
 
 /// The buffer into which datagrams are read, at times one in reserve, and the pipe of the free ones.
-pub struct Pool<R> {
-    rt: R,
+pub struct Pool {
     room: ReadBuffer,
     spare: Option<Buffer>,
     free: Consumer<Buffer>,
 }
 
-impl<R> Model for Pool<R> {
+impl Model for Pool {
     ghost use Rattle.receiver_stage.specs.Pool.{Pooled, stock};
 
     ghost Value = { Pooled };
@@ -28,10 +27,9 @@ impl<R> Model for Pool<R> {
 }
 
 // Not derived: a derived drop is proved again in each crate that drops one.
-impl<R: Drop> Drop for Pool<R> {
+impl Drop for Pool {
     fn drop(self) {
         let Pool {
-            rt: _,
             room: _,
             spare: _,
             free: _,
@@ -64,13 +62,12 @@ fn take_buffer<R: Wait>(rt: &R, free: &mut Consumer<Buffer>) -> Option<Buffer>
     unreachable!()
 }
 
-impl<R: Copy> Pool<R> {
+impl Pool {
     /// The pool that reads into this buffer, and takes free ones from the pipe.
-    pub fn new(rt: R, first: Buffer, free: Consumer<Buffer>) -> Pool<R>
+    pub fn new(first: Buffer, free: Consumer<Buffer>) -> Pool
         ensures { result.stock ≡ stock None free }
     {
         Pool {
-            rt,
             room: ReadBuffer::of(first),
             spare: None,
             free,
@@ -82,16 +79,13 @@ impl<R: Copy> Pool<R> {
         ensures { result ≡ self.stock.free }
     {
         let Pool {
-            rt: _,
             room: _,
             spare: _,
             free,
         } = self;
         free
     }
-}
 
-impl<R: Wait + Copy> Pool<R> {
     /// Reads the source's next answer.
     pub fn read<S: Source>(&mut self, source: &mut S) -> NextLen
         requires { S.failed source.old < 2 ^ 64 - 1 }
@@ -112,14 +106,14 @@ impl<R: Wait + Copy> Pool<R> {
     }
 
     /// Another buffer: the one in reserve, else one of the pipe.
-    pub fn another(&mut self) -> Option<Buffer>
+    pub fn another<R: Wait>(&mut self, rt: &R) -> Option<Buffer>
         ensures room { self.new.room ≡ self.old.room }
         ensures got { Another self.old.stock result self.new.stock }
     {
         if let Some(buffer) = self.spare.take() {
             return Some(buffer);
         }
-        take_buffer(&self.rt, &mut self.free)
+        take_buffer(rt, &mut self.free)
     }
 
     /// Puts another buffer in the place of the one that was read into, and gives that.

@@ -29,15 +29,15 @@ const LAST_NUMBER: u64 = 1 << 56;
 
 /// Takes datagrams from the source of a link, numbers them from 1 on, and passes them on to the
 /// processors of their flows.
-pub struct Receiver<N: Router, R, S: Source> {
+pub struct Receiver<N: Router, S: Source> {
     stop: Arc<AtomicU64, Global>,
     number: u64,
     source: S,
-    intake: Intake<N, R>,
+    intake: Intake<N>,
     ended: bool,
 }
 
-impl<N: Router, R, S: Source> Model for Receiver<N, R, S> {
+impl<N: Router, S: Source> Model for Receiver<N, S> {
     ghost use Rattle.receiver_stage.specs.Receiving.{KeepsReceiving, Receiving};
 
     ghost Value = { Receiving S };
@@ -48,7 +48,7 @@ impl<N: Router, R, S: Source> Model for Receiver<N, R, S> {
 }
 
 // Not derived: a derived drop is proved again in each crate that drops one.
-impl<N: Router, R: Drop, S: Source + Drop> Drop for Receiver<N, R, S> {
+impl<N: Router, S: Source + Drop> Drop for Receiver<N, S> {
     fn drop(self) {
         let Receiver {
             stop: _,
@@ -60,11 +60,10 @@ impl<N: Router, R: Drop, S: Source + Drop> Drop for Receiver<N, R, S> {
     }
 }
 
-impl<N: Router, R: Copy, S: Source> Receiver<N, R, S> {
+impl<N: Router, S: Source> Receiver<N, S> {
     /// The receiver of the link with a number, over a source that gave nothing yet. It reads into a first
     /// buffer, takes others from the pipe of the link's free ones, and offers to one pipe a processor.
     pub fn new(
-        rt: R,
         shared: Arc<Shared, Global>,
         stop: Arc<AtomicU64, Global>,
         link: u16,
@@ -73,7 +72,7 @@ impl<N: Router, R: Copy, S: Source> Receiver<N, R, S> {
         free: Consumer<Buffer>,
         processors: Vec<Outlet<Packet<N>>>,
         share: Share<N>,
-    ) -> Receiver<N, R, S>
+    ) -> Receiver<N, S>
         requires config { N.config ≡ Some (arc_value shared).config }
         requires link { link < link_count (arc_value shared).config }
         requires processors { (length processors.items ≡ (arc_value shared).config.processors) × AreFresh processors.items }
@@ -84,9 +83,8 @@ impl<N: Router, R: Copy, S: Source> Receiver<N, R, S> {
     {
         links_stand_in_order();
         let interface = shared.ports.interface(link);
-        let pool = Pool::new(rt, first, free);
+        let pool = Pool::new(first, free);
         let intake = Intake {
-            rt,
             shared,
             link,
             interface,
@@ -119,9 +117,7 @@ impl<N: Router, R: Copy, S: Source> Receiver<N, R, S> {
         let (processors, free, share) = intake.into_parts();
         (source, processors, free, share)
     }
-}
 
-impl<N: Router, R: Wait + Copy, S: Source> Receiver<N, R, S> {
     /// Whether each of its counts can still be raised.
     pub fn has_room(&self) -> bool
         ensures { MatchBool result (HasRoom self.now.side.share.counts) (HasRoom self.now.side.share.counts → ⊥) }
@@ -131,12 +127,12 @@ impl<N: Router, R: Wait + Copy, S: Source> Receiver<N, R, S> {
 
     /// Asks the source once, and passes on what it gives. A source whose count of failures is at the
     /// largest number isn't asked. After its end it tries the end marks that it owes.
-    pub fn turn(&mut self) -> Turn
+    pub fn turn<R: Wait>(&mut self, rt: &R) -> Turn
         requires { HasRoom self.old.side.share.counts }
         ensures { Received S.told S.failed result self.old self.new }
     {
         if self.ended {
-            return if self.intake.end() {
+            return if self.intake.end(rt) {
                 Turn::Ended
             } else {
                 Turn::Quiet
@@ -149,7 +145,7 @@ impl<N: Router, R: Wait + Copy, S: Source> Receiver<N, R, S> {
         match self.intake.read(&mut self.source) {
             NextLen::Datagram { len, from, now } => {
                 self.number += 1;
-                self.intake.pass_in(self.number, from, now, len);
+                self.intake.pass_in(rt, self.number, from, now, len);
                 self.ended = self.number == LAST_NUMBER;
                 Turn::Did
             }
@@ -180,10 +176,10 @@ impl<N: Router, R: Wait + Copy, S: Source> Receiver<N, R, S> {
     }
 
     /// Posts its counts into the book, where there is room.
-    pub fn post(&mut self, book: &Book<N>)
+    pub fn post<R: Wait>(&mut self, rt: &R, book: &Book<N>)
         ensures share { IsPosted self.old.side.share self.new.side.share }
         ensures same { self.new ≡ posted self.new.side.share self.old }
     {
-        self.intake.post(book);
+        self.intake.post(rt, book);
     }
 }

@@ -41,28 +41,28 @@ pub struct Report<S, K> {
 }
 
 /// The threads: the receivers' and processors', then the slow path's and the forwarders'.
-pub type Threaded<N, S, K, G, R> = (
-    Both<N, Receiver<N, R, S>, Processor<N, R, G>>,
-    Both<N, SlowPath<N, R>, Forwarder<N, R, K>>,
+pub type Threaded<N, S, K, G> = (
+    Both<N, Receiver<N, S>, Processor<N, G>>,
+    Both<N, SlowPath<N>, Forwarder<N, K>>,
 );
 
 /// Workers that came back, and the controller's ends. Contracts see them as a crew.
 #[derive(Drop)]
-pub struct Joined<N, S, K, G, R>
+pub struct Joined<N, S, K, G>
 where
     N: Router,
     S: Source,
     K: Sink,
     G: Gate,
 {
-    receivers: Vec<Receiver<N, R, S>>,
-    processors: Vec<Processor<N, R, G>>,
-    slow: Vec<SlowPath<N, R>>,
-    forwarders: Vec<Forwarder<N, R, K>>,
+    receivers: Vec<Receiver<N, S>>,
+    processors: Vec<Processor<N, G>>,
+    slow: Vec<SlowPath<N>>,
+    forwarders: Vec<Forwarder<N, K>>,
     shutters: Vec<Shutter<EgressPacket<N>>>,
 }
 
-impl<N, S, K, G, R> Model for Joined<N, S, K, G, R>
+impl<N, S, K, G> Model for Joined<N, S, K, G>
 where
     N: Router,
     S: Source,
@@ -96,14 +96,14 @@ pub fn join_workers<N, S, K, G, R>(
     rt: &R,
     orders: &Orders<N>,
     controller: Controller<N>,
-    threads: Threaded<N, S, K, G, R>,
-) -> Joined<N, S, K, G, R>
+    threads: Threaded<N, S, K, G>,
+) -> Joined<N, S, K, G>
 where
     N: Router,
     S: Source,
     K: Sink,
     G: Gate + Drop,
-    R: Threads + Wait + Clock + Copy,
+    R: Threads + Wait + Clock,
     requires unmarked { AreOpen controller.shutters.items }
     ensures { IsBack (crew_of threads.0.first threads.0.second threads.1.first threads.1.second controller.shutters.items) result }
 {
@@ -144,8 +144,8 @@ pub struct Left<N: Router, S, K> {
 }
 
 /// Takes the workers apart.
-pub fn part_all<N, S, K, G, R>(
-    joined: Joined<N, S, K, G, R>,
+pub fn part_all<N, S, K, G>(
+    joined: Joined<N, S, K, G>,
     space: Space<N, S, K>,
 ) -> (Parted<N>, Left<N, S, K>)
 where
@@ -153,7 +153,6 @@ where
     S: Source,
     K: Sink,
     G: Gate + Drop,
-    R: Copy,
     requires sized { IsSized (length joined.receivers) (length joined.processors) joined }
     requires space { HaveSpace (length joined.receivers) (length joined.processors) space }
     ensures ends { IsParted joined result.0.inner_bundles.items result.0.inner_takers.items result.0.middle_row.ends result.0.asked result.0.outer_bundles.items result.0.outer_takers.items }

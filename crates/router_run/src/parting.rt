@@ -28,8 +28,8 @@ pub struct ReceiverParts<N: Router, S> {
 }
 
 /// Takes the receivers apart.
-pub fn part_receivers<N: Router, S: Source, R: Copy>(
-    receivers: Vec<Receiver<N, R, S>>,
+pub fn part_receivers<N: Router, S: Source>(
+    receivers: Vec<Receiver<N, S>>,
     pipes: usize,
     rows: Vec<Ends<Packet<N>>>,
     bundles: Vec<Ends<Packet<N>>>,
@@ -80,8 +80,8 @@ pub struct ProcessorParts<N: Router> {
 }
 
 /// Takes the processors apart.
-pub fn part_processors<N: Router, G: Gate + Drop, R: Copy>(
-    processors: Vec<Processor<N, R, G>>,
+pub fn part_processors<N: Router, G: Gate + Drop>(
+    processors: Vec<Processor<N, G>>,
     pipes: usize,
     takers: Vec<Consumer<Packet<N>>>,
     asking: Ends<SlowPathRequest<N>>,
@@ -138,8 +138,8 @@ pub struct SlowPathParts<N: Router> {
 }
 
 /// Takes the slow path and the controller's ends apart.
-pub fn part_slow_path<N: Router, R: Copy>(
-    slow: SlowPath<N, R>,
+pub fn part_slow_path<N: Router>(
+    slow: SlowPath<N>,
     shutters: Vec<Shutter<EgressPacket<N>>>,
     rows: Line<Ends<EgressPacket<N>>>,
     bundles: Vec<Ends<EgressPacket<N>>>,
@@ -181,8 +181,8 @@ pub struct ForwarderParts<N: Router, K> {
 }
 
 /// Takes the forwarders apart.
-pub fn part_forwarders<N: Router, K: Sink, R: Copy>(
-    forwarders: Vec<Forwarder<N, R, K>>,
+pub fn part_forwarders<N: Router, K: Sink>(
+    forwarders: Vec<Forwarder<N, K>>,
     takers: Vec<Consumer<EgressPacket<N>>>,
     sinks: Vec<K>,
     sent: Vec<u128>,

@@ -39,12 +39,11 @@ where
     S: Source,
     K: Sink,
     G: Gate + Drop,
-    R: Wait + Copy,
 {
     rt: R,
     controller: Controller<N>,
     orders: Orders<N>,
-    threads: Threaded<N, S, K, G, R>,
+    threads: Threaded<N, S, K, G>,
     pipes: Pipes<N>,
     space: Space<N, S, K>,
 }
@@ -55,7 +54,6 @@ where
     S: Source,
     K: Sink,
     G: Gate + Drop,
-    R: Wait + Copy,
 {
     ghost use Rattle.std.specs.Prelude.{◌≡◌, ◌+◌, ◌*◌, map};
     ghost use Rattle.std.specs.Arc.{arc_value};
@@ -108,7 +106,7 @@ where
     if !is_one_a_link(&config, &sources, &sinks) {
         return Err(StartFault::Count { sources, sinks });
     }
-    match prepare(rt, alloc, blank, config, gate) {
+    match prepare(&rt, alloc, blank, config, gate) {
         Ok(prepared) => run(rt, prepared, sources, sinks),
         Err(_) => Err(StartFault::NoMemory { sources, sinks }),
     }
@@ -120,18 +118,16 @@ fn of_forwarders(events: Events) -> Vec<Event> {
 }
 
 // The receivers over their sources, and the processors, each kind in its team.
-fn front_of<N, S, G, R>(
-    rt: R,
+fn front_of<N, S, G>(
     receivers: Vec<Entering<N>>,
-    processors: Vec<Processor<N, R, G>>,
+    processors: Vec<Processor<N, G>>,
     sources: Vec<S>,
-    teams: (Team<N, Receiver<N, R, S>>, Team<N, Processor<N, R, G>>),
-) -> (Team<N, Receiver<N, R, S>>, Team<N, Processor<N, R, G>>)
+    teams: (Team<N, Receiver<N, S>>, Team<N, Processor<N, G>>),
+) -> (Team<N, Receiver<N, S>>, Team<N, Processor<N, G>>)
 where
     N: Router,
     S: Source,
     G: Gate + Drop,
-    R: Wait + Copy,
     requires count { length sources.items ≡ length receivers.items }
     requires untold { Each (λ s. ToldNothing (S.told s)) sources.items }
     requires room { (teams.0.workers.items ≡ []) × (length receivers.items ≤ vec_capacity teams.0.workers) }
@@ -142,7 +138,7 @@ where
 {
     let (receiving, working) = teams;
     working.workers.destroy_empty();
-    let receivers = receivers_of(rt, receivers, sources, receiving.workers);
+    let receivers = receivers_of(receivers, sources, receiving.workers);
     (
         Team {
             workers: receivers,
@@ -158,17 +154,15 @@ where
 }
 
 // The slow path, and the forwarders over their sinks, each kind in its team.
-fn rear_of<N, K, R>(
-    rt: R,
-    slow: SlowPath<N, R>,
+fn rear_of<N, K>(
+    slow: SlowPath<N>,
     forwarders: Vec<Leaving<N>>,
     sinks: Vec<K>,
-    teams: (Team<N, SlowPath<N, R>>, Team<N, Forwarder<N, R, K>>),
-) -> (Team<N, SlowPath<N, R>>, Team<N, Forwarder<N, R, K>>)
+    teams: (Team<N, SlowPath<N>>, Team<N, Forwarder<N, K>>),
+) -> (Team<N, SlowPath<N>>, Team<N, Forwarder<N, K>>)
 where
     N: Router,
     K: Sink,
-    R: Wait + Copy,
     requires count { length sinks.items ≡ length forwarders.items }
     requires untold { Each (λ k. ToldNothing (K.told k)) sinks.items }
     requires slow_room { (teams.0.workers.items ≡ []) × (vec_capacity teams.0.workers ≡ 1) }
@@ -180,7 +174,7 @@ where
     let (answering, forwarding) = teams;
     let mut answerers = answering.workers;
     answerers.push_reserved(slow);
-    let forwarders = forwarders_of(rt, forwarders, sinks, forwarding.workers);
+    let forwarders = forwarders_of(forwarders, sinks, forwarding.workers);
     (
         Team {
             workers: answerers,
@@ -198,17 +192,7 @@ where
 // The workers over their devices, each in a thread of its own.
 fn run<N, S, K, G, R>(
     rt: R,
-    prepared: Prepared<
-        N,
-        G,
-        R,
-        Receiver<N, R, S>,
-        Processor<N, R, G>,
-        SlowPath<N, R>,
-        Forwarder<N, R, K>,
-        S,
-        K,
-    >,
+    prepared: Prepared<N, G, Receiver<N, S>, Processor<N, G>, SlowPath<N>, Forwarder<N, K>, S, K>,
     sources: Vec<S>,
     sinks: Vec<K>,
 ) -> Result<Running<N, S, K, G, R>, StartFault<S, K>>
@@ -254,8 +238,8 @@ where
         shutters,
         forwarder_events: of_forwarders(events),
     };
-    let front = front_of(rt, receivers, processors, sources, teams.front);
-    let rear = rear_of(rt, slow, forwarders, sinks, teams.rear);
+    let front = front_of(receivers, processors, sources, teams.front);
+    let rear = rear_of(slow, forwarders, sinks, teams.rear);
     match start_four(rt, &orders, front, rear) {
         Ok(threads) => Ok(Running {
             rt,

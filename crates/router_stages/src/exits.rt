@@ -20,15 +20,14 @@ use std::marker::Model;
 use std::sync::{Arc, Wait};
 
 /// The ends of the links' pipes, two of each link, and of their pipes of free buffers, with the counts.
-pub struct Exits<N: Router, R> {
-    pub(crate) rt: R,
+pub struct Exits<N: Router> {
     pub(crate) shared: Arc<Shared, Global>,
     pub(crate) links: Vec<Outlet<EgressPacket<N>>>,
     pub(crate) free: Vec<Producer<Buffer>>,
     pub(crate) share: Share<N>,
 }
 
-impl<N: Router, R> Model for Exits<N, R> {
+impl<N: Router> Model for Exits<N> {
     ghost use Rattle.std.specs.Prelude.{◌≡◌, ◌*◌, length, Some};
     ghost use Rattle.std.specs.Arc.{arc_value};
     ghost use Rattle.router_rules.specs.Links.{link_count};
@@ -42,10 +41,9 @@ impl<N: Router, R> Model for Exits<N, R> {
 }
 
 // Not derived: a derived drop is proved again in each crate that drops one.
-impl<N: Router, R: Drop> Drop for Exits<N, R> {
+impl<N: Router> Drop for Exits<N> {
     fn drop(self) {
         let Exits {
-            rt: _,
             shared: _,
             links: _,
             free: _,
@@ -63,7 +61,7 @@ fn pipe_for<N: Router>(shared: &Shared, egress_packet: &EgressPacket<N>) -> usiz
     2 * usize::from(link) + usize::from(high)
 }
 
-impl<N: Router, R: Copy> Exits<N, R> {
+impl<N: Router> Exits<N> {
     /// The ends of pipes, and the counts.
     pub fn into_parts(
         self,
@@ -75,7 +73,6 @@ impl<N: Router, R: Copy> Exits<N, R> {
         ensures { (result.0.items ≡ self.links) × (result.1.items ≡ self.free) × (result.2 ≡ self.share) }
     {
         let Exits {
-            rt: _,
             shared: _,
             links,
             free,
@@ -83,9 +80,7 @@ impl<N: Router, R: Copy> Exits<N, R> {
         } = self;
         (links, free, share)
     }
-}
 
-impl<N: Router, R: Wait + Copy> Exits<N, R> {
     /// Whether each of its counts can still be raised.
     pub fn has_room(&self) -> bool
         ensures { MatchBool result (HasRoom self.now.share.counts) (HasRoom self.now.share.counts → ⊥) }
@@ -94,32 +89,37 @@ impl<N: Router, R: Wait + Copy> Exits<N, R> {
     }
 
     /// Drops a packet for a cause: its buffer goes back to the link by which it came.
-    pub fn drop_for(&mut self, link: u16, buffer: Buffer, cause: Cause)
+    pub fn drop_for<R: Wait>(&mut self, rt: &R, link: u16, buffer: Buffer, cause: Cause)
         requires there { link < link_count self.old.config }
         requires room { MayRaise self.old.share.counts }
         ensures { DroppedAs link cause self.old self.new }
     {
-        give_back(&self.rt, &mut self.free, link, buffer);
+        give_back(rt, &mut self.free, link, buffer);
         self.share.fate(cause);
     }
 
     /// Offers what leaves to its pipe; where that is full, it is dropped.
-    pub fn send(&mut self, egress_packet: EgressPacket<N>)
+    pub fn send<R: Wait>(&mut self, rt: &R, egress_packet: EgressPacket<N>)
         requires link { egress_packet.link < link_count self.old.config }
         requires unended { AreOpen self.old.links }
         requires room { MayRaise self.old.share.counts }
         ensures { SentAs egress_packet self.old self.new }
     {
         let at = pipe_for(&self.shared, &egress_packet);
-        if let Err(egress_packet) = offer_at(&self.rt, &mut self.links, at, egress_packet) {
+        if let Err(egress_packet) = offer_at(rt, &mut self.links, at, egress_packet) {
             let link = egress_packet.arrived();
-            give_back(&self.rt, &mut self.free, link, egress_packet.into_buffer());
+            give_back(rt, &mut self.free, link, egress_packet.into_buffer());
             self.share.fate(Cause::LinkFull);
         }
     }
 
     /// Passes a packet on as the rules decide.
-    pub fn pass_on(&mut self, slow: &mut Outlet<SlowPathRequest<N>>, packet: Packet<N>)
+    pub fn pass_on<R: Wait>(
+        &mut self,
+        rt: &R,
+        slow: &mut Outlet<SlowPathRequest<N>>,
+        packet: Packet<N>,
+    )
         requires unended { AreOpen self.old.links × (slow.old.ended ≡ false) }
         requires room { MayRaise self.old.share.counts }
         ensures some { 0 < length self.old.links }
@@ -131,41 +131,46 @@ impl<N: Router, R: Wait + Copy> Exits<N, R> {
         match packet.decide(&self.shared.config) {
             Decision::Send { link, to } => {
                 let link = self.shared.ports.number(link);
-                self.send(packet.into_egress_packet(link, to));
+                self.send(rt, packet.into_egress_packet(link, to));
             }
-            Decision::Answer(problem) => self.ask(slow, packet.into_request(problem)),
-            Decision::Drop(why) => self.drop_for(link, packet.into_buffer(), why),
+            Decision::Answer(problem) => self.ask(rt, slow, packet.into_request(problem)),
+            Decision::Drop(why) => self.drop_for(rt, link, packet.into_buffer(), why),
         }
     }
 
     // Offers a request to the slow path; where its pipe is full, the packet is dropped.
-    fn ask(&mut self, slow: &mut Outlet<SlowPathRequest<N>>, request: SlowPathRequest<N>)
+    fn ask<R: Wait>(
+        &mut self,
+        rt: &R,
+        slow: &mut Outlet<SlowPathRequest<N>>,
+        request: SlowPathRequest<N>,
+    )
         requires link { request.arrival.link < link_count self.old.config }
         requires unended { slow.old.ended ≡ false }
         requires room { MayRaise self.old.share.counts }
         ensures { AskedAs request self.old self.new slow.old slow.new }
     {
-        if let Err(Full(request)) = slow.offer(&self.rt, request) {
+        if let Err(Full(request)) = slow.offer(rt, request) {
             let link = request.link();
-            self.drop_for(link, request.into_buffer(), Cause::AnswerFull);
+            self.drop_for(rt, link, request.into_buffer(), Cause::AnswerFull);
         }
     }
 
     /// Posts the counts.
-    pub fn post(&mut self, book: &Book<N>)
+    pub fn post<R: Wait>(&mut self, rt: &R, book: &Book<N>)
         ensures share { IsPosted self.old.share self.new.share }
         ensures same { self.new ≡ with_share self.new.share self.old }
     {
-        book.post(&self.rt, &mut self.share);
+        book.post(rt, &mut self.share);
     }
 
     /// Tries the end marks that are owed, of the high band's pipe of each link first, and says whether
     /// all are there.
-    pub fn end(&mut self) -> bool
+    pub fn end<R: Wait>(&mut self, rt: &R) -> bool
         ensures tried { Trying (is_used (has_two_bands self.old.config)) self.old.links self.new.links result }
         ensures same { self.new ≡ with_links self.new.links self.old }
     {
-        end_links(&self.rt, &self.shared, &mut self.links)
+        end_links(rt, &self.shared, &mut self.links)
     }
 }
 

@@ -21,17 +21,16 @@ use std::marker::Model;
 use std::sync::{Arc, Wait};
 
 /// Takes packets from its pipe, and passes each on as the rules decide, once the gate admits it.
-pub struct Processor<N: Router, R, G: Gate> {
-    rt: R,
+pub struct Processor<N: Router, G: Gate> {
     gate: Arc<G, Global>,
     index: u8,
     from: Inlet<Packet<N>>,
     hand: Option<Packet<N>>,
     slow: Outlet<SlowPathRequest<N>>,
-    exits: Exits<N, R>,
+    exits: Exits<N>,
 }
 
-impl<N: Router, R, G: Gate> Model for Processor<N, R, G> {
+impl<N: Router, G: Gate> Model for Processor<N, G> {
     ghost use Rattle.std.specs.Arc.{arc_value};
     ghost use Rattle.router_stages.specs.Working.{KeepsWorking, Working};
 
@@ -43,10 +42,9 @@ impl<N: Router, R, G: Gate> Model for Processor<N, R, G> {
 }
 
 // Not derived: a derived drop is proved again in each crate that drops one.
-impl<N: Router, R: Drop, G: Gate + Drop> Drop for Processor<N, R, G> {
+impl<N: Router, G: Gate + Drop> Drop for Processor<N, G> {
     fn drop(self) {
         let Processor {
-            rt: _,
             gate: _,
             index: _,
             from: _,
@@ -63,11 +61,10 @@ fn both(a: bool, b: bool) -> Turn
     if a && b { Turn::Ended } else { Turn::Quiet }
 }
 
-impl<N: Router, R: Copy, G: Gate + Drop> Processor<N, R, G> {
+impl<N: Router, G: Gate + Drop> Processor<N, G> {
     /// The processor of a number, which takes from its pipe, one producer a link, and offers to two pipes
     /// a link and to the slow path's; buffers go back by one pipe a link.
     pub fn new(
-        rt: R,
         shared: Arc<Shared, Global>,
         index: u8,
         gate: Arc<G, Global>,
@@ -76,7 +73,7 @@ impl<N: Router, R: Copy, G: Gate + Drop> Processor<N, R, G> {
         slow: Outlet<SlowPathRequest<N>>,
         free: Vec<Producer<Buffer>>,
         share: Share<N>,
-    ) -> Processor<N, R, G>
+    ) -> Processor<N, G>
         requires config { N.config ≡ Some (arc_value shared).config }
         requires from { from.taken ≡ [] }
         requires links { (length links.items ≡ 2 * link_count (arc_value shared).config) × AreFresh links.items }
@@ -86,14 +83,12 @@ impl<N: Router, R: Copy, G: Gate + Drop> Processor<N, R, G> {
         ensures { result ≡ first_working (arc_value gate) index from slow (first_leaving (arc_value shared).config links.items free.items) }
     {
         let exits = Exits {
-            rt,
             shared,
             links,
             free,
             share,
         };
         Processor {
-            rt,
             gate,
             index,
             from,
@@ -117,7 +112,6 @@ impl<N: Router, R: Copy, G: Gate + Drop> Processor<N, R, G> {
         ensures law { IsWorking self.side.config self.taker self.hand (senders self.side.links) self.slow.sender self.side.share }
     {
         let Processor {
-            rt: _,
             gate: _,
             index: _,
             from,
@@ -128,9 +122,7 @@ impl<N: Router, R: Copy, G: Gate + Drop> Processor<N, R, G> {
         let (links, free, share) = exits.into_parts();
         (from, links, slow, free, share)
     }
-}
 
-impl<N: Router, R: Wait + Copy, G: Gate + Drop> Processor<N, R, G> {
     /// Whether each of its counts can still be raised.
     pub fn has_room(&self) -> bool
         ensures { MatchBool result (HasRoom self.now.side.share.counts) (HasRoom self.now.side.share.counts → ⊥) }
@@ -140,22 +132,22 @@ impl<N: Router, R: Wait + Copy, G: Gate + Drop> Processor<N, R, G> {
 
     /// Takes a packet, where it has none in hand, and passes it on where the gate admits it. After the
     /// last end mark of its pipe it tries the end marks that it owes, the slow path's first.
-    pub fn turn(&mut self) -> Turn
+    pub fn turn<R: Wait>(&mut self, rt: &R) -> Turn
         requires { HasRoom self.old.side.share.counts }
         ensures { Worked G.answers result self.old self.new }
     {
         if self.hand.is_some() {
-            return self.work();
+            return self.work(rt);
         }
         if self.from.is_done() {
-            return self.end();
+            return self.end(rt);
         }
-        match self.from.take(&self.rt) {
+        match self.from.take(rt) {
             None => Turn::Quiet,
             Some(Load::Marked(_)) => Turn::Did,
             Some(Load::Payload(packet)) => {
                 self.hand = Some(packet);
-                self.work()
+                self.work(rt)
             }
         }
     }
@@ -169,7 +161,7 @@ impl<N: Router, R: Wait + Copy, G: Gate + Drop> Processor<N, R, G> {
     }
 
     // Passes on the packet in hand, where the gate admits it.
-    fn work(&mut self) -> Turn
+    fn work<R: Wait>(&mut self, rt: &R) -> Turn
         requires some { is_some self.old.hand ≡ true }
         requires room { HasRoom self.old.side.share.counts }
         ensures { WorksFor G.answers result self.old self.new }
@@ -182,25 +174,25 @@ impl<N: Router, R: Wait + Copy, G: Gate + Drop> Processor<N, R, G> {
             self.hand = Some(packet);
             return Turn::Quiet;
         }
-        self.exits.pass_on(&mut self.slow, packet);
+        self.exits.pass_on(rt, &mut self.slow, packet);
         Turn::Did
     }
 
     // Tries the end marks that are owed.
-    fn end(&mut self) -> Turn
+    fn end<R: Wait>(&mut self, rt: &R) -> Turn
         requires { IsDone self.old }
         ensures { EndsWorking result self.old self.new }
     {
-        let slow = self.slow.end(&self.rt);
-        let links = self.exits.end();
+        let slow = self.slow.end(rt);
+        let links = self.exits.end(rt);
         both(slow, links)
     }
 
     /// Posts its counts into the book, where there is room.
-    pub fn post(&mut self, book: &Book<N>)
+    pub fn post<R: Wait>(&mut self, rt: &R, book: &Book<N>)
         ensures share { IsPosted self.old.side.share self.new.side.share }
         ensures same { self.new ≡ posted self.new.side.share self.old }
     {
-        self.exits.post(book);
+        self.exits.post(rt, book);
     }
 }

@@ -21,13 +21,12 @@ use std::sync::{Arc, Wait};
 
 /// Takes requests from its pipe, and sends the answer to each back by the link by which its packet
 /// came.
-pub struct SlowPath<N: Router, R> {
-    rt: R,
+pub struct SlowPath<N: Router> {
     from: Inlet<SlowPathRequest<N>>,
-    exits: Exits<N, R>,
+    exits: Exits<N>,
 }
 
-impl<N: Router, R> Model for SlowPath<N, R> {
+impl<N: Router> Model for SlowPath<N> {
     ghost use Rattle.router_stages.specs.Answering.{Answering, KeepsAnswering};
 
     ghost Value = { Answering };
@@ -38,19 +37,15 @@ impl<N: Router, R> Model for SlowPath<N, R> {
 }
 
 // Not derived: a derived drop is proved again in each crate that drops one.
-impl<N: Router, R: Drop> Drop for SlowPath<N, R> {
+impl<N: Router> Drop for SlowPath<N> {
     fn drop(self) {
-        let SlowPath {
-            rt: _,
-            from: _,
-            exits: _,
-        } = self;
+        let SlowPath { from: _, exits: _ } = self;
     }
 }
 
-impl<N: Router, R: Wait + Copy> Exits<N, R> {
+impl<N: Router> Exits<N> {
     // Sends the answer to a request, or drops its packet where there is none.
-    fn reply(&mut self, request: SlowPathRequest<N>)
+    fn reply<R: Wait>(&mut self, rt: &R, request: SlowPathRequest<N>)
         requires unended { AreOpen self.old.links }
         requires room { MayRaise self.old.share.counts }
         ensures some { 0 < length self.old.links }
@@ -58,23 +53,22 @@ impl<N: Router, R: Wait + Copy> Exits<N, R> {
     {
         let link = request.link();
         match request.answer(&self.shared) {
-            Ok(answer) => self.send(answer),
-            Err(Withheld { cause, buffer }) => self.drop_for(link, buffer, cause),
+            Ok(answer) => self.send(rt, answer),
+            Err(Withheld { cause, buffer }) => self.drop_for(rt, link, buffer, cause),
         }
     }
 }
 
-impl<N: Router, R: Copy> SlowPath<N, R> {
+impl<N: Router> SlowPath<N> {
     /// The slow path, which takes from its pipe, one producer a processor, and offers to two pipes a
     /// link; buffers go back by one pipe a link.
     pub fn new(
-        rt: R,
         shared: Arc<Shared, Global>,
         from: Inlet<SlowPathRequest<N>>,
         links: Vec<Outlet<EgressPacket<N>>>,
         free: Vec<Producer<Buffer>>,
         share: Share<N>,
-    ) -> SlowPath<N, R>
+    ) -> SlowPath<N>
         requires config { N.config ≡ Some (arc_value shared).config }
         requires from { from.taken ≡ [] }
         requires links { (length links.items ≡ 2 * link_count (arc_value shared).config) × AreFresh links.items }
@@ -83,13 +77,12 @@ impl<N: Router, R: Copy> SlowPath<N, R> {
         ensures { result ≡ first_answering from (first_leaving (arc_value shared).config links.items free.items) }
     {
         let exits = Exits {
-            rt,
             shared,
             links,
             free,
             share,
         };
-        SlowPath { rt, from, exits }
+        SlowPath { from, exits }
     }
 
     /// Its ends of pipes and its counts, which tell what it did.
@@ -104,13 +97,11 @@ impl<N: Router, R: Copy> SlowPath<N, R> {
         ensures parts { (result.0 ≡ self.taker) × (result.1.items ≡ self.side.links) × (result.2.items ≡ self.side.free) × (result.3 ≡ self.side.share) }
         ensures law { IsAnswering self.side.config self.taker (senders self.side.links) self.side.share }
     {
-        let SlowPath { rt: _, from, exits } = self;
+        let SlowPath { from, exits } = self;
         let (links, free, share) = exits.into_parts();
         (from, links, free, share)
     }
-}
 
-impl<N: Router, R: Wait + Copy> SlowPath<N, R> {
     /// Whether each of its counts can still be raised.
     pub fn has_room(&self) -> bool
         ensures { MatchBool result (HasRoom self.now.side.share.counts) (HasRoom self.now.side.share.counts → ⊥) }
@@ -120,18 +111,18 @@ impl<N: Router, R: Wait + Copy> SlowPath<N, R> {
 
     /// Takes a request and sends its answer. After the last end mark of its pipe it tries the end marks
     /// that it owes.
-    pub fn turn(&mut self) -> Turn
+    pub fn turn<R: Wait>(&mut self, rt: &R) -> Turn
         requires { HasRoom self.old.side.share.counts }
         ensures { Answered result self.old self.new }
     {
         if self.from.is_done() {
-            return self.end();
+            return self.end(rt);
         }
-        match self.from.take(&self.rt) {
+        match self.from.take(rt) {
             None => Turn::Quiet,
             Some(Load::Marked(_)) => Turn::Did,
             Some(Load::Payload(request)) => {
-                self.exits.reply(request);
+                self.exits.reply(rt, request);
                 Turn::Did
             }
         }
@@ -146,11 +137,11 @@ impl<N: Router, R: Wait + Copy> SlowPath<N, R> {
     }
 
     // Tries the end marks that are owed.
-    fn end(&mut self) -> Turn
+    fn end<R: Wait>(&mut self, rt: &R) -> Turn
         requires { IsDone self.old }
         ensures { EndsAnswering result self.old self.new }
     {
-        if self.exits.end() {
+        if self.exits.end(rt) {
             Turn::Ended
         } else {
             Turn::Quiet
@@ -158,10 +149,10 @@ impl<N: Router, R: Wait + Copy> SlowPath<N, R> {
     }
 
     /// Posts its counts into the book, where there is room.
-    pub fn post(&mut self, book: &Book<N>)
+    pub fn post<R: Wait>(&mut self, rt: &R, book: &Book<N>)
         ensures share { IsPosted self.old.side.share self.new.side.share }
         ensures same { self.new ≡ posted self.new.side.share self.old }
     {
-        self.exits.post(book);
+        self.exits.post(rt, book);
     }
 }

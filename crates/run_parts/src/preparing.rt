@@ -102,7 +102,7 @@ fn base_for<N: Router>(
 
 /// All that is ready, for workers of any four kinds over sources `S` and sinks `K`.
 #[derive(Drop)]
-pub struct Prepared<N, G, R, A, B, C, D, S, K>
+pub struct Prepared<N, G, A, B, C, D, S, K>
 where
     N: Router,
     G: Gate,
@@ -112,29 +112,29 @@ where
     D: Work<N>,
 {
     pub base: Base<N>,
-    pub worker_parts: WorkerParts<N, G, R>,
+    pub worker_parts: WorkerParts<N, G>,
     pub teams: Teams<N, A, B, C, D>,
     pub space: Space<N, S, K>,
 }
 
 /// It is given no device, so that each stays with the caller where memory runs out.
-pub fn prepare<N, G, R, A, B, C, D, S, K>(
-    rt: R,
+pub fn prepare<N, G, A, B, C, D, S, K, R>(
+    rt: &R,
     alloc: Global,
     blank: Blank,
     config: Config,
     gate: G,
-) -> Result<Prepared<N, G, R, A, B, C, D, S, K>, AllocError>
+) -> Result<Prepared<N, G, A, B, C, D, S, K>, AllocError>
 where
     N: Router,
     G: Gate + Drop,
-    R: Wait + Copy,
     A: Work<N> + Drop,
     B: Work<N> + Drop,
     C: Work<N> + Drop,
     D: Work<N> + Drop,
     S: Drop,
     K: Drop,
+    R: Wait,
     requires name { blank.table ≡ N.table }
     requires config { N.config ≡ Some config }
     requires workers { N.workers ≡ 2 * link_count config + config.processors + 1 }

@@ -27,10 +27,10 @@ use wired_workers::{
 
 /// The pipes, and what the workers are made of, before any device is taken.
 #[derive(Drop)]
-pub struct WorkerParts<N: Router, G: Gate, R> {
+pub struct WorkerParts<N: Router, G: Gate> {
     pub receivers: Vec<Entering<N>>,
-    pub processors: Vec<Processor<N, R, G>>,
-    pub slow: SlowPath<N, R>,
+    pub processors: Vec<Processor<N, G>>,
+    pub slow: SlowPath<N>,
     pub forwarders: Vec<Leaving<N>>,
     pub shutters: Vec<Shutter<EgressPacket<N>>>,
     pub pipes: Pipes<N>,
@@ -38,14 +38,13 @@ pub struct WorkerParts<N: Router, G: Gate, R> {
 
 /// The workers after the receivers, and the controller's ends.
 #[derive(Drop)]
-struct AfterReceivers<N: Router, G: Gate, R> {
-    deciding: Deciding<N, G, R>,
+struct AfterReceivers<N: Router, G: Gate> {
+    deciding: Deciding<N, G>,
     forwarders: Vec<Leaving<N>>,
     shutters: Vec<Shutter<EgressPacket<N>>>,
 }
 
-fn after_receivers<N: Router, G: Gate + Drop, R: Copy>(
-    rt: R,
+fn after_receivers<N: Router, G: Gate + Drop>(
     alloc: Global,
     common: &Common,
     gate: G,
@@ -53,7 +52,7 @@ fn after_receivers<N: Router, G: Gate + Drop, R: Copy>(
     inputs: Inputs<N>,
     egress_packets: Vec<Consumer<EgressPacket<N>>>,
     remaining: Remaining<N>,
-) -> Result<AfterReceivers<N, G, R>, AllocError>
+) -> Result<AfterReceivers<N, G>, AllocError>
     requires config { N.config ≡ Some (arc_value common.now.shared).config }
     requires pipes { (length pipes.now.inner.items ≡ (arc_value common.now.shared).config.processors) × AreFor (link_count (arc_value common.now.shared).config) pipes.now.inner.items × (length pipes.now.outer.items ≡ 2 * link_count (arc_value common.now.shared).config) }
     requires outer { AreFor ((arc_value common.now.shared).config.processors + 2) pipes.now.outer.items }
@@ -74,7 +73,7 @@ fn after_receivers<N: Router, G: Gate + Drop, R: Copy>(
     // At most 33, which bounds the controller's ends.
     let _ = link_count(&common.shared.config);
     let mut remaining = remaining;
-    let deciding = deciding_of(rt, alloc, common, gate, pipes, inputs, &mut remaining)?;
+    let deciding = deciding_of(alloc, common, gate, pipes, inputs, &mut remaining)?;
     let closing = shutters(alloc, &common.shared, remaining.links.next());
     let leaving = all_leaving(alloc, common, &pipes.outer, egress_packets, &mut remaining);
     let ends = both(leaving, closing);
@@ -87,13 +86,13 @@ fn after_receivers<N: Router, G: Gate + Drop, R: Copy>(
 }
 
 /// Pipes and workers, all over the same configuration.
-pub fn make_all<N: Router, G: Gate + Drop, R: Wait + Copy>(
-    rt: R,
+pub fn make_all<N: Router, G: Gate + Drop, R: Wait>(
+    rt: &R,
     alloc: Global,
     common: &Common,
     gate: G,
     shares: Vec<Share<N>>,
-) -> Result<WorkerParts<N, G, R>, AllocError>
+) -> Result<WorkerParts<N, G>, AllocError>
     requires config { N.config ≡ Some (arc_value common.now.shared).config }
     requires shares { AreNewShares (2 * link_count (arc_value common.now.shared).config + (arc_value common.now.shared).config.processors + 1) shares.items }
     ensures { IfOk result (λ m. AreWorkerParts (arc_value common.now.shared).config (piping m.pipes.inner.items m.pipes.middle m.pipes.outer.items) m.pipes.inner_rooms.items m.pipes.outer_rooms.items m.receivers.items m.processors.items m.slow m.forwarders.items m.shutters.items) }
@@ -105,7 +104,7 @@ pub fn make_all<N: Router, G: Gate + Drop, R: Wait + Copy>(
         to_links,
         egress_packets,
         free,
-    } = all_pipes(&rt, alloc, &common.shared)?;
+    } = all_pipes(rt, alloc, &common.shared)?;
     let mut remaining = Remaining {
         links: Line::of(to_links),
         free: Line::of(free.bundles),
@@ -120,7 +119,6 @@ pub fn make_all<N: Router, G: Gate + Drop, R: Wait + Copy>(
         &mut remaining.shares,
     )?;
     let after = after_receivers(
-        rt,
         alloc,
         common,
         gate,

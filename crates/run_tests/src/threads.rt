@@ -22,14 +22,13 @@ use worker_threads::{
 
 // It counts a number of datagrams as received, one in a turn, is quiet for a number of turns, and has ended.
 #[derive(Drop)]
-struct Countdown<L: Ledger, R> {
-    rt: R,
+struct Countdown<L: Ledger> {
     left: u64,
     quiet: u64,
     share: Share<L>,
 }
 
-impl<L: Ledger, R: Wait> Work<L> for Countdown<L, R> {
+impl<L: Ledger> Work<L> for Countdown<L> {
     ghost use Rattle.std.specs.Prelude.{◌≡◌};
     ghost use Rattle.packet_ledger.specs.Share.{HasRoom};
 
@@ -49,7 +48,8 @@ impl<L: Ledger, R: Wait> Work<L> for Countdown<L, R> {
         self.share.has_room()
     }
 
-    fn make_turn(&mut self) -> Turn {
+    fn make_turn<R: Wait>(&mut self, rt: &R) -> Turn {
+        let _ = rt;
         if self.left > 0 {
             self.left -= 1;
             self.share.received(1);
@@ -70,8 +70,8 @@ impl<L: Ledger, R: Wait> Work<L> for Countdown<L, R> {
         false
     }
 
-    fn post(&mut self, book: &Book<L>) {
-        book.post(&self.rt, &mut self.share);
+    fn post<R: Wait>(&mut self, rt: &R, book: &Book<L>) {
+        book.post(rt, &mut self.share);
     }
 
     ghost same_self = { λ x. tt };
@@ -97,21 +97,20 @@ fn team_of<L: Ledger, W: Work<L> + Drop, R: Abort>(
 }
 
 // A number of workers, with shares taken off a list.
-fn countdowns<L: Ledger, R: Abort + Copy>(
-    rt: R,
+fn countdowns<L: Ledger, R: Abort>(
+    rt: &R,
     alloc: Global,
     shares: &mut Vec<Share<L>>,
     count: usize,
-) -> Vec<Countdown<L, R>> {
+) -> Vec<Countdown<L>> {
     let mut workers = Vec::new(alloc);
     for _ in 0..count {
         let worker = Countdown {
-            rt,
             left: 3000,
             quiet: 25,
-            share: shares.pop().expect(&rt, "share"),
+            share: shares.pop().expect(rt, "share"),
         };
-        workers.push(worker).expect(&rt, "memory");
+        workers.push(worker).expect(rt, "memory");
     }
     workers
 }
@@ -134,29 +133,29 @@ fn copies<L: Ledger, R: Abort>(
 // How many workers a team has, and orders for how many threads.
 type Size = (usize, usize);
 
-fn team<L: Ledger, R: Abort + Wait + Copy>(
-    rt: R,
+fn team<L: Ledger, R: Abort>(
+    rt: &R,
     alloc: Global,
     orders: &Orders<L>,
     shares: &mut Vec<Share<L>>,
     size: Size,
-) -> Team<L, Countdown<L, R>>
+) -> Team<L, Countdown<L>>
     ensures { (result.room.items ≡ []) × (length result.workers.items ≤ vec_capacity result.room) }
 {
     let workers = countdowns(rt, alloc, shares, size.0);
-    team_of(&rt, alloc, workers, copies(&rt, alloc, orders, size.1))
+    team_of(rt, alloc, workers, copies(rt, alloc, orders, size.1))
 }
 
 // Whether a worker came to its end and posted all that it counted.
-fn is_over<L: Ledger, R>(worker: &Countdown<L, R>) -> bool {
+fn is_over<L: Ledger>(worker: &Countdown<L>) -> bool {
     worker.left == 0 && worker.quiet == 0 && worker.share.posted().received == 3000
 }
 
 // How many workers came back, each over.
-fn joined<L, R>(rt: &R, started: Started<L, Countdown<L, R>>) -> usize
+fn joined<L, R>(rt: &R, started: Started<L, Countdown<L>>) -> usize
 where
     L: Ledger,
-    R: Threads + Wait + Clock + Drop,
+    R: Threads + Wait + Clock,
 {
     let back = join_all(rt, started);
     for worker in back.iter() {
@@ -183,7 +182,7 @@ fn orders_for<L: Ledger, R: Abort>(
     (Orders::new(word, book), shares)
 }
 
-type Countdowns<L, R> = Both<L, Countdown<L, R>, Countdown<L, R>>;
+type Countdowns<L> = Both<L, Countdown<L>, Countdown<L>>;
 
 // Four teams of these sizes, in threads.
 fn started<L, R>(
@@ -191,27 +190,27 @@ fn started<L, R>(
     alloc: Global,
     blank: Blank,
     sizes: [Size; 4],
-) -> Result<(Countdowns<L, R>, Countdowns<L, R>), ThreadFault>
+) -> Result<(Countdowns<L>, Countdowns<L>), ThreadFault>
 where
     L: Ledger + Send + Sync + 'static,
-    R: Abort + Threads + Wait + Clock + Copy + Send + Drop + 'static,
+    R: Abort + Threads + Wait + Clock + Copy + Send + 'static,
     requires name { blank.table ≡ L.table }
     requires six { L.workers ≡ 6 }
 {
     let (orders, mut shares) = orders_for::<L, R>(&rt, alloc, blank, 6);
     let [one, two, three, four] = sizes;
-    let one = team(rt, alloc, &orders, &mut shares, one);
-    let two = team(rt, alloc, &orders, &mut shares, two);
-    let three = team(rt, alloc, &orders, &mut shares, three);
-    let four = team(rt, alloc, &orders, &mut shares, four);
+    let one = team(&rt, alloc, &orders, &mut shares, one);
+    let two = team(&rt, alloc, &orders, &mut shares, two);
+    let three = team(&rt, alloc, &orders, &mut shares, three);
+    let four = team(&rt, alloc, &orders, &mut shares, four);
     start_four(rt, &orders, (one, two), (three, four))
 }
 
 // How many came back of each of two teams.
-fn both_joined<L, R>(rt: &R, both: Countdowns<L, R>) -> (usize, usize)
+fn both_joined<L, R>(rt: &R, both: Countdowns<L>) -> (usize, usize)
 where
     L: Ledger,
-    R: Threads + Wait + Clock + Drop,
+    R: Threads + Wait + Clock,
 {
     let Both { first, second } = both;
     let first = joined(rt, first);
@@ -222,7 +221,7 @@ where
 fn four_teams<L, R>(rt: R, alloc: Global, blank: Blank, sizes: [Size; 4]) -> Option<[usize; 4]>
 where
     L: Ledger + Send + Sync + 'static,
-    R: Abort + Threads + Wait + Clock + Copy + Send + Drop + 'static,
+    R: Abort + Threads + Wait + Clock + Copy + Send + 'static,
     requires name { blank.table ≡ L.table }
     requires six { L.workers ≡ 6 }
 {
@@ -253,18 +252,17 @@ fn a_refused_thread_ends_all(rt: HostRuntime) {
 
 // It offers the numbers below a bound, one in eight turns, and then its end mark.
 #[derive(Drop)]
-struct Feeder<R> {
-    rt: R,
+struct Feeder {
     to: Outlet<u64>,
     left: u64,
     turns: u8,
 }
 
-impl<R: Wait> Feeder<R> {
+impl Feeder {
     // Offers a number, or tries the end mark.
-    fn feed(&mut self) -> Turn {
+    fn feed<R: Wait>(&mut self, rt: &R) -> Turn {
         if self.left == 0 {
-            return if self.to.end(&self.rt) {
+            return if self.to.end(rt) {
                 Turn::Ended
             } else {
                 Turn::Quiet
@@ -273,7 +271,7 @@ impl<R: Wait> Feeder<R> {
         if self.to.has_ended() {
             return Turn::Quiet;
         }
-        if self.to.offer(&self.rt, self.left).is_err() {
+        if self.to.offer(rt, self.left).is_err() {
             return Turn::Quiet;
         }
         self.left -= 1;
@@ -281,7 +279,7 @@ impl<R: Wait> Feeder<R> {
     }
 }
 
-impl<L: Ledger, R: Wait> Work<L> for Feeder<R> {
+impl<L: Ledger> Work<L> for Feeder {
     ghost same = { λ a b. Unit {0} };
 
     ghost may_turn = { λ a. Unit {0} };
@@ -298,12 +296,12 @@ impl<L: Ledger, R: Wait> Work<L> for Feeder<R> {
         true
     }
 
-    fn make_turn(&mut self) -> Turn {
+    fn make_turn<R: Wait>(&mut self, rt: &R) -> Turn {
         self.turns = self.turns.wrapping_add(1);
         if self.turns % 8 != 0 {
             return Turn::Quiet;
         }
-        self.feed()
+        self.feed(rt)
     }
 
     fn awaits_push(&self) -> bool {
@@ -314,7 +312,8 @@ impl<L: Ledger, R: Wait> Work<L> for Feeder<R> {
         false
     }
 
-    fn post(&mut self, book: &Book<L>) {
+    fn post<R: Wait>(&mut self, rt: &R, book: &Book<L>) {
+        let _ = rt;
         let _ = book;
     }
 
@@ -325,13 +324,12 @@ impl<L: Ledger, R: Wait> Work<L> for Feeder<R> {
 
 // It adds up the numbers that it takes, and sleeps while there are none.
 #[derive(Drop)]
-struct Drain<R> {
-    rt: R,
+struct Drain {
     from: Inlet<u64>,
     sum: u64,
 }
 
-impl<L: Ledger, R: Wait> Work<L> for Drain<R> {
+impl<L: Ledger> Work<L> for Drain {
     ghost same = { λ a b. Unit {0} };
 
     ghost may_turn = { λ a. Unit {0} };
@@ -348,11 +346,11 @@ impl<L: Ledger, R: Wait> Work<L> for Drain<R> {
         true
     }
 
-    fn make_turn(&mut self) -> Turn {
+    fn make_turn<R: Wait>(&mut self, rt: &R) -> Turn {
         if self.from.is_done() {
             return Turn::Ended;
         }
-        match self.from.take(&self.rt) {
+        match self.from.take(rt) {
             None => Turn::Quiet,
             Some(Load::Marked(_)) => Turn::Did,
             Some(Load::Payload(number)) => {
@@ -370,7 +368,8 @@ impl<L: Ledger, R: Wait> Work<L> for Drain<R> {
         false
     }
 
-    fn post(&mut self, book: &Book<L>) {
+    fn post<R: Wait>(&mut self, rt: &R, book: &Book<L>) {
+        let _ = rt;
         let _ = book;
     }
 
@@ -396,22 +395,16 @@ fn alone<L: Ledger, W: Work<L> + Drop, R: Abort>(
 }
 
 // Two workers at the ends of a pipe. The one that offers notifies the event.
-fn at_both_ends<R: Abort + Wait + Copy>(
-    rt: R,
-    alloc: Global,
-    event: Event,
-) -> (Feeder<R>, Drain<R>) {
+fn at_both_ends<R: Abort>(rt: &R, alloc: Global, event: Event) -> (Feeder, Drain) {
     let made = ends_of::<u64>(alloc, 4, 1);
-    let (mut ends, consumer) = made.expect(&rt, "memory");
+    let (mut ends, consumer) = made.expect(rt, "memory");
     let to = Outlet::of(next_producer(&mut ends), Some(event));
     let feeder = Feeder {
-        rt,
         to,
         left: 40,
         turns: 0,
     };
     let drain = Drain {
-        rt,
         from: Inlet::of(consumer, 1),
         sum: 0,
     };
@@ -419,15 +412,15 @@ fn at_both_ends<R: Abort + Wait + Copy>(
 }
 
 // Both workers in threads. The second one sleeps until the first one's event.
-fn feeding<L, R>(rt: R, alloc: Global, orders: &Orders<L>) -> Both<L, Feeder<R>, Drain<R>>
+fn feeding<L, R>(rt: R, alloc: Global, orders: &Orders<L>) -> Both<L, Feeder, Drain>
 where
     L: Ledger + Send + Sync + 'static,
-    R: Abort + Threads + Wait + Clock + Copy + Send + Drop + 'static,
+    R: Abort + Threads + Wait + Clock + Copy + Send + 'static,
 {
     let event = Arc::new(alloc, EventCount::new()).expect(&rt, "memory");
     let woken = orders.another_with(&event).expect(&rt, "memory");
     let plain = orders.another().expect(&rt, "memory");
-    let (feeder, drain) = at_both_ends(rt, alloc, event);
+    let (feeder, drain) = at_both_ends(&rt, alloc, event);
     let first = alone(&rt, alloc, feeder, plain);
     let second = alone(&rt, alloc, drain, woken);
     let both = start_both(rt, orders, first, second).ok();
@@ -435,10 +428,10 @@ where
 }
 
 // Joins both: what the second one took, in sum.
-fn taken_by<L, R>(rt: &R, both: Both<L, Feeder<R>, Drain<R>>) -> u64
+fn taken_by<L, R>(rt: &R, both: Both<L, Feeder, Drain>) -> u64
 where
     L: Ledger,
-    R: Abort + Threads + Wait + Clock + Drop,
+    R: Abort + Threads + Wait + Clock,
 {
     let Both { first, second } = both;
     drop(join_all(rt, first));
@@ -450,7 +443,7 @@ where
 fn fed<L, R>(rt: R, alloc: Global, blank: Blank) -> u64
 where
     L: Ledger + Send + Sync + 'static,
-    R: Abort + Threads + Wait + Clock + Copy + Send + Drop + 'static,
+    R: Abort + Threads + Wait + Clock + Copy + Send + 'static,
     requires name { blank.table ≡ L.table }
     requires none { L.workers ≡ 0 }
 {

@@ -51,59 +51,56 @@ pub struct Outcome {
 
 /// The workers, and the end by which the forwarder's pipe is closed.
 #[derive(Drop)]
-pub struct Workers<N: Router, R, S: Source, K: Sink> {
-    pub rt: R,
-    pub receiver: Receiver<N, R, S>,
-    pub processor: Processor<N, R, Open>,
-    pub slow_path: SlowPath<N, R>,
-    pub forwarder: Forwarder<N, R, K>,
+pub struct Workers<N: Router, S: Source, K: Sink> {
+    pub receiver: Receiver<N, S>,
+    pub processor: Processor<N, Open>,
+    pub slow_path: SlowPath<N>,
+    pub forwarder: Forwarder<N, K>,
     pub controller: Producer<EgressPacket<N>>,
 }
 
-impl<N: Router, R: Wait + Copy> Workers<N, R, ListSource, ListSink> {
-    fn turn(&mut self, letter: u8) -> bool {
+impl<N: Router> Workers<N, ListSource, ListSink> {
+    fn turn<R: Wait>(&mut self, rt: &R, letter: u8) -> bool {
         match letter.to_ascii_uppercase() {
-            b'R' => self.receiver.has_room() && was(self.receiver.turn(), letter),
-            b'P' => self.processor.has_room() && was(self.processor.turn(), letter),
-            b'S' => self.slow_path.has_room() && was(self.slow_path.turn(), letter),
-            b'F' => self.forwarder.has_room() && was(self.forwarder.turn(), letter),
-            _ => self.controller.mark(&self.rt, Mark::Close).is_ok(),
+            b'R' => self.receiver.has_room() && was(self.receiver.turn(rt), letter),
+            b'P' => self.processor.has_room() && was(self.processor.turn(rt), letter),
+            b'S' => self.slow_path.has_room() && was(self.slow_path.turn(rt), letter),
+            b'F' => self.forwarder.has_room() && was(self.forwarder.turn(rt), letter),
+            _ => self.controller.mark(rt, Mark::Close).is_ok(),
         }
     }
 
-    fn turns(&mut self, letters: &str) -> bool {
+    fn turns<R: Wait>(&mut self, rt: &R, letters: &str) -> bool {
         let mut as_told = true;
         for letter in letters.bytes() {
-            as_told &= self.turn(letter);
+            as_told &= self.turn(rt, letter);
         }
         as_told
     }
 }
 
-fn share_of_receiver<N: Router, R: Wait + Copy>(worker: Receiver<N, R, ListSource>) -> Share<N> {
+fn share_of_receiver<N: Router>(worker: Receiver<N, ListSource>) -> Share<N> {
     worker.into_parts().3
 }
 
-fn share_of_processor<N: Router, R: Wait + Copy>(worker: Processor<N, R, Open>) -> Share<N> {
+fn share_of_processor<N: Router>(worker: Processor<N, Open>) -> Share<N> {
     worker.into_parts().4
 }
 
-fn share_of_slow_path<N: Router, R: Wait + Copy>(worker: SlowPath<N, R>) -> Share<N> {
+fn share_of_slow_path<N: Router>(worker: SlowPath<N>) -> Share<N> {
     worker.into_parts().3
 }
 
-fn sink_and_share<N: Router, R: Wait + Copy>(
-    worker: Forwarder<N, R, ListSink>,
-) -> (ListSink, Share<N>) {
+fn sink_and_share<N: Router>(worker: Forwarder<N, ListSink>) -> (ListSink, Share<N>) {
     let (sink, _, _, _, share) = worker.into_parts();
     (sink, share)
 }
 
 // What is left of the workers: the sink and their counts.
-fn parts_of<N: Router, R: Abort + Wait + Copy>(
+fn parts_of<N: Router, R: Abort>(
     rt: &R,
     alloc: Global,
-    workers: Workers<N, R, ListSource, ListSink>,
+    workers: Workers<N, ListSource, ListSink>,
 ) -> (ListSink, Vec<Share<N>>)
     ensures { length result.1.items ≡ 4 }
 {
@@ -115,8 +112,8 @@ fn parts_of<N: Router, R: Abort + Wait + Copy>(
     (sink, shares)
 }
 
-fn play<N: Router, R: Abort + Wait + Copy>(
-    rt: R,
+fn play<N: Router, R: Abort + Wait>(
+    rt: &R,
     alloc: Global,
     blank: Blank,
     shared: Arc<Shared, Global>,
@@ -129,15 +126,15 @@ fn play<N: Router, R: Abort + Wait + Copy>(
     requires small { (link_count (arc_value shared).config ≡ 4) × ((arc_value shared).config.processors ≡ 1) }
     requires capacity { (0 < plan.sizes.capacity) × (plan.sizes.capacity ≤ 65536) }
 {
-    let (book, shares) = Book::<N>::new(alloc, blank, 4).expect(&rt, "memory");
+    let (book, shares) = Book::<N>::new(alloc, blank, 4).expect(rt, "memory");
     let source = ListSource::new(answers);
-    let fails = Vec::from_slice(alloc, plan.fails).expect(&rt, "memory");
+    let fails = Vec::from_slice(alloc, plan.fails).expect(rt, "memory");
     let sink = ListSink::new(alloc, fails);
     let mut workers = start(rt, alloc, &shared, source, sink, plan.sizes, shares);
-    let as_told = workers.turns(plan.turns);
-    let (sink, shares) = parts_of(&rt, alloc, workers);
+    let as_told = workers.turns(rt, plan.turns);
+    let (sink, shares) = parts_of(rt, alloc, workers);
     Outcome {
-        totals: book.close(&rt, shares),
+        totals: book.close(rt, shares),
         sink,
         as_told,
     }
@@ -156,5 +153,5 @@ pub fn run<R: Abort + Wait + Copy>(
     assert!(rt; plan.sizes.capacity > 0 && plan.sizes.capacity <= 65536);
     let shared = Arc::new(alloc, shared).expect(&rt, "memory");
     let blank = Blank::new(alloc).expect(&rt, "memory");
-    play::<Brand, R>(rt, alloc, blank, shared, answers, plan)
+    play::<Brand, R>(&rt, alloc, blank, shared, answers, plan)
 }

@@ -34,15 +34,15 @@ fn share_of<R: Abort>(rt: &R, shared: &Arc<Shared, Global>) -> Arc<Shared, Globa
 }
 
 // Link 1's receiver.
-fn receiver<N: Router, R: Abort + Wait + Copy, S: Source + Drop>(
-    rt: R,
+fn receiver<N: Router, S: Source + Drop, R: Abort>(
+    rt: &R,
     alloc: Global,
     shared: &Arc<Shared, Global>,
     source: S,
     free: Consumer<Buffer>,
     processor: Outlet<Packet<N>>,
     share: Share<N>,
-) -> Receiver<N, R, S>
+) -> Receiver<N, S>
     requires config { N.config ≡ Some (arc_value shared.now).config }
     requires small { (link_count (arc_value shared.now).config ≡ 4) × ((arc_value shared.now).config.processors ≡ 1) }
     requires free { free.looks ≡ [] }
@@ -50,49 +50,49 @@ fn receiver<N: Router, R: Abort + Wait + Copy, S: Source + Drop>(
     requires share { share ≡ new_share }
     requires untold { ToldNothing (S.told source) }
 {
-    let shared = share_of(&rt, shared);
-    let stop = Arc::new(alloc, AtomicU64::new(0)).expect(&rt, "memory");
-    let first = Buffer::new(alloc).expect(&rt, "memory");
-    let processors = Vec::from_array(alloc, [processor]).expect(&rt, "memory");
-    Receiver::new(rt, shared, stop, 1, source, first, free, processors, share)
+    let shared = share_of(rt, shared);
+    let stop = Arc::new(alloc, AtomicU64::new(0)).expect(rt, "memory");
+    let first = Buffer::new(alloc).expect(rt, "memory");
+    let processors = Vec::from_array(alloc, [processor]).expect(rt, "memory");
+    Receiver::new(shared, stop, 1, source, first, free, processors, share)
 }
 
-fn processor<N: Router, R: Abort + Wait + Copy>(
-    rt: R,
+fn processor<N: Router, R: Abort>(
+    rt: &R,
     alloc: Global,
     shared: &Arc<Shared, Global>,
     packets: Inlet<Packet<N>>,
     slow: Outlet<SlowPathRequest<N>>,
     seat: Seat<N>,
-) -> Processor<N, R, Open>
+) -> Processor<N, Open>
     requires config { N.config ≡ Some (arc_value shared.now).config }
     requires small { link_count (arc_value shared.now).config ≡ 4 }
     requires packets { packets.taken ≡ [] }
     requires slow { IsFresh slow }
 {
-    let shared = share_of(&rt, shared);
-    let gate = Arc::new(alloc, Open).expect(&rt, "memory");
+    let shared = share_of(rt, shared);
+    let gate = Arc::new(alloc, Open).expect(rt, "memory");
     let Seat { links, free, share } = seat;
-    Processor::new(rt, shared, 0, gate, packets, links, slow, free, share)
+    Processor::new(shared, 0, gate, packets, links, slow, free, share)
 }
 
-fn slow_path<N: Router, R: Abort + Wait + Copy>(
-    rt: R,
+fn slow_path<N: Router, R: Abort>(
+    rt: &R,
     shared: &Arc<Shared, Global>,
     requests: Inlet<SlowPathRequest<N>>,
     seat: Seat<N>,
-) -> SlowPath<N, R>
+) -> SlowPath<N>
     requires config { N.config ≡ Some (arc_value shared.now).config }
     requires small { link_count (arc_value shared.now).config ≡ 4 }
     requires requests { requests.taken ≡ [] }
 {
-    let shared = share_of(&rt, shared);
+    let shared = share_of(rt, shared);
     let Seat { links, free, share } = seat;
-    SlowPath::new(rt, shared, requests, links, free, share)
+    SlowPath::new(shared, requests, links, free, share)
 }
 
-fn forwarder<N: Router, R: Abort + Wait + Copy, K: Sink + Drop>(
-    rt: R,
+fn forwarder<N: Router, K: Sink + Drop, R: Abort>(
+    rt: &R,
     alloc: Global,
     shared: &Arc<Shared, Global>,
     link: u16,
@@ -101,16 +101,16 @@ fn forwarder<N: Router, R: Abort + Wait + Copy, K: Sink + Drop>(
     high: Band<N>,
     one: Producer<Buffer>,
     share: Share<N>,
-) -> Forwarder<N, R, K>
+) -> Forwarder<N, K>
     requires config { N.config ≡ Some (arc_value shared.now).config }
     requires small { link_count (arc_value shared.now).config ≡ 4 }
     requires bands { IsNewBand low × IsNewBand high }
     requires share { share ≡ new_share }
     requires untold { ToldNothing (K.told sink) }
 {
-    let shared = share_of(&rt, shared);
-    let free = new_returns(&rt, alloc, one);
-    Forwarder::new(rt, shared, link, low, high, sink, free, share)
+    let shared = share_of(rt, shared);
+    let free = new_returns(rt, alloc, one);
+    Forwarder::new(shared, link, low, high, sink, free, share)
 }
 
 fn fill<R: Abort + Wait>(rt: &R, alloc: Global, stock: Producer<Buffer>, buffers: usize) {
@@ -122,15 +122,15 @@ fn fill<R: Abort + Wait>(rt: &R, alloc: Global, stock: Producer<Buffer>, buffers
 
 /// The workers over these devices, whose forwarder is of a link, with as many free buffers beside the receiver's and
 /// entries in each pipe as said.
-pub fn start<N: Router, R: Abort + Wait + Copy, S: Source + Drop, K: Sink + Drop>(
-    rt: R,
+pub fn start<N: Router, S: Source + Drop, K: Sink + Drop, R: Abort + Wait>(
+    rt: &R,
     alloc: Global,
     shared: &Arc<Shared, Global>,
     source: S,
     sink: K,
     sizes: Sizes,
     shares: Vec<Share<N>>,
-) -> Workers<N, R, S, K>
+) -> Workers<N, S, K>
     requires config { N.config ≡ Some (arc_value shared.now).config }
     requires small { (link_count (arc_value shared.now).config ≡ 4) × ((arc_value shared.now).config.processors ≡ 1) }
     requires capacity { (0 < sizes.capacity) × (sizes.capacity ≤ 65536) }
@@ -138,23 +138,23 @@ pub fn start<N: Router, R: Abort + Wait + Copy, S: Source + Drop, K: Sink + Drop
     requires shares { All (λ s. s ≡ new_share) shares.items × (length shares.items ≡ 4) }
 {
     let mut shares = shares;
-    let (mut frees, free) = pipe_of::<Buffer, R>(&rt, alloc, BUFFERS, 4);
-    fill(&rt, alloc, next_producer(&mut frees), sizes.buffers);
-    let (mut lows, low) = pipe_of::<EgressPacket<N>, R>(&rt, alloc, sizes.capacity, 3);
-    let (mut highs, high) = pipe_of::<EgressPacket<N>, R>(&rt, alloc, sizes.capacity, 2);
-    let (outlet, packets) = pipe_of_one(&rt, alloc, sizes.capacity);
-    let (slow, requests) = pipe_of_one(&rt, alloc, sizes.capacity);
+    let (mut frees, free) = pipe_of::<Buffer, R>(rt, alloc, BUFFERS, 4);
+    fill(rt, alloc, next_producer(&mut frees), sizes.buffers);
+    let (mut lows, low) = pipe_of::<EgressPacket<N>, R>(rt, alloc, sizes.capacity, 3);
+    let (mut highs, high) = pipe_of::<EgressPacket<N>, R>(rt, alloc, sizes.capacity, 2);
+    let (outlet, packets) = pipe_of_one(rt, alloc, sizes.capacity);
+    let (slow, requests) = pipe_of_one(rt, alloc, sizes.capacity);
     let share = next_share(&mut shares);
     let receiver = receiver(rt, alloc, shared, source, free, outlet, share);
     let share = next_share(&mut shares);
     let one = next_producer(&mut frees);
     let ends = (next_outlet(&mut lows), next_outlet(&mut highs));
-    let seat = new_seat(&rt, alloc, sizes.link, ends.0, ends.1, one, share);
+    let seat = new_seat(rt, alloc, sizes.link, ends.0, ends.1, one, share);
     let processor = processor(rt, alloc, shared, packets, slow, seat);
     let share = next_share(&mut shares);
     let one = next_producer(&mut frees);
     let ends = (next_outlet(&mut lows), next_outlet(&mut highs));
-    let seat = new_seat(&rt, alloc, sizes.link, ends.0, ends.1, one, share);
+    let seat = new_seat(rt, alloc, sizes.link, ends.0, ends.1, one, share);
     let slow_path = slow_path(rt, shared, requests, seat);
     let share = next_share(&mut shares);
     let one = next_producer(&mut frees);
@@ -162,7 +162,6 @@ pub fn start<N: Router, R: Abort + Wait + Copy, S: Source + Drop, K: Sink + Drop
     let high = Band::of(high, 2);
     let forwarder = forwarder(rt, alloc, shared, sizes.link, sink, low, high, one, share);
     Workers {
-        rt,
         receiver,
         processor,
         slow_path,

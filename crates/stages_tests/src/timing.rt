@@ -40,42 +40,42 @@ const SIZES: Sizes = Sizes {
 };
 
 // Each worker passes a batch of packets on, as the loop of a thread lets it.
-fn pass_batch<N: Router, R: Wait + Copy>(workers: &mut Workers<N, R, Flows, Sums>) {
+fn pass_batch<N: Router, R: Wait>(rt: &R, workers: &mut Workers<N, Flows, Sums>) {
     for _ in 0..BATCH {
         if workers.receiver.has_room() {
-            let _ = workers.receiver.turn();
+            let _ = workers.receiver.turn(rt);
         }
     }
     for _ in 0..BATCH {
         if workers.processor.has_room() {
-            let _ = workers.processor.turn();
+            let _ = workers.processor.turn(rt);
         }
     }
     for _ in 0..BATCH {
         if workers.forwarder.has_room() {
-            let _ = workers.forwarder.turn();
+            let _ = workers.forwarder.turn(rt);
         }
     }
 }
 
 // The tenths of a nanosecond of a packet.
-fn tenths_once<N: Router, R: Abort + Wait + Clock + Copy>(
+fn tenths_once<N: Router, R: Abort + Wait + Clock>(
     rt: &R,
-    workers: &mut Workers<N, R, Flows, Sums>,
+    workers: &mut Workers<N, Flows, Sums>,
 ) -> u128 {
     let start = Instant::now(rt).expect(rt, "clock");
     for _ in 0..BATCHES {
-        pass_batch(workers);
+        pass_batch(rt, workers);
     }
     let spent = start.elapsed(rt).expect(rt, "clock").as_nanos();
     spent.saturating_mul(10) / (u128::from(BATCHES) * BATCH as u128)
 }
 
 // The tenths of a nanosecond of a packet, in the middle one of the tries.
-fn tenths<N: Router, R: Abort + Wait + Clock + Copy>(
+fn tenths<N: Router, R: Abort + Wait + Clock>(
     rt: &R,
     alloc: Global,
-    workers: &mut Workers<N, R, Flows, Sums>,
+    workers: &mut Workers<N, Flows, Sums>,
 ) -> u128 {
     let mut figures = Vec::new(alloc);
     for _ in 0..TRIES {
@@ -86,15 +86,14 @@ fn tenths<N: Router, R: Abort + Wait + Clock + Copy>(
 }
 
 // The sum of what left by a forwarder.
-fn sum_of<N: Router, R: Wait + Copy>(forwarder: Forwarder<N, R, Sums>) -> u64 {
+fn sum_of<N: Router>(forwarder: Forwarder<N, Sums>) -> u64 {
     let (sink, _, _, _, _) = forwarder.into_parts();
     sink.sum()
 }
 
 // The sum of what left.
-fn sum_left<N: Router, R: Wait + Copy>(workers: Workers<N, R, Flows, Sums>) -> u64 {
+fn sum_left<N: Router>(workers: Workers<N, Flows, Sums>) -> u64 {
     let Workers {
-        rt: _,
         receiver,
         processor,
         slow_path,
@@ -109,10 +108,10 @@ fn sum_left<N: Router, R: Wait + Copy>(workers: Workers<N, R, Flows, Sums>) -> u
 }
 
 // The tenths, and the sum of what left.
-fn time_workers<N: Router, R: Abort + Wait + Clock + Copy>(
+fn time_workers<N: Router, R: Abort + Wait + Clock>(
     rt: &R,
     alloc: Global,
-    workers: Workers<N, R, Flows, Sums>,
+    workers: Workers<N, Flows, Sums>,
 ) -> (u128, u64) {
     let mut workers = workers;
     let spent = tenths(rt, alloc, &mut workers);
@@ -120,8 +119,8 @@ fn time_workers<N: Router, R: Abort + Wait + Clock + Copy>(
 }
 
 // The same of the workers of a router that has this name.
-fn time<N: Router, R: Abort + Wait + Clock + Copy>(
-    rt: R,
+fn time<N: Router, R: Abort + Wait + Clock>(
+    rt: &R,
     alloc: Global,
     blank: Blank,
     shared: Arc<Shared, Global>,
@@ -131,23 +130,23 @@ fn time<N: Router, R: Abort + Wait + Clock + Copy>(
     requires config { N.config ≡ Some (arc_value shared).config }
     requires small { (link_count (arc_value shared).config ≡ 4) × ((arc_value shared).config.processors ≡ 1) }
 {
-    let (_, shares) = Book::<N>::new(alloc, blank, 4).expect(&rt, "memory");
+    let (_, shares) = Book::<N>::new(alloc, blank, 4).expect(rt, "memory");
     let workers = start(rt, alloc, &shared, Flows::new(), Sums::new(), SIZES, shares);
-    time_workers(&rt, alloc, workers)
+    time_workers(rt, alloc, workers)
 }
 
 // The same of a router of four links and one processor.
-fn time_router<R: Abort + Wait + Clock + Copy>(rt: R, alloc: Global) -> (u128, u64) {
-    let config = router(alloc, Bands::One).expect(&rt, "memory");
-    let shared = Arc::new(alloc, Shared::new(config)).expect(&rt, "memory");
-    let blank = Blank::new(alloc).expect(&rt, "memory");
+fn time_router<R: Abort + Wait + Clock>(rt: &R, alloc: Global) -> (u128, u64) {
+    let config = router(alloc, Bands::One).expect(rt, "memory");
+    let shared = Arc::new(alloc, Shared::new(config)).expect(rt, "memory");
+    let blank = Blank::new(alloc).expect(rt, "memory");
     time::<Brand, R>(rt, alloc, blank, shared)
 }
 
 #[test]
 fn three_workers(rt: HostRuntime) -> io::Result<()> {
     if env::var(&rt, "BENCH").is_ok() {
-        let (spent, sum) = time_router(rt, rt.alloc());
+        let (spent, sum) = time_router(&rt, rt.alloc());
         println!(rt; "{spent} {sum}")?;
     }
     Ok(())

@@ -69,7 +69,7 @@ impl<N: Router> Drop for Entering<N> {
 
 impl<N: Router> Entering<N> {
     // The receiver over a source.
-    fn over<S: Source, R: Copy>(self, rt: R, source: S) -> Receiver<N, R, S>
+    fn over<S: Source>(self, source: S) -> Receiver<N, S>
         requires { ToldNothing (S.told source) }
         ensures { result ≡ first_receiving self.config self.link source self.free self.processors }
     {
@@ -82,9 +82,7 @@ impl<N: Router> Entering<N> {
             processors,
             share,
         } = self;
-        Receiver::new(
-            rt, shared, stop, link, source, first, free, processors, share,
-        )
+        Receiver::new(shared, stop, link, source, first, free, processors, share)
     }
 }
 
@@ -162,12 +160,11 @@ pub fn all_entering<N: Router>(
 }
 
 /// The receivers over their sources. It takes no memory.
-pub fn receivers_of<N: Router, S: Source, R: Copy>(
-    rt: R,
+pub fn receivers_of<N: Router, S: Source>(
     entering: Vec<Entering<N>>,
     sources: Vec<S>,
-    room: Vec<Receiver<N, R, S>>,
-) -> Vec<Receiver<N, R, S>>
+    room: Vec<Receiver<N, S>>,
+) -> Vec<Receiver<N, S>>
     requires count { length sources.items ≡ length entering.items }
     requires untold { Each (λ s. ToldNothing (S.told s)) sources.items }
     requires room { (room.items ≡ []) × (length entering.items ≤ vec_capacity room) }
@@ -179,7 +176,7 @@ pub fn receivers_of<N: Router, S: Source, R: Copy>(
     let mut receivers = room;
     for k in 0..count {
         let source = sources.next();
-        receivers.push_reserved(entering.next().over(rt, source));
+        receivers.push_reserved(entering.next().over(source));
     }
     entering.destroy_empty();
     sources.destroy_empty();

@@ -64,7 +64,7 @@ impl<N: Router> Drop for Leaving<N> {
 
 impl<N: Router> Leaving<N> {
     // The forwarder over a sink.
-    fn over<K: Sink, R: Copy>(self, rt: R, sink: K) -> Forwarder<N, R, K>
+    fn over<K: Sink>(self, sink: K) -> Forwarder<N, K>
         requires { ToldNothing (K.told sink) }
         ensures { result ≡ first_forwarding self.link self.low self.high (K.failed sink) (first_delivery self.config sink self.free) }
     {
@@ -76,7 +76,7 @@ impl<N: Router> Leaving<N> {
             free,
             share,
         } = self;
-        Forwarder::new(rt, shared, link, low, high, sink, free, share)
+        Forwarder::new(shared, link, low, high, sink, free, share)
     }
 }
 
@@ -139,12 +139,11 @@ pub fn all_leaving<N: Router>(
 }
 
 /// The forwarders over their sinks. It takes no memory.
-pub fn forwarders_of<N: Router, K: Sink, R: Copy>(
-    rt: R,
+pub fn forwarders_of<N: Router, K: Sink>(
     leaving: Vec<Leaving<N>>,
     sinks: Vec<K>,
-    room: Vec<Forwarder<N, R, K>>,
-) -> Vec<Forwarder<N, R, K>>
+    room: Vec<Forwarder<N, K>>,
+) -> Vec<Forwarder<N, K>>
     requires count { length sinks.items ≡ length leaving.items }
     requires untold { Each (λ k. ToldNothing (K.told k)) sinks.items }
     requires room { (room.items ≡ []) × (length leaving.items ≤ vec_capacity room) }
@@ -156,7 +155,7 @@ pub fn forwarders_of<N: Router, K: Sink, R: Copy>(
     let mut forwarders = room;
     for k in 0..count {
         let sink = sinks.next();
-        forwarders.push_reserved(leaving.next().over(rt, sink));
+        forwarders.push_reserved(leaving.next().over(sink));
     }
     leaving.destroy_empty();
     sinks.destroy_empty();

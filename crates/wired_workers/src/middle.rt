@@ -118,14 +118,13 @@ fn own_of<N: Router, G: Drop>(
 }
 
 // The processor over what it has of its own, and its ends of the pipes around it.
-fn processor_at<N: Router, G: Gate + Drop, R: Copy>(
-    rt: R,
+fn processor_at<N: Router, G: Gate + Drop>(
     own: Own<N, G>,
     index: u8,
     producers: usize,
     taker: Consumer<Packet<N>>,
     asking: Producer<SlowPathRequest<N>>,
-) -> Processor<N, R, G>
+) -> Processor<N, G>
     requires config { N.config ≡ Some (arc_value own.shared).config }
     requires taker { (taker.taken ≡ []) × (taker.producers ≡ producers) }
     requires asking { (asking.offers ≡ []) × (asking.refusals ≡ []) }
@@ -143,12 +142,11 @@ fn processor_at<N: Router, G: Gate + Drop, R: Copy>(
     let Ways { links, free, share } = ways;
     let from = Inlet::of(taker, producers);
     let slow = Outlet::of(asking, Some(event));
-    Processor::new(rt, shared, index, gate, from, links, slow, free, share)
+    Processor::new(shared, index, gate, from, links, slow, free, share)
 }
 
 // The processors, each with its consumer, its end of the slow path's pipe and its ways.
-fn processors_of<N: Router, G: Gate + Drop, R: Copy>(
-    rt: R,
+fn processors_of<N: Router, G: Gate + Drop>(
     alloc: Global,
     common: &Common,
     gate: &Arc<G, Global>,
@@ -156,7 +154,7 @@ fn processors_of<N: Router, G: Gate + Drop, R: Copy>(
     takers: Vec<Consumer<Packet<N>>>,
     asking: Vec<Producer<SlowPathRequest<N>>>,
     remaining: &mut Remaining<N>,
-) -> Result<Vec<Processor<N, R, G>>, AllocError>
+) -> Result<Vec<Processor<N, G>>, AllocError>
     requires config { N.config ≡ Some (arc_value common.now.shared).config }
     requires pipes { (length pipes.now.inner.items ≡ (arc_value common.now.shared).config.processors) × AreFor (link_count (arc_value common.now.shared).config) pipes.now.inner.items × (length pipes.now.outer.items ≡ 2 * link_count (arc_value common.now.shared).config) }
     requires takers { takers.items ≡ new_takers pipes.now.inner.items }
@@ -178,19 +176,18 @@ fn processors_of<N: Router, G: Gate + Drop, R: Copy>(
         let own = own_of(alloc, common, gate, remaining.next())?;
         let taker = takers.next();
         let slow = asking.next();
-        made.push_reserved(processor_at(rt, own, index as u8, producers, taker, slow));
+        made.push_reserved(processor_at(own, index as u8, producers, taker, slow));
     }
     let _ = pipes;
     Ok(made)
 }
 
 // The slow path over the configuration, its consumer and its ways.
-fn slow_path_of<N: Router, R: Copy>(
-    rt: R,
+fn slow_path_of<N: Router>(
     shared: Arc<Shared, Global>,
     taker: Consumer<SlowPathRequest<N>>,
     ways: Ways<N>,
-) -> SlowPath<N, R>
+) -> SlowPath<N>
     requires config { N.config ≡ Some (arc_value shared).config }
     requires taker { (taker.taken ≡ []) × (taker.producers ≡ (arc_value shared).config.processors) }
     requires ways { (length ways.links ≡ 2 * link_count (arc_value shared).config) × (length ways.free ≡ link_count (arc_value shared).config) }
@@ -201,17 +198,16 @@ fn slow_path_of<N: Router, R: Copy>(
     let processors = usize::from(shared.config.processors);
     let from = Inlet::of(taker, processors);
     let Ways { links, free, share } = ways;
-    SlowPath::new(rt, shared, from, links, free, share)
+    SlowPath::new(shared, from, links, free, share)
 }
 
 // The slow path, which feeds the links' pipes by a new bundle.
-fn slow_path_with<N: Router, R: Copy>(
-    rt: R,
+fn slow_path_with<N: Router>(
     alloc: Global,
     common: &Common,
     taker: Consumer<SlowPathRequest<N>>,
     portion: Portion<N>,
-) -> Result<SlowPath<N, R>, AllocError>
+) -> Result<SlowPath<N>, AllocError>
     requires config { N.config ≡ Some (arc_value common.now.shared).config }
     requires taker { (taker.taken ≡ []) × (taker.producers ≡ (arc_value common.now.shared).config.processors) }
     requires bundle { IsBundle portion.links.ends }
@@ -225,26 +221,25 @@ fn slow_path_with<N: Router, R: Copy>(
 {
     let ways = ways_of(alloc, portion, &common.events);
     let (ways, own) = both(ways, Arc::try_clone(&common.shared))?;
-    Ok(slow_path_of(rt, own, taker, ways))
+    Ok(slow_path_of(own, taker, ways))
 }
 
 /// The processors and the slow path.
 #[derive(Drop)]
-pub struct Deciding<N: Router, G: Gate, R> {
-    pub processors: Vec<Processor<N, R, G>>,
-    pub slow: SlowPath<N, R>,
+pub struct Deciding<N: Router, G: Gate> {
+    pub processors: Vec<Processor<N, G>>,
+    pub slow: SlowPath<N>,
 }
 
 /// All that decide and answer, each with its ends of the pipes around it, and with the next of what is left.
-pub fn deciding_of<N: Router, G: Gate + Drop, R: Copy>(
-    rt: R,
+pub fn deciding_of<N: Router, G: Gate + Drop>(
     alloc: Global,
     common: &Common,
     gate: G,
     pipes: &Pipes<N>,
     inputs: Inputs<N>,
     remaining: &mut Remaining<N>,
-) -> Result<Deciding<N, G, R>, AllocError>
+) -> Result<Deciding<N, G>, AllocError>
     requires config { N.config ≡ Some (arc_value common.now.shared).config }
     requires pipes { (length pipes.now.inner.items ≡ (arc_value common.now.shared).config.processors) × AreFor (link_count (arc_value common.now.shared).config) pipes.now.inner.items × (length pipes.now.outer.items ≡ 2 * link_count (arc_value common.now.shared).config) }
     requires packets { inputs.packets.items ≡ new_takers pipes.now.inner.items }
@@ -266,7 +261,7 @@ pub fn deciding_of<N: Router, G: Gate + Drop, R: Copy>(
         asking,
         asked,
     } = inputs;
-    let processors = processors_of(rt, alloc, common, &gate, pipes, packets, asking, remaining)?;
-    let slow = slow_path_with(rt, alloc, common, asked, remaining.next())?;
+    let processors = processors_of(alloc, common, &gate, pipes, packets, asking, remaining)?;
+    let slow = slow_path_with(alloc, common, asked, remaining.next())?;
     Ok(Deciding { processors, slow })
 }

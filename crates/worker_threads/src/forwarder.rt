@@ -6,7 +6,7 @@ use router_stages::{Forwarder, Turn};
 use stage_parts::{Router, Sink};
 use std::sync::Wait;
 
-impl<N: Router, R: Wait + Copy, K: Sink> Work<N> for Forwarder<N, R, K> {
+impl<N: Router, K: Sink> Work<N> for Forwarder<N, K> {
     ghost use Rattle.std.specs.Prelude.{◌≡◌, false};
     ghost use Rattle.packet_ledger.specs.Share.{HasRoom, IsDrained};
     ghost use Rattle.router_stages.specs.Forwarding.{Forwarded};
@@ -28,8 +28,8 @@ impl<N: Router, R: Wait + Copy, K: Sink> Work<N> for Forwarder<N, R, K> {
         self.has_room()
     }
 
-    fn make_turn(&mut self) -> Turn {
-        self.turn()
+    fn make_turn<R: Wait>(&mut self, rt: &R) -> Turn {
+        self.turn(rt)
     }
 
     fn awaits_push(&self) -> bool {
@@ -40,8 +40,8 @@ impl<N: Router, R: Wait + Copy, K: Sink> Work<N> for Forwarder<N, R, K> {
         false
     }
 
-    fn post(&mut self, book: &Book<N>) {
-        self.post(book)
+    fn post<R: Wait>(&mut self, rt: &R, book: &Book<N>) {
+        self.post(rt, book)
     }
 
     ghost same_self = { λ x. forwarder_self x };

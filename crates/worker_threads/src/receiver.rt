@@ -6,7 +6,7 @@ use router_stages::{Receiver, Turn};
 use stage_parts::{Router, Source};
 use std::sync::Wait;
 
-impl<N: Router, R: Wait + Copy, S: Source> Work<N> for Receiver<N, R, S> {
+impl<N: Router, S: Source> Work<N> for Receiver<N, S> {
     ghost use Rattle.std.specs.Prelude.{◌≡◌, false, MatchBool};
     ghost use Rattle.packet_ledger.specs.Share.{HasRoom, IsDrained};
     ghost use Rattle.router_stages.specs.Receiving.{Received};
@@ -28,8 +28,8 @@ impl<N: Router, R: Wait + Copy, S: Source> Work<N> for Receiver<N, R, S> {
         self.has_room()
     }
 
-    fn make_turn(&mut self) -> Turn {
-        self.turn()
+    fn make_turn<R: Wait>(&mut self, rt: &R) -> Turn {
+        self.turn(rt)
     }
 
     fn awaits_push(&self) -> bool {
@@ -40,8 +40,8 @@ impl<N: Router, R: Wait + Copy, S: Source> Work<N> for Receiver<N, R, S> {
         self.wait()
     }
 
-    fn post(&mut self, book: &Book<N>) {
-        self.post(book)
+    fn post<R: Wait>(&mut self, rt: &R, book: &Book<N>) {
+        self.post(rt, book)
     }
 
     ghost same_self = { λ x. receiver_self x };

@@ -95,32 +95,37 @@ impl Pace {
 }
 
 // Posts where it is time to.
-fn post_if<N: Ledger, W: Work<N>>(worker: &mut W, book: &Book<N>, due: bool)
+fn post_if<N: Ledger, W: Work<N>, R: Wait>(rt: &R, worker: &mut W, book: &Book<N>, due: bool)
     ensures same { W.same worker.old worker.new }
     ensures ended { W.has_ended worker.old → W.has_ended worker.new }
 {
     if due {
-        worker.post(book);
+        worker.post(rt, book);
     }
 }
 
 // One turn, where each count can still be raised, and what is posted for it.
-fn attempt<N: Ledger, W: Work<N>>(worker: &mut W, book: &Book<N>, pace: &mut Pace) -> Turn
+fn attempt<N: Ledger, W: Work<N>, R: Wait>(
+    rt: &R,
+    worker: &mut W,
+    book: &Book<N>,
+    pace: &mut Pace,
+) -> Turn
     ensures same { W.same worker.old worker.new }
     ensures ended { result ≡ Turn.Ended → W.has_ended worker.new × W.is_posted worker.new }
 {
     if !worker.has_room() {
-        worker.post(book);
+        worker.post(rt, book);
         return Turn::Quiet;
     }
-    match worker.make_turn() {
+    match worker.make_turn(rt) {
         Turn::Did => {
-            post_if(worker, book, pace.did());
+            post_if(rt, worker, book, pace.did());
             Turn::Did
         }
         Turn::Quiet => Turn::Quiet,
         Turn::Ended => {
-            worker.post(book);
+            worker.post(rt, book);
             Turn::Ended
         }
     }
@@ -140,7 +145,7 @@ fn sleep_on<N: Ledger, W: Work<N>, R: Wait>(
     ensures ended { result ≡ true → W.has_ended worker.new × W.is_posted worker.new }
 {
     let key = event.prepare_wait();
-    match attempt(worker, book, pace) {
+    match attempt(rt, worker, book, pace) {
         Turn::Did => false,
         Turn::Quiet => {
             if worker.awaits_push() {
@@ -187,7 +192,7 @@ fn advance<N: Ledger, W: Work<N>, R: Wait + Clock>(
     ensures same { W.same worker.old worker.new }
     ensures ended { result ≡ true → W.has_ended worker.new × W.is_posted worker.new }
 {
-    match attempt(worker, &orders.book, pace) {
+    match attempt(rt, worker, &orders.book, pace) {
         Turn::Did => {
             if orders.event.is_none() && pace.waits_at_once() {
                 let _ = worker.wait();

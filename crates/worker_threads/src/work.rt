@@ -5,6 +5,7 @@ ghost use Rattle.stage_parts.specs.declared.turn.Turn.{Turn};
 
 use packet_ledger::{Book, Ledger};
 use router_stages::Turn;
+use std::sync::Wait;
 
 /// A worker that makes turns to its end, and posts into the book `N`.
 pub trait Work<N: Ledger> {
@@ -32,7 +33,7 @@ pub trait Work<N: Ledger> {
     fn has_room(&self) -> bool
         ensures { MatchBool result (may_turn self.now) (may_turn self.now → ⊥) };
 
-    fn make_turn(&mut self) -> Turn
+    fn make_turn<R: Wait>(&mut self, rt: &R) -> Turn
         requires { may_turn self.old }
         ensures turned { turned result self.old self.new }
         ensures same { same self.old self.new }
@@ -48,7 +49,7 @@ pub trait Work<N: Ledger> {
         ensures waits { waits self.old result };
 
     /// Posts its counts, where the book has room.
-    fn post(&mut self, book: &Book<N>)
+    fn post<R: Wait>(&mut self, rt: &R, book: &Book<N>)
         ensures same { same self.old self.new }
         ensures ended { has_ended self.old → has_ended self.new }
         ensures posted { is_posted self.new };
