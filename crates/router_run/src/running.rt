@@ -55,7 +55,7 @@ where
     K: Sink,
     G: Gate + Drop,
 {
-    ghost use Rattle.std.specs.Prelude.{◌≡◌, ◌+◌, ◌*◌, map};
+    ghost use Rattle.std.specs.Prelude.{◌≡◌, ◌+◌, ◌*◌};
     ghost use Rattle.std.specs.Arc.{arc_value};
     ghost use Rattle.router_ends.specs.Rows.{HaveLeft};
     ghost use Rattle.router_rules.specs.Links.{link_count};

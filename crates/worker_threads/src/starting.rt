@@ -1,6 +1,6 @@
 //! Threads for all workers, or none.
 
-ghost use Rattle.std.specs.Prelude.{◌≡◌, ◌≤◌, [], IfOk, length, map, vec_capacity};
+ghost use Rattle.std.specs.Prelude.{◌≡◌, ◌≤◌, [], IfOk, length, vec_capacity};
 
 use crate::orders::Orders;
 use crate::thread::{Handle, ThreadFault, start_worker};

@@ -1,4 +1,4 @@
-use Rattle.std.proofs.Common.{◌≡◌, length, ap, arith}
+use Rattle.std.proofs.Common.{◌≡◌, length, arith}
 use Rattle.worker_threads.proofs.BackLemmas.{all_made, made_long, none_made, none_of, one_made, one_popped, one_to_make, turned_long}
 use Rattle.worker_threads.proofs.starting.start_each.Goals as goal
 
