@@ -6,9 +6,10 @@ ghost use Rattle.packet_ledger.specs.Amounts.{nothing, plus};
 ghost use Rattle.packet_ledger.specs.Tokens.{keeper};
 ghost use Rattle.packet_ledger.specs.Share.{IsPosted, counts_of, new_share, posted_by};
 
+use crate::router::Router;
 use crate::share::Share;
 use crate::sums::{Sums, split_shares};
-use crate::tokens::{Cell, Ledger, Token};
+use crate::tokens::{Cell, Token};
 use process_packet::Totals;
 use std::alloc::{AllocError, Global};
 use std::marker::Model;
@@ -44,30 +45,30 @@ impl Blank {
     }
 }
 
-/// The book of all that the shares of `L` posted.
-pub struct Book<L: Ledger> {
+/// The book of all that the shares of `N` posted.
+pub struct Book<N: Router> {
     cell: Cell,
-    sums: Mutex<Sums<L>>,
-    ghost named: { cell.table.shared.table_id ≡ L.table },
+    sums: Mutex<Sums<N>>,
+    ghost named: { cell.table.shared.table_id ≡ N.table },
 }
 
 // Not derived: a derived drop is proved again in each crate that drops one.
-impl<L: Ledger> Drop for Book<L> {
+impl<N: Router> Drop for Book<N> {
     fn drop(self) {
         let Book { cell: _, sums: _ } = self;
     }
 }
 
-impl<L: Ledger> Book<L> {
+impl<N: Router> Book<N> {
     /// A book with nothing posted, and its shares, one for each worker, with nothing counted: from 0 to
     /// 65,536.
     pub fn new(
         alloc: Global,
         blank: Blank,
         workers: usize,
-    ) -> Result<(Book<L>, Vec<Share<L>>), AllocError>
-        requires name { blank.table ≡ L.table }
-        requires workers { (workers ≡ L.workers) × (workers ≤ 65536) }
+    ) -> Result<(Book<N>, Vec<Share<N>>), AllocError>
+        requires name { blank.table ≡ N.table }
+        requires workers { (workers ≡ N.workers) × (workers ≤ 65536) }
         ensures count { IfOk result (λ r. length r.1.items ≡ workers) }
         ensures shares { IfOk result (λ r. All (λ s. s ≡ new_share) r.1.items) }
     {
@@ -79,7 +80,7 @@ impl<L: Ledger> Book<L> {
 
     /// Moves the share's counts into the book, which leaves them 0. Where a sum of the book would
     /// pass 2^126 neither changes.
-    pub fn post<R: Wait>(&self, rt: &R, share: &mut Share<L>)
+    pub fn post<R: Wait>(&self, rt: &R, share: &mut Share<N>)
         ensures { IsPosted share.old share.new }
     {
         self.sums.lock(rt).post(rt, &self.cell, share);
@@ -87,8 +88,8 @@ impl<L: Ledger> Book<L> {
 
     /// The totals of all that was ever counted on the shares, which are all of this book: what they
     /// posted, and what they still hold.
-    pub fn close<R: Wait>(&self, rt: &R, shares: Vec<Share<L>>) -> Totals
-        requires { length shares.items ≡ L.workers }
+    pub fn close<R: Wait>(&self, rt: &R, shares: Vec<Share<N>>) -> Totals
+        requires { length shares.items ≡ N.workers }
         ensures { result ≡ plus (posted_by shares.items) (counts_of shares.items) }
     {
         self.sums.lock(rt).close(rt, &self.cell, shares)

@@ -12,10 +12,11 @@
 
 mod amounts;
 mod book;
+mod router;
 mod share;
 mod sums;
 mod tokens;
 
 pub use book::{Blank, Book};
+pub use router::Router;
 pub use share::Share;
-pub use tokens::Ledger;

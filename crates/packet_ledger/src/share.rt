@@ -6,7 +6,8 @@ ghost use Rattle.packet_ledger.specs.Amounts.{nothing};
 ghost use Rattle.packet_ledger.specs.Share.{HasRoom, MayRaise, counting, forwarded, with_answered, with_fate, with_received, with_sent};
 
 use crate::amounts::at_most;
-use crate::tokens::{Ledger, Token};
+use crate::router::Router;
+use crate::tokens::Token;
 use process_packet::{Cause, Totals};
 use std::marker::{Model, PhantomData};
 
@@ -16,19 +17,19 @@ pub const ROOM: u128 = 1 << 100;
 /// How many more times each count is known to fit where nothing is counted.
 pub(crate) const ALL_LEFT: u64 = u64::MAX;
 
-/// One worker's counts, and the sums of all that it ever posted into the book `L`.
+/// One worker's counts, and the sums of all that it ever posted into the book `N`.
 #[derive(Drop)]
-pub struct Share<L: Ledger> {
+pub struct Share<N: Router> {
     pub(crate) counts: Totals,
     pub(crate) posted: Totals,
     // Each count can be raised by one at least this many times, so that most looks for room need not
     // read each count.
     pub(crate) left: u64,
     pub(crate) token: Token,
-    pub(crate) of: PhantomData<L>,
+    pub(crate) of: PhantomData<N>,
 }
 
-impl<L: Ledger> Model for Share<L> {
+impl<N: Router> Model for Share<N> {
     ghost use Rattle.std.specs.Prelude.{◌≡◌, ◌^◌, []};
     ghost use Rattle.crossbeam_utils.specs.Seq.{cell_view};
     ghost use Rattle.packet_ledger.specs.Amounts.{AtMost};
@@ -39,7 +40,7 @@ impl<L: Ledger> Model for Share<L> {
 
     ghost view = { λ s. record { counts = s.counts; posted = s.posted } };
 
-    ghost invariant = { λ s. (s.token.table_id ≡ L.table) × (s.token.me.1 ≡ []) × (cell_view s.token ≡ holder 1 s.posted) × AtMost (2 ^ 100) s.counts × AtMost (2 ^ 126) s.posted × Leaves s.left s.counts };
+    ghost invariant = { λ s. (s.token.table_id ≡ N.table) × (s.token.me.1 ≡ []) × (cell_view s.token ≡ holder 1 s.posted) × AtMost (2 ^ 100) s.counts × AtMost (2 ^ 126) s.posted × Leaves s.left s.counts };
 }
 
 // What is left after a count was raised by `n`.
@@ -53,7 +54,7 @@ fn left_after(left: u64, n: u128) -> u64
     }
 }
 
-impl<L: Ledger> Share<L> {
+impl<N: Router> Share<N> {
     /// Counts `n` more datagrams as received.
     pub fn received(&mut self, n: u128)
         requires { self.old.counts.received + n ≤ 2 ^ 100 }

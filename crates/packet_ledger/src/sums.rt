@@ -7,8 +7,9 @@ ghost use Rattle.packet_ledger.specs.Tokens.{gathered, keeper};
 ghost use Rattle.packet_ledger.specs.Share.{counts_of, emptied, new_share, posted_by};
 
 use crate::amounts::{MOST, added, at_most, none};
+use crate::router::Router;
 use crate::share::{ALL_LEFT, Share};
-use crate::tokens::{Cell, Ledger, Token, audit, give, take_in};
+use crate::tokens::{Cell, Token, audit, give, take_in};
 use process_packet::Totals;
 use std::alloc::{AllocError, Global};
 use std::marker::{Model, PhantomData};
@@ -16,13 +17,13 @@ use std::mem;
 use std::sync::Wait;
 
 /// The sums of all that was posted, with the token that says so. Contracts see the sums.
-pub struct Sums<L: Ledger> {
+pub struct Sums<N: Router> {
     totals: Totals,
     token: Token,
-    of: PhantomData<L>,
+    of: PhantomData<N>,
 }
 
-impl<L: Ledger> Model for Sums<L> {
+impl<N: Router> Model for Sums<N> {
     ghost use Rattle.std.specs.Prelude.{◌≡◌, ◌-◌, ◌^◌, ◌≤◌};
     ghost use Rattle.crossbeam_utils.specs.Seq.{cell_view};
     ghost use Rattle.process_packet.specs.declared.totals.Totals.{Totals};
@@ -33,11 +34,11 @@ impl<L: Ledger> Model for Sums<L> {
 
     ghost view = { λ s. s.totals };
 
-    ghost invariant = { λ s. (s.token.table_id ≡ L.table) × (cell_view s.token ≡ keeper (65537 - L.workers) nothing s.totals) × AtMost (2 ^ 126) s.totals × (L.workers ≤ 65536) };
+    ghost invariant = { λ s. (s.token.table_id ≡ N.table) × (cell_view s.token ≡ keeper (65537 - N.workers) nothing s.totals) × AtMost (2 ^ 126) s.totals × (N.workers ≤ 65536) };
 }
 
 // Not derived: a derived drop is proved again in each crate that drops one.
-impl<L: Ledger> Drop for Sums<L> {
+impl<N: Router> Drop for Sums<N> {
     fn drop(self) {
         let Sums {
             totals: _,
@@ -47,12 +48,12 @@ impl<L: Ledger> Drop for Sums<L> {
     }
 }
 
-impl<L: Ledger> Sums<L> {
+impl<N: Router> Sums<N> {
     /// With nothing posted, and the token that has all parts but those of the shares.
-    pub fn new(token: Token) -> Sums<L>
-        requires name { token.table_id ≡ L.table }
-        requires token { cell_view token ≡ keeper (65537 - L.workers) nothing nothing }
-        requires workers { L.workers ≤ 65536 }
+    pub fn new(token: Token) -> Sums<N>
+        requires name { token.table_id ≡ N.table }
+        requires token { cell_view token ≡ keeper (65537 - N.workers) nothing nothing }
+        requires workers { N.workers ≤ 65536 }
         ensures { result ≡ nothing }
     {
         Sums {
@@ -63,8 +64,8 @@ impl<L: Ledger> Sums<L> {
     }
 
     /// Moves the share's counts into the sums. Where a sum would pass 2^126 nothing moves.
-    pub fn post<R: Wait>(&mut self, rt: &R, cell: &Cell, share: &mut Share<L>) -> bool
-        requires { cell.now.table.shared.table_id ≡ L.table }
+    pub fn post<R: Wait>(&mut self, rt: &R, cell: &Cell, share: &mut Share<N>) -> bool
+        requires { cell.now.table.shared.table_id ≡ N.table }
         ensures sums { MatchBool result (self.new ≡ plus self.old share.old.counts) (self.new ≡ self.old) }
         ensures share { MatchBool result (share.new ≡ emptied share.old) (share.new ≡ share.old) }
         ensures room { MatchBool result (AtMost (2 ^ 126) (plus self.old share.old.counts)) (AtMost (2 ^ 126) (plus self.old share.old.counts) → ⊥) }
@@ -87,9 +88,9 @@ impl<L: Ledger> Sums<L> {
     }
 
     /// All that was ever counted on the shares, which are all of this book.
-    pub fn close<R: Wait>(&mut self, rt: &R, cell: &Cell, shares: Vec<Share<L>>) -> Totals
-        requires cell { cell.now.table.shared.table_id ≡ L.table }
-        requires shares { length shares.items ≡ L.workers }
+    pub fn close<R: Wait>(&mut self, rt: &R, cell: &Cell, shares: Vec<Share<N>>) -> Totals
+        requires cell { cell.now.table.shared.table_id ≡ N.table }
+        requires shares { length shares.items ≡ N.workers }
         ensures totals { result ≡ plus (posted_by shares.items) (counts_of shares.items) }
         ensures sums { self.new ≡ self.old }
     {
@@ -103,19 +104,19 @@ impl<L: Ledger> Sums<L> {
 }
 
 /// The shares of a new book.
-pub fn split_shares<L: Ledger>(
+pub fn split_shares<N: Router>(
     alloc: Global,
     cell: &Cell,
     token: &mut Token,
     workers: usize,
-) -> Result<Vec<Share<L>>, AllocError>
-    requires cell { cell.now.table.shared.table_id ≡ L.table }
-    requires own { token.old.table_id ≡ L.table }
+) -> Result<Vec<Share<N>>, AllocError>
+    requires cell { cell.now.table.shared.table_id ≡ N.table }
+    requires own { token.old.table_id ≡ N.table }
     requires token { cell_view token.old ≡ keeper 65537 nothing nothing }
     requires workers { workers ≤ 65536 }
     ensures count { IfOk result (λ v. length v.items ≡ workers) }
     ensures shares { IfOk result (λ v. All (λ s. s ≡ new_share) v.items) }
-    ensures own { token.new.table_id ≡ L.table }
+    ensures own { token.new.table_id ≡ N.table }
     ensures token { IfOk result (λ _. cell_view token.new ≡ keeper (65537 - workers) nothing nothing) }
 {
     let mut shares = Vec::with_capacity(alloc, workers)?;
@@ -127,12 +128,12 @@ pub fn split_shares<L: Ledger>(
 }
 
 // A new share, cut off the token of a book with nothing posted.
-fn split_share<L: Ledger>(cell: &Cell, token: &mut Token) -> Share<L>
-    requires cell { cell.now.table.shared.table_id ≡ L.table }
-    requires own { token.old.table_id ≡ L.table }
+fn split_share<N: Router>(cell: &Cell, token: &mut Token) -> Share<N>
+    requires cell { cell.now.table.shared.table_id ≡ N.table }
+    requires own { token.old.table_id ≡ N.table }
     requires token { let v = cell_view token.old in (v ≡ keeper v.parts nothing nothing) × (0 < v.parts) }
     ensures share { result ≡ new_share }
-    ensures own { token.new.table_id ≡ L.table }
+    ensures own { token.new.table_id ≡ N.table }
     ensures token { cell_view token.new ≡ keeper ((cell_view token.old).parts - 1) nothing nothing }
 {
     let counts = none();
@@ -146,12 +147,12 @@ fn split_share<L: Ledger>(cell: &Cell, token: &mut Token) -> Share<L>
 }
 
 // Takes the tokens of the shares in, and adds up what they still hold.
-fn take_all<L: Ledger>(cell: &Cell, token: &mut Token, shares: Vec<Share<L>>) -> Totals
-    requires cell { cell.now.table.shared.table_id ≡ L.table }
-    requires own { token.old.table_id ≡ L.table }
+fn take_all<N: Router>(cell: &Cell, token: &mut Token, shares: Vec<Share<N>>) -> Totals
+    requires cell { cell.now.table.shared.table_id ≡ N.table }
+    requires own { token.old.table_id ≡ N.table }
     requires fresh { (cell_view token.old).posted ≡ nothing }
     requires few { length shares.items ≤ 65536 }
-    ensures own { token.new.table_id ≡ L.table }
+    ensures own { token.new.table_id ≡ N.table }
     ensures token { cell_view token.new ≡ gathered (length shares.items) (posted_by shares.items) (cell_view token.old) }
     ensures counts { result ≡ counts_of shares.items }
     ensures few { AtMost (2 ^ 117) result }
@@ -164,11 +165,11 @@ fn take_all<L: Ledger>(cell: &Cell, token: &mut Token, shares: Vec<Share<L>>) ->
 }
 
 // Takes the token of one share in, and adds up what it still holds.
-fn add_share<L: Ledger>(cell: &Cell, token: &mut Token, share: Share<L>, counts: &Totals) -> Totals
-    requires cell { cell.now.table.shared.table_id ≡ L.table }
-    requires own { token.old.table_id ≡ L.table }
+fn add_share<N: Router>(cell: &Cell, token: &mut Token, share: Share<N>, counts: &Totals) -> Totals
+    requires cell { cell.now.table.shared.table_id ≡ N.table }
+    requires own { token.old.table_id ≡ N.table }
     requires few { AtMost (2 ^ 117) counts.now }
-    ensures own { token.new.table_id ≡ L.table }
+    ensures own { token.new.table_id ≡ N.table }
     ensures token { let v = cell_view token.old in cell_view token.new ≡ gathered 1 (plus v.posted share.posted) v }
     ensures counts { result ≡ plus counts.now share.counts }
     ensures few { AtMost (2 ^ 100) share.counts }

@@ -12,24 +12,6 @@ use process_packet::Totals;
 use std::marker::{Brand, PhantomData};
 use std::sync::Wait;
 
-/// Names a book, and says how many shares it has.
-pub trait Ledger {
-    ghost use Rattle.std.specs.Prelude.{ℕ};
-    ghost use Rattle.atomic_table.specs.Seated.{TableId};
-
-    ghost table: { TableId };
-
-    ghost workers: { ℕ };
-}
-
-impl Ledger for Brand {
-    ghost use Rattle.packet_ledger.specs.Tokens.{no_table};
-
-    ghost table = { no_table };
-
-    ghost workers = { 0 };
-}
-
 /// What a token knows: a share's what it posted, the book's what the sums are. The parts are those of
 /// the right to know that no share is missing. No value of it is made.
 pub struct View {

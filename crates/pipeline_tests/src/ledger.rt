@@ -1,6 +1,6 @@
 ghost use Rattle.std.specs.Prelude.{◌≡◌, ◌*◌, ◌≤◌};
 
-use packet_ledger::{Blank, Book, Ledger, Share};
+use packet_ledger::{Blank, Book, Router, Share};
 use process_packet::{Cause, Totals};
 use std::alloc::Global;
 use std::marker::Brand;
@@ -19,11 +19,11 @@ const NOTHING: Totals = Totals {
 
 // One share counts three as received and is posted, the other two drops and is not. What the first
 // counts after its post, and the totals.
-fn two_shares<L: Ledger, R: Abort + Wait>(rt: &R, alloc: Global, blank: Blank) -> (Totals, Totals)
-    requires name { blank.table ≡ L.table }
-    requires two { L.workers ≡ 2 }
+fn two_shares<N: Router, R: Abort + Wait>(rt: &R, alloc: Global, blank: Blank) -> (Totals, Totals)
+    requires name { blank.table ≡ N.table }
+    requires two { N.workers ≡ 2 }
 {
-    let (book, mut shares) = Book::<L>::new(alloc, blank, 2).expect(rt, "memory");
+    let (book, mut shares) = Book::<N>::new(alloc, blank, 2).expect(rt, "memory");
     let mut first = shares.pop().expect(rt, "share");
     let mut second = shares.pop().expect(rt, "share");
     receive(&mut first, 3);
@@ -37,7 +37,7 @@ fn two_shares<L: Ledger, R: Abort + Wait>(rt: &R, alloc: Global, blank: Blank) -
 }
 
 // Counts a number of datagrams as received, where there is room.
-fn receive<L: Ledger>(share: &mut Share<L>, n: u32) {
+fn receive<N: Router>(share: &mut Share<N>, n: u32) {
     for _ in 0..n {
         if share.has_room() {
             share.received(1);
@@ -45,7 +45,7 @@ fn receive<L: Ledger>(share: &mut Share<L>, n: u32) {
     }
 }
 
-fn drop_one<L: Ledger>(share: &mut Share<L>, cause: Cause) {
+fn drop_one<N: Router>(share: &mut Share<N>, cause: Cause) {
     if share.has_room() {
         share.fate(cause);
     }
@@ -63,7 +63,7 @@ fn two_shares_closed(rt: HostRuntime) {
 }
 
 // Counts one of five kinds, where there is room.
-fn count_one<L: Ledger>(share: &mut Share<L>, kind: u32) {
+fn count_one<N: Router>(share: &mut Share<N>, kind: u32) {
     if !share.has_room() {
         return;
     }
@@ -77,7 +77,7 @@ fn count_one<L: Ledger>(share: &mut Share<L>, kind: u32) {
 }
 
 // A share counts in turn, and is posted now and then.
-fn work<L: Ledger, R: Wait>(rt: &R, book: &Book<L>, mut share: Share<L>, rounds: u32) -> Share<L> {
+fn work<N: Router, R: Wait>(rt: &R, book: &Book<N>, mut share: Share<N>, rounds: u32) -> Share<N> {
     for i in 0..rounds {
         count_one(&mut share, i % 5);
         if i % 64 == 0 {
@@ -88,14 +88,14 @@ fn work<L: Ledger, R: Wait>(rt: &R, book: &Book<L>, mut share: Share<L>, rounds:
 }
 
 // What two threads count and post beside each other: the totals, and what the shares say they forwarded.
-fn two_threads<L, R>(rt: R, alloc: Global, blank: Blank) -> (Totals, u128, u128)
+fn two_threads<N, R>(rt: R, alloc: Global, blank: Blank) -> (Totals, u128, u128)
 where
-    L: Ledger + Send + Sync + 'static,
+    N: Router + Send + Sync + 'static,
     R: Abort + Threads + Wait + Copy + Send + 'static,
-    requires name { blank.table ≡ L.table }
-    requires two { L.workers ≡ 2 }
+    requires name { blank.table ≡ N.table }
+    requires two { N.workers ≡ 2 }
 {
-    let (book, mut shares) = Book::<L>::new(alloc, blank, 2).expect(&rt, "memory");
+    let (book, mut shares) = Book::<N>::new(alloc, blank, 2).expect(&rt, "memory");
     let first = shares.pop().expect(&rt, "share");
     let second = shares.pop().expect(&rt, "share");
     let book = Arc::new(alloc, book).expect(&rt, "memory");
@@ -124,11 +124,11 @@ fn two_threads_closed(rt: HostRuntime) {
 }
 
 // A posted share says what it posted, and goes on from nothing.
-fn post_twice<L: Ledger, R: Abort + Wait>(rt: &R, alloc: Global, blank: Blank) -> (Totals, Totals)
-    requires name { blank.table ≡ L.table }
-    requires one { L.workers ≡ 1 }
+fn post_twice<N: Router, R: Abort + Wait>(rt: &R, alloc: Global, blank: Blank) -> (Totals, Totals)
+    requires name { blank.table ≡ N.table }
+    requires one { N.workers ≡ 1 }
 {
-    let (book, mut shares) = Book::<L>::new(alloc, blank, 1).expect(rt, "memory");
+    let (book, mut shares) = Book::<N>::new(alloc, blank, 1).expect(rt, "memory");
     let mut share = shares.pop().expect(rt, "share");
     receive(&mut share, 5);
     book.post(rt, &mut share);
@@ -149,11 +149,11 @@ fn posted_twice(rt: HostRuntime) {
 }
 
 // The totals of a book with no share.
-fn no_share<L: Ledger, R: Abort + Wait>(rt: &R, alloc: Global, blank: Blank) -> Totals
-    requires name { blank.table ≡ L.table }
-    requires none { L.workers ≡ 0 }
+fn no_share<N: Router, R: Abort + Wait>(rt: &R, alloc: Global, blank: Blank) -> Totals
+    requires name { blank.table ≡ N.table }
+    requires none { N.workers ≡ 0 }
 {
-    let (book, shares) = Book::<L>::new(alloc, blank, 0).expect(rt, "memory");
+    let (book, shares) = Book::<N>::new(alloc, blank, 0).expect(rt, "memory");
     book.close(rt, shares)
 }
 

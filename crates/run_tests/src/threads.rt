@@ -3,7 +3,7 @@
 ghost use Rattle.std.specs.Prelude.{◌≡◌, ◌≤◌, [], false, length, vec_capacity};
 
 use crossbeam_utils::sync::EventCount;
-use packet_ledger::{Blank, Book, Ledger, Share};
+use packet_ledger::{Blank, Book, Router, Share};
 use router_stages::Turn;
 use ruled_pipe::Load;
 use sample_stages::{ends_of, next_producer};
@@ -22,13 +22,13 @@ use worker_threads::{
 
 // It counts a number of datagrams as received, one in a turn, is quiet for a number of turns, and has ended.
 #[derive(Drop)]
-struct Countdown<L: Ledger> {
+struct Countdown<N: Router> {
     left: u64,
     quiet: u64,
-    share: Share<L>,
+    share: Share<N>,
 }
 
-impl<L: Ledger> Work<L> for Countdown<L> {
+impl<N: Router> Work<N> for Countdown<N> {
     ghost use Rattle.std.specs.Prelude.{◌≡◌};
     ghost use Rattle.packet_ledger.specs.Share.{HasRoom};
 
@@ -70,7 +70,7 @@ impl<L: Ledger> Work<L> for Countdown<L> {
         false
     }
 
-    fn post<R: Wait>(&mut self, rt: &R, book: &Book<L>) {
+    fn post<R: Wait>(&mut self, rt: &R, book: &Book<N>) {
         book.post(rt, &mut self.share);
     }
 
@@ -80,12 +80,12 @@ impl<L: Ledger> Work<L> for Countdown<L> {
 }
 
 // Workers and their orders, with room for the handles of their threads.
-fn team_of<L: Ledger, W: Work<L> + Drop, R: Abort>(
+fn team_of<N: Router, W: Work<N> + Drop, R: Abort>(
     rt: &R,
     alloc: Global,
     workers: Vec<W>,
-    orders: Vec<Orders<L>>,
-) -> Team<L, W>
+    orders: Vec<Orders<N>>,
+) -> Team<N, W>
     ensures { (result.room.items ≡ []) × (length result.workers.items ≤ vec_capacity result.room) }
 {
     let room = Vec::with_capacity(alloc, workers.len()).expect(rt, "memory");
@@ -97,12 +97,12 @@ fn team_of<L: Ledger, W: Work<L> + Drop, R: Abort>(
 }
 
 // A number of workers, with shares taken off a list.
-fn countdowns<L: Ledger, R: Abort>(
+fn countdowns<N: Router, R: Abort>(
     rt: &R,
     alloc: Global,
-    shares: &mut Vec<Share<L>>,
+    shares: &mut Vec<Share<N>>,
     count: usize,
-) -> Vec<Countdown<L>> {
+) -> Vec<Countdown<N>> {
     let mut workers = Vec::new(alloc);
     for _ in 0..count {
         let worker = Countdown {
@@ -116,12 +116,12 @@ fn countdowns<L: Ledger, R: Abort>(
 }
 
 // The same orders for a number of threads.
-fn copies<L: Ledger, R: Abort>(
+fn copies<N: Router, R: Abort>(
     rt: &R,
     alloc: Global,
-    orders: &Orders<L>,
+    orders: &Orders<N>,
     count: usize,
-) -> Vec<Orders<L>> {
+) -> Vec<Orders<N>> {
     let mut copies = Vec::new(alloc);
     for _ in 0..count {
         let copy = orders.another().expect(rt, "memory");
@@ -133,13 +133,13 @@ fn copies<L: Ledger, R: Abort>(
 // How many workers a team has, and orders for how many threads.
 type Size = (usize, usize);
 
-fn team<L: Ledger, R: Abort>(
+fn team<N: Router, R: Abort>(
     rt: &R,
     alloc: Global,
-    orders: &Orders<L>,
-    shares: &mut Vec<Share<L>>,
+    orders: &Orders<N>,
+    shares: &mut Vec<Share<N>>,
     size: Size,
-) -> Team<L, Countdown<L>>
+) -> Team<N, Countdown<N>>
     ensures { (result.room.items ≡ []) × (length result.workers.items ≤ vec_capacity result.room) }
 {
     let workers = countdowns(rt, alloc, shares, size.0);
@@ -147,14 +147,14 @@ fn team<L: Ledger, R: Abort>(
 }
 
 // Whether a worker came to its end and posted all that it counted.
-fn is_over<L: Ledger>(worker: &Countdown<L>) -> bool {
+fn is_over<N: Router>(worker: &Countdown<N>) -> bool {
     worker.left == 0 && worker.quiet == 0 && worker.share.posted().received == 3000
 }
 
 // How many workers came back, each over.
-fn joined<L, R>(rt: &R, started: Started<L, Countdown<L>>) -> usize
+fn joined<N, R>(rt: &R, started: Started<N, Countdown<N>>) -> usize
 where
-    L: Ledger,
+    N: Router,
     R: Threads + Wait + Clock,
 {
     let back = join_all(rt, started);
@@ -167,37 +167,37 @@ where
 }
 
 // Orders for the threads of workers that count, and the workers' shares.
-fn orders_for<L: Ledger, R: Abort>(
+fn orders_for<N: Router, R: Abort>(
     rt: &R,
     alloc: Global,
     blank: Blank,
     workers: usize,
-) -> (Orders<L>, Vec<Share<L>>)
-    requires name { blank.table ≡ L.table }
-    requires workers { (workers ≡ L.workers) × (workers ≤ 65536) }
+) -> (Orders<N>, Vec<Share<N>>)
+    requires name { blank.table ≡ N.table }
+    requires workers { (workers ≡ N.workers) × (workers ≤ 65536) }
 {
-    let (book, shares) = Book::<L>::new(alloc, blank, workers).expect(rt, "memory");
+    let (book, shares) = Book::<N>::new(alloc, blank, workers).expect(rt, "memory");
     let word = Arc::new(alloc, AtomicU64::new(HOLD)).expect(rt, "memory");
     let book = Arc::new(alloc, book).expect(rt, "memory");
     (Orders::new(word, book), shares)
 }
 
-type Countdowns<L> = Both<L, Countdown<L>, Countdown<L>>;
+type Countdowns<N> = Both<N, Countdown<N>, Countdown<N>>;
 
 // Four teams of these sizes, in threads.
-fn started<L, R>(
+fn started<N, R>(
     rt: R,
     alloc: Global,
     blank: Blank,
     sizes: [Size; 4],
-) -> Result<(Countdowns<L>, Countdowns<L>), ThreadFault>
+) -> Result<(Countdowns<N>, Countdowns<N>), ThreadFault>
 where
-    L: Ledger + Send + Sync + 'static,
+    N: Router + Send + Sync + 'static,
     R: Abort + Threads + Wait + Clock + Copy + Send + 'static,
-    requires name { blank.table ≡ L.table }
-    requires six { L.workers ≡ 6 }
+    requires name { blank.table ≡ N.table }
+    requires six { N.workers ≡ 6 }
 {
-    let (orders, mut shares) = orders_for::<L, R>(&rt, alloc, blank, 6);
+    let (orders, mut shares) = orders_for::<N, R>(&rt, alloc, blank, 6);
     let [one, two, three, four] = sizes;
     let one = team(&rt, alloc, &orders, &mut shares, one);
     let two = team(&rt, alloc, &orders, &mut shares, two);
@@ -207,9 +207,9 @@ where
 }
 
 // How many came back of each of two teams.
-fn both_joined<L, R>(rt: &R, both: Countdowns<L>) -> (usize, usize)
+fn both_joined<N, R>(rt: &R, both: Countdowns<N>) -> (usize, usize)
 where
-    L: Ledger,
+    N: Router,
     R: Threads + Wait + Clock,
 {
     let Both { first, second } = both;
@@ -218,14 +218,14 @@ where
 }
 
 // How many came back of each of four teams; none where a thread was refused.
-fn four_teams<L, R>(rt: R, alloc: Global, blank: Blank, sizes: [Size; 4]) -> Option<[usize; 4]>
+fn four_teams<N, R>(rt: R, alloc: Global, blank: Blank, sizes: [Size; 4]) -> Option<[usize; 4]>
 where
-    L: Ledger + Send + Sync + 'static,
+    N: Router + Send + Sync + 'static,
     R: Abort + Threads + Wait + Clock + Copy + Send + 'static,
-    requires name { blank.table ≡ L.table }
-    requires six { L.workers ≡ 6 }
+    requires name { blank.table ≡ N.table }
+    requires six { N.workers ≡ 6 }
 {
-    match started::<L, R>(rt, alloc, blank, sizes) {
+    match started::<N, R>(rt, alloc, blank, sizes) {
         Ok((front, back)) => {
             let (one, two) = both_joined(&rt, front);
             let (three, four) = both_joined(&rt, back);
@@ -279,7 +279,7 @@ impl Feeder {
     }
 }
 
-impl<L: Ledger> Work<L> for Feeder {
+impl<N: Router> Work<N> for Feeder {
     ghost same = { λ a b. Unit {0} };
 
     ghost may_turn = { λ a. Unit {0} };
@@ -312,7 +312,7 @@ impl<L: Ledger> Work<L> for Feeder {
         false
     }
 
-    fn post<R: Wait>(&mut self, rt: &R, book: &Book<L>) {
+    fn post<R: Wait>(&mut self, rt: &R, book: &Book<N>) {
         let _ = rt;
         let _ = book;
     }
@@ -329,7 +329,7 @@ struct Drain {
     sum: u64,
 }
 
-impl<L: Ledger> Work<L> for Drain {
+impl<N: Router> Work<N> for Drain {
     ghost same = { λ a b. Unit {0} };
 
     ghost may_turn = { λ a. Unit {0} };
@@ -368,7 +368,7 @@ impl<L: Ledger> Work<L> for Drain {
         false
     }
 
-    fn post<R: Wait>(&mut self, rt: &R, book: &Book<L>) {
+    fn post<R: Wait>(&mut self, rt: &R, book: &Book<N>) {
         let _ = rt;
         let _ = book;
     }
@@ -379,12 +379,12 @@ impl<L: Ledger> Work<L> for Drain {
 }
 
 // One worker, and room for its handle.
-fn alone<L: Ledger, W: Work<L> + Drop, R: Abort>(
+fn alone<N: Router, W: Work<N> + Drop, R: Abort>(
     rt: &R,
     alloc: Global,
     worker: W,
-    orders: Orders<L>,
-) -> Team<L, W>
+    orders: Orders<N>,
+) -> Team<N, W>
     ensures { (result.room.items ≡ []) × (length result.workers.items ≤ vec_capacity result.room) }
 {
     let mut workers = Vec::new(alloc);
@@ -412,9 +412,9 @@ fn at_both_ends<R: Abort>(rt: &R, alloc: Global, event: Event) -> (Feeder, Drain
 }
 
 // Both workers in threads. The second one sleeps until the first one's event.
-fn feeding<L, R>(rt: R, alloc: Global, orders: &Orders<L>) -> Both<L, Feeder, Drain>
+fn feeding<N, R>(rt: R, alloc: Global, orders: &Orders<N>) -> Both<N, Feeder, Drain>
 where
-    L: Ledger + Send + Sync + 'static,
+    N: Router + Send + Sync + 'static,
     R: Abort + Threads + Wait + Clock + Copy + Send + 'static,
 {
     let event = Arc::new(alloc, EventCount::new()).expect(&rt, "memory");
@@ -428,9 +428,9 @@ where
 }
 
 // Joins both: what the second one took, in sum.
-fn taken_by<L, R>(rt: &R, both: Both<L, Feeder, Drain>) -> u64
+fn taken_by<N, R>(rt: &R, both: Both<N, Feeder, Drain>) -> u64
 where
-    L: Ledger,
+    N: Router,
     R: Abort + Threads + Wait + Clock,
 {
     let Both { first, second } = both;
@@ -440,14 +440,14 @@ where
 }
 
 // What a worker that sleeps takes of a pipe into which another pushes now and then: the sum.
-fn fed<L, R>(rt: R, alloc: Global, blank: Blank) -> u64
+fn fed<N, R>(rt: R, alloc: Global, blank: Blank) -> u64
 where
-    L: Ledger + Send + Sync + 'static,
+    N: Router + Send + Sync + 'static,
     R: Abort + Threads + Wait + Clock + Copy + Send + 'static,
-    requires name { blank.table ≡ L.table }
-    requires none { L.workers ≡ 0 }
+    requires name { blank.table ≡ N.table }
+    requires none { N.workers ≡ 0 }
 {
-    let (orders, _) = orders_for::<L, R>(&rt, alloc, blank, 0);
+    let (orders, _) = orders_for::<N, R>(&rt, alloc, blank, 0);
     let both = feeding(rt, alloc, &orders);
     orders.run();
     taken_by(&rt, both)

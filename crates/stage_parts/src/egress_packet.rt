@@ -6,7 +6,7 @@ ghost use Rattle.stage_parts.specs.Items.{StandsIn};
 ghost use Rattle.stage_parts.specs.Told.{named};
 
 use crate::buffer::{Buffer, Storage};
-use crate::router::Router;
+use packet_ledger::Router;
 use router_rules::{Outgoing, is_urgent};
 use std::marker::{Model, PhantomData};
 

@@ -13,7 +13,7 @@ use crate::buffer::{Buffer, Storage};
 use crate::egress_packet::EgressPacket;
 use crate::read_buffer::ReadBuffer;
 use crate::request::SlowPathRequest;
-use crate::router::Router;
+use packet_ledger::Router;
 use process_packet::{Config, Decision, Problem, Underlay, answers_are_sound, route_in_place};
 use std::marker::{Model, PhantomData};
 

@@ -11,7 +11,7 @@ ghost use Rattle.stage_parts.specs.Replying.{reply_of};
 use crate::buffer::Buffer;
 use crate::egress_packet::EgressPacket;
 use crate::packet::Packet;
-use crate::router::Router;
+use packet_ledger::Router;
 use process_packet::{Cause, Config, Problem, Underlay};
 use router_rules::Shared;
 use scmp_answer::{AnswerLen, LONGEST_ANSWER, answer_into};

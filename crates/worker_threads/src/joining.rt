@@ -5,7 +5,7 @@ ghost use Rattle.worker_threads.specs.Back.{AreBack};
 use crate::starting::Started;
 use crate::thread::Handle;
 use crate::work::Work;
-use packet_ledger::Ledger;
+use packet_ledger::Router;
 use std::sync::Wait;
 use std::thread;
 use std::thread::Threads;
@@ -14,7 +14,7 @@ use std::time::{Clock, Duration};
 // Joins a worker that was told to run. One that gave up never comes.
 fn join_worker<N, W, R>(rt: &R, handle: Handle<N, W>) -> W
 where
-    N: Ledger,
+    N: Router,
     W: Work<N>,
     R: Threads + Wait + Clock,
     ensures { W.same handle.promise.0.value result × W.has_ended result }
@@ -32,7 +32,7 @@ where
 /// Each has ended, and is the same as when its thread was made.
 pub fn join_all<N, W, R>(rt: &R, started: Started<N, W>) -> Vec<W>
 where
-    N: Ledger,
+    N: Router,
     W: Work<N>,
     R: Threads + Wait + Clock,
     ensures { AreBack (λ a b. W.same a b × W.has_ended b) started result.items }

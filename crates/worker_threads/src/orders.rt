@@ -3,7 +3,7 @@
 ghost use Rattle.std.specs.Prelude.{◌≡◌, IfOk, false, is_some, true};
 ghost use Rattle.std.specs.Arc.{arc_value};
 
-use packet_ledger::{Book, Ledger};
+use packet_ledger::{Book, Router};
 use router_stages::STOP;
 use stage_parts::Event;
 use std::alloc::{AllocError, Global};
@@ -20,14 +20,14 @@ pub const GIVE_UP: u64 = 3;
 
 /// The word that tells the threads what to do, which the receivers also read, the book into which
 /// workers post, and for a thread the event that is notified of pushes into its worker's pipes.
-pub struct Orders<N: Ledger> {
+pub struct Orders<N: Router> {
     pub word: Arc<AtomicU64, Global>,
     pub book: Arc<Book<N>, Global>,
     pub event: Option<Event>,
 }
 
 // Not derived: a derived drop is proved again in each crate that drops one.
-impl<N: Ledger> Drop for Orders<N> {
+impl<N: Router> Drop for Orders<N> {
     fn drop(self) {
         let Orders {
             word: _,
@@ -37,7 +37,7 @@ impl<N: Ledger> Drop for Orders<N> {
     }
 }
 
-impl<N: Ledger> Orders<N> {
+impl<N: Router> Orders<N> {
     /// Orders by a word that says `HOLD`.
     pub fn new(word: Arc<AtomicU64, Global>, book: Arc<Book<N>, Global>) -> Orders<N>
         ensures given { (result.word ≡ word) × (result.book ≡ book) }

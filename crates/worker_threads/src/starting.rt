@@ -5,7 +5,7 @@ ghost use Rattle.std.specs.Prelude.{◌≡◌, ◌≤◌, [], IfOk, length, vec_
 use crate::orders::Orders;
 use crate::thread::{Handle, ThreadFault, start_worker};
 use crate::work::Work;
-use packet_ledger::Ledger;
+use packet_ledger::Router;
 use std::marker::Model;
 use std::sync::Wait;
 use std::thread::Threads;
@@ -13,7 +13,7 @@ use std::time::Clock;
 
 /// Workers of one kind, orders for the thread of each, in order, and room for the threads' handles.
 #[derive(Drop)]
-pub struct Team<N: Ledger, W: Work<N>> {
+pub struct Team<N: Router, W: Work<N>> {
     pub workers: Vec<W>,
     pub orders: Vec<Orders<N>>,
     pub room: Vec<Handle<N, W>>,
@@ -22,12 +22,12 @@ pub struct Team<N: Ledger, W: Work<N>> {
 /// Workers of one kind in threads of their own, and their list, which is empty now: the room that they come
 /// back into. Contracts see the workers as they were when their threads were made.
 #[derive(Drop)]
-pub struct Started<N: Ledger, W: Work<N>> {
+pub struct Started<N: Router, W: Work<N>> {
     pub(crate) handles: Vec<Handle<N, W>>,
     pub(crate) room: Vec<W>,
 }
 
-impl<N: Ledger, W: Work<N>> Model for Started<N, W> {
+impl<N: Router, W: Work<N>> Model for Started<N, W> {
     ghost use Rattle.std.specs.Prelude.{◌≡◌, ◌≤◌, List, [], length, map, vec_capacity};
 
     ghost Value = { List W };
@@ -40,7 +40,7 @@ impl<N: Ledger, W: Work<N>> Model for Started<N, W> {
 // At `Err` one thread was refused, and those that were made are given.
 fn start_each<N, W, R>(rt: R, team: Team<N, W>) -> Result<Started<N, W>, Vec<Handle<N, W>>>
 where
-    N: Ledger + Send + Sync + 'static,
+    N: Router + Send + Sync + 'static,
     W: Work<N> + Send + Drop + 'static,
     R: Threads + Wait + Clock + Copy + Send + 'static,
     requires room { (team.room.items ≡ []) × (length team.workers.items ≤ vec_capacity team.room) }
@@ -75,7 +75,7 @@ where
 // Tells the threads to give up, and joins them.
 fn give_up<N, W, R>(rt: &R, orders: &Orders<N>, handles: Vec<Handle<N, W>>)
 where
-    N: Ledger,
+    N: Router,
     W: Work<N> + Drop,
     R: Threads + Wait,
 {
@@ -94,7 +94,7 @@ pub fn start_all<N, W, R>(
     team: Team<N, W>,
 ) -> Result<Started<N, W>, ThreadFault>
 where
-    N: Ledger + Send + Sync + 'static,
+    N: Router + Send + Sync + 'static,
     W: Work<N> + Send + Drop + 'static,
     R: Threads + Wait + Clock + Copy + Send + 'static,
     requires room { (team.room.items ≡ []) × (length team.workers.items ≤ vec_capacity team.room) }
@@ -111,7 +111,7 @@ where
 
 /// The threads of two kinds of workers.
 #[derive(Drop)]
-pub struct Both<N: Ledger, V: Work<N>, W: Work<N>> {
+pub struct Both<N: Router, V: Work<N>, W: Work<N>> {
     pub first: Started<N, V>,
     pub second: Started<N, W>,
 }
@@ -124,7 +124,7 @@ pub fn start_both<N, V, W, R>(
     second: Team<N, W>,
 ) -> Result<Both<N, V, W>, ThreadFault>
 where
-    N: Ledger + Send + Sync + 'static,
+    N: Router + Send + Sync + 'static,
     V: Work<N> + Send + Drop + 'static,
     W: Work<N> + Send + Drop + 'static,
     R: Threads + Wait + Clock + Copy + Send + 'static,
@@ -151,7 +151,7 @@ pub fn start_four<N, A, B, C, D, R>(
     other: (Team<N, C>, Team<N, D>),
 ) -> Result<(Both<N, A, B>, Both<N, C, D>), ThreadFault>
 where
-    N: Ledger + Send + Sync + 'static,
+    N: Router + Send + Sync + 'static,
     A: Work<N> + Send + Drop + 'static,
     B: Work<N> + Send + Drop + 'static,
     C: Work<N> + Send + Drop + 'static,

@@ -5,7 +5,7 @@ ghost use Rattle.std.specs.Prelude.{◌≡◌, IfOk, IfSome, true};
 use crate::idle::{Idle, nap};
 use crate::orders::{GIVE_UP, HOLD, Orders};
 use crate::work::Work;
-use packet_ledger::{Book, Ledger};
+use packet_ledger::{Book, Router};
 use router_stages::Turn;
 use stage_parts::Event;
 use std::marker::PhantomData;
@@ -26,7 +26,7 @@ const TURNS: u32 = 1023;
 #[derive(Drop)]
 pub struct WillEnd<N, W>(pub Snapshot<W>, pub PhantomData<N>);
 
-impl<N: Ledger, W: Work<N>> Promise<Option<W>> for WillEnd<N, W> {
+impl<N: Router, W: Work<N>> Promise<Option<W>> for WillEnd<N, W> {
     ghost use Rattle.std.specs.Prelude.{IfSome};
 
     ghost kept_by = { λ p r. IfSome r (λ w. W.same p.0.value w × W.has_ended w) };
@@ -95,7 +95,7 @@ impl Pace {
 }
 
 // Posts where it is time to.
-fn post_if<N: Ledger, W: Work<N>, R: Wait>(rt: &R, worker: &mut W, book: &Book<N>, due: bool)
+fn post_if<N: Router, W: Work<N>, R: Wait>(rt: &R, worker: &mut W, book: &Book<N>, due: bool)
     ensures same { W.same worker.old worker.new }
     ensures ended { W.has_ended worker.old → W.has_ended worker.new }
 {
@@ -105,7 +105,7 @@ fn post_if<N: Ledger, W: Work<N>, R: Wait>(rt: &R, worker: &mut W, book: &Book<N
 }
 
 // One turn, where each count can still be raised, and what is posted for it.
-fn attempt<N: Ledger, W: Work<N>, R: Wait>(
+fn attempt<N: Router, W: Work<N>, R: Wait>(
     rt: &R,
     worker: &mut W,
     book: &Book<N>,
@@ -134,7 +134,7 @@ fn attempt<N: Ledger, W: Work<N>, R: Wait>(
 // Sleeps until there is a push. Since one may have come before the sleep was announced, there is a turn
 // between, and only where a push is still what ends its quiet it sleeps: the turn may have taken what a
 // gate holds back. Whether the worker has ended.
-fn sleep_on<N: Ledger, W: Work<N>, R: Wait>(
+fn sleep_on<N: Router, W: Work<N>, R: Wait>(
     rt: &R,
     worker: &mut W,
     book: &Book<N>,
@@ -158,7 +158,7 @@ fn sleep_on<N: Ledger, W: Work<N>, R: Wait>(
 }
 
 // There was nothing to do. Whether the worker has ended.
-fn pause<N: Ledger, W: Work<N>, R: Wait + Clock>(
+fn pause<N: Router, W: Work<N>, R: Wait + Clock>(
     rt: &R,
     worker: &mut W,
     orders: &Orders<N>,
@@ -183,7 +183,7 @@ fn pause<N: Ledger, W: Work<N>, R: Wait + Clock>(
 }
 
 // One turn, and what it asks for. Whether the worker has ended.
-fn advance<N: Ledger, W: Work<N>, R: Wait + Clock>(
+fn advance<N: Router, W: Work<N>, R: Wait + Clock>(
     rt: &R,
     worker: &mut W,
     orders: &Orders<N>,
@@ -205,7 +205,7 @@ fn advance<N: Ledger, W: Work<N>, R: Wait + Clock>(
 }
 
 /// Makes turns to the worker's end, and posts what it counted.
-pub fn work_on<N: Ledger, W: Work<N>, R: Wait + Clock>(rt: &R, orders: &Orders<N>, worker: W) -> W
+pub fn work_on<N: Router, W: Work<N>, R: Wait + Clock>(rt: &R, orders: &Orders<N>, worker: W) -> W
     ensures same { W.same worker result }
     ensures ended { W.has_ended result }
     ensures posted { W.is_posted result }
@@ -237,7 +237,7 @@ fn may_begin<R: Wait + Clock>(rt: &R, word: &AtomicU64) -> bool {
     unreachable!()
 }
 
-fn work_once_told<N: Ledger, W: Work<N> + Drop, R: Wait + Clock>(
+fn work_once_told<N: Router, W: Work<N> + Drop, R: Wait + Clock>(
     rt: &R,
     orders: &Orders<N>,
     worker: W,
@@ -265,7 +265,7 @@ pub fn start_worker<N, W, R>(
     worker: W,
 ) -> Result<Handle<N, W>, ThreadFault>
 where
-    N: Ledger + Send + Sync + 'static,
+    N: Router + Send + Sync + 'static,
     W: Work<N> + Send + Drop + 'static,
     R: Threads + Wait + Clock + Copy + Send + 'static,
     ensures { IfOk result (λ h. h.promise.0.value ≡ worker) }

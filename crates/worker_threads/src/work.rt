@@ -3,12 +3,12 @@
 ghost use Rattle.std.specs.Prelude.{◌≡◌, MatchBool};
 ghost use Rattle.stage_parts.specs.declared.turn.Turn.{Turn};
 
-use packet_ledger::{Book, Ledger};
+use packet_ledger::{Book, Router};
 use router_stages::Turn;
 use std::sync::Wait;
 
 /// A worker that makes turns to its end, and posts into the book `N`.
-pub trait Work<N: Ledger> {
+pub trait Work<N: Router> {
     ghost use Rattle.std.specs.Prelude.{Bool};
 
     /// What no turn, no wait and no post changes.

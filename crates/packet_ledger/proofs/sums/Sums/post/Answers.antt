@@ -18,10 +18,10 @@ invariant_of-self g c =
     let posted : Totals = c.share.inside.posted in
     let longT : length totals.dropped ≡ 18 = search rules in
     let longP : length posted.dropped ≡ 18 = search rules in
-    let moved = posts g.L.Ledger.workers totals posted c.share.inside.counts c.none.result _ _ _ _ _ (cell_view c.replace-token.result) _ c.self.invariant.3 longT longP c.none.ensures c.self.invariant.1 c.give-spare.ensures.kept.1
+    let moved = posts g.N.Router.workers totals posted c.share.inside.counts c.none.result _ _ _ _ _ (cell_view c.replace-token.result) _ c.self.invariant.3 longT longP c.none.ensures c.self.invariant.1 c.give-spare.ensures.kept.1
     (ap cell_view c.replace-token.ensures.value ∙ c.share.invariant.2) c.take_in.ensures.1 c.audit.ensures.known.0 c.give.ensures.kept.1 c.give.ensures.given.2 in (
       c.give.ensures.kept.0 ∙ c.audit.ensures.own ∙ c.take_in.ensures.0 ∙ c.give-spare.ensures.kept.0 ∙ c.self.invariant.0,
-      moved.1 ∙ ap (keeper (65537 - g.L.Ledger.workers) nothing) (sym c.added-sums.ensures),
+      moved.1 ∙ ap (keeper (65537 - g.N.Router.workers) nothing) (sym c.added-sums.ensures),
       c.if-not-at_most.ensures,
       c.self.invariant.3,
     )
@@ -32,7 +32,7 @@ invariant_of-share g c =
     let posted : Totals = c.share.inside.posted in
     let longT : length totals.dropped ≡ 18 = search rules in
     let longP : length posted.dropped ≡ 18 = search rules in
-    let moved = posts g.L.Ledger.workers totals posted c.share.inside.counts c.none.result _ _ _ _ _ (cell_view c.replace-token.result) _ c.self.invariant.3 longT longP c.none.ensures c.self.invariant.1 c.give-spare.ensures.kept.1
+    let moved = posts g.N.Router.workers totals posted c.share.inside.counts c.none.result _ _ _ _ _ (cell_view c.replace-token.result) _ c.self.invariant.3 longT longP c.none.ensures c.self.invariant.1 c.give-spare.ensures.kept.1
     (ap cell_view c.replace-token.ensures.value ∙ c.share.invariant.2) c.take_in.ensures.1 c.audit.ensures.known.0 c.give.ensures.kept.1 c.give.ensures.given.2 in (
       c.give.ensures.given.0 ∙ c.audit.ensures.own ∙ c.take_in.ensures.0 ∙ c.give-spare.ensures.kept.0 ∙ c.self.invariant.0,
       c.give.ensures.given.1,
