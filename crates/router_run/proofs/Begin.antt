@@ -1,7 +1,7 @@
 -- Workers made of what stood ready are a crew.
 use Rattle.std.proofs.Common.{◌≡◌, ℕ, suc, ◌+◌, ◌*◌, List, [], ◌∷◌, map, length, Some, Result, Ok, Err, MatchResult, slice_get, refl, sym, ◌∙◌, ap, subst, arith}
 use Rattle.process_packet.specs.declared.config.Config.{Config}
-use Rattle.pipeline_laws.specs.Item.{Outgoing}
+use Rattle.pipeline_laws.specs.Item.{Arrival, Outgoing}
 use Rattle.ruled_pipe.specs.Pipe.{Shape}
 use Rattle.router_laws.specs.Returned.{AllAt}
 use Rattle.router_rules.specs.Links.{interface_at, link_count}
@@ -10,17 +10,17 @@ use Rattle.router_stages.specs.Answering.{Answering}
 use Rattle.router_stages.specs.Forwarding.{Forwarding}
 use Rattle.router_stages.specs.Receiving.{Receiving}
 use Rattle.router_stages.specs.Working.{Working}
-use Rattle.router_ends.specs.Rows.{Row}
-use Rattle.router_ends.specs.Shutting.{Shutting}
+use Rattle.pipe_ends.specs.Rows.{Row}
+use Rattle.pipe_ends.specs.Shutting.{Shutting}
 use Rattle.run_laws.specs.Crew.{AreForwarding, AreWorking, IsCrew, IsReceivingAt}
-use Rattle.wired_workers.specs.Piping.{IsTakerOf, IsWorkingAt, Piping}
-use Rattle.wired_workers.specs.Kits.{Entry, Exit, IsEnteringAt, IsLeavingAt, IsWorkingThere, forwardings, receivings}
-use Rattle.run_parts.specs.WorkerParts.{AreWorkerParts}
-use Rattle.router_run.specs.Run.{Run, crew_of}
+use Rattle.router_pipes.specs.Piping.{IsTakerOf, Piping}
+use Rattle.wired_workers.specs.Kits.{Entry, Exit, forwardings, IsEnteringAt, IsLeavingAt, IsWorkingAt, IsWorkingThere, receivings}
+use Rattle.router_run.specs.WorkerParts.{AreWorkerParts}
+use Rattle.router_run.specs.Run.{Run}
+use Rattle.run_report.specs.Parting.{crew_of}
 use Rattle.router_run.specs.Starting.{Begins, GivesBack}
 use Rattle.router_run.specs.declared.fault.StartFault.{StartFault}
 use Rattle.router_run.specs.declared.fault.StartFault.TheVariants.{Thread}
-use Rattle.pipeline_laws.specs.Item.{Arrival}
 
 some_same : {X : Type 0} (x y : X) → Some x ≡ Some y → x ≡ y
 some_same x y e = cc

@@ -20,15 +20,16 @@ use Rattle.router_stages.specs.Receiving.{Receiving}
 use Rattle.router_stages.specs.Working.{Working}
 use Rattle.stage_parts.specs.Outlets.{senders}
 use Rattle.stage_parts.specs.Told.{Told, told_of}
-use Rattle.router_ends.specs.Rows.{HaveLeft, Row, rows_of}
-use Rattle.router_ends.specs.Settled.{AreSettled, HaveEnded, IsDone, IsEnded}
+use Rattle.pipe_ends.specs.Rows.{HaveLeft, Row, rows_of}
+use Rattle.pipe_ends.specs.Settled.{AreSettled, HaveEnded, IsDone, IsEnded}
 use Rattle.run_laws.specs.Came.{CrewsReturn, HasKept, HasSettled, back_of, forwarder_back, processor_back, receiver_back}
 use Rattle.run_laws.specs.Crew.{Crew, IsCrew}
-use Rattle.wired_workers.specs.Piping.{Piping}
+use Rattle.router_pipes.specs.Piping.{Piping}
 use Rattle.run_laws.specs.Ended.{IsBack, PipesEnd, inner_rows, inner_takers, middle_takers, outer_rows, takers_of}
-use Rattle.run_parts.specs.Room.{HaveSpace, Space}
-use Rattle.router_run.specs.Run.{HasRun, IsParted, IsSized, Run, shares_in}
-use Rattle.router_run.proofs.Parted.{rows_long}
+use Rattle.run_report.specs.Room.{HaveSpace, Space}
+use Rattle.router_run.specs.Run.{HasRun, Run}
+use Rattle.run_report.specs.Parting.{IsParted, IsSized, shares_in}
+use Rattle.run_report.proofs.PartedLemmas.{rows_long}
 
 map_twice : {X Y Z : Type 0} (f : X → Y) (g : Y → Z) (xs : List X) → map g (map f xs) ≡ map (λ (x : X). g (f x)) xs
 map_twice f g [] = refl

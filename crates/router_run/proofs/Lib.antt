@@ -1,6 +1,4 @@
 pub mod Begin
+pub mod CrewLemmas
 pub mod Finish
-pub mod PartLemmas
-pub mod Parted
 pub mod Sized
-pub mod ClosingLemmas

@@ -12,15 +12,15 @@ use Rattle.router_stages.specs.Receiving.{Receiving}
 use Rattle.router_stages.specs.Working.{Working}
 use Rattle.stage_parts.specs.Outlet.{Offering}
 use Rattle.stage_parts.specs.Outlets.{senders}
-use Rattle.router_ends.specs.Shutting.{AreShutters, EachEnds, Shutting}
+use Rattle.pipe_ends.specs.Shutting.{AreShutters, EachEnds, Shutting}
 use Rattle.worker_threads.specs.Back.{AreBack}
 use Rattle.worker_threads.specs.Workers.{IsSameReceiver, ReceiverEnded, IsSameProcessor, ProcessorEnded, IsSameSlowPath, SlowPathEnded}
 use Rattle.run_laws.specs.Crew.{AreAnswering, AreForwarding, AreWorking, Crew, IsCrew, IsReceivingAt}
-use Rattle.wired_workers.specs.Piping.{Piping, are_used}
+use Rattle.router_pipes.specs.Piping.{Piping, are_used}
 use Rattle.run_laws.specs.Ended.{IsBack}
 use Rattle.run_laws.proofs.Ends.{ends_long, same_ends}
 use Rattle.run_laws.proofs.Rows.{back_long, working_long}
-use Rattle.router_run.specs.Run.{IsSized}
+use Rattle.run_report.specs.Parting.{IsSized}
 
 long_of : {T : Type 0} (xs : List (Offering T)) → length (senders xs) ≡ length xs
 long_of xs = length-map xs (λ (o : Offering _). o.sender)

@@ -1,3 +1,3 @@
+pub mod WorkerParts
 pub mod Run
 pub mod Starting
-pub mod Closing

@@ -1,4 +1,4 @@
-//! Why a router was not started, and why a link was not closed.
+//! Why a router was not started.
 
 /// Why a router was not started. Want of memory and a wrong count hand sources and sinks back, none of
 /// them asked; where a thread was refused they are dropped unasked.
@@ -10,15 +10,4 @@ pub enum StartFault<S, K> {
     Count { sources: Vec<S>, sinks: Vec<K> },
     /// A thread couldn't be made. Those that were made ended without a turn.
     Thread,
-}
-
-/// Why a link was not closed.
-#[derive(Clone, Copy, PartialEq, Eq)]
-pub enum CloseFault {
-    /// A closing mark was refused; one that was accepted stays.
-    Full,
-    /// There is no such link.
-    Unknown,
-    /// All its closing marks are there.
-    AlreadyClosed,
 }

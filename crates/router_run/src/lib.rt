@@ -2,12 +2,14 @@
 //! socket, file or clock of its own.
 #![tactic(auto)]
 
-mod closing;
 mod fault;
-mod finishing;
-mod parting;
+mod joining;
+mod preparing;
 mod running;
+mod teams;
+mod worker_parts;
 
-pub use fault::{CloseFault, StartFault};
-pub use finishing::Report;
+pub use fault::StartFault;
+pub use router_pipes::CloseFault;
+pub use run_report::Report;
 pub use running::{Running, start};

@@ -5,30 +5,32 @@ ghost use Rattle.std.specs.Arc.{arc_value};
 ghost use Rattle.pipeline_laws.specs.Deeds.{Each};
 ghost use Rattle.router_laws.specs.Heard.{ToldNothing};
 ghost use Rattle.router_rules.specs.Links.{link_count};
-ghost use Rattle.router_run.specs.Closing.{Closing, IsSameRun};
-ghost use Rattle.wired_workers.specs.Dealing.{piping};
+ghost use Rattle.router_pipes.specs.Closing.{Closing};
+ghost use Rattle.router_run.specs.Run.{HasRun, IsSameRun};
+ghost use Rattle.router_pipes.specs.Dealing.{piping};
 ghost use Rattle.wired_workers.specs.Kits.{forwardings, receivings};
-ghost use Rattle.run_parts.specs.WorkerParts.{AreWorkerParts};
-ghost use Rattle.run_parts.specs.Room.{HaveSpace};
-ghost use Rattle.router_run.specs.Run.{HasRun};
+ghost use Rattle.router_run.specs.WorkerParts.{AreWorkerParts};
+ghost use Rattle.run_report.specs.Room.{HaveSpace};
 ghost use Rattle.router_run.specs.Starting.{Begins, GivesBack, IsOneALink};
 
-use crate::closing::Controller;
-use crate::fault::{CloseFault, StartFault};
-use crate::finishing::{Report, Threaded, gather_pipes, join_workers, part_all, report_of};
+use crate::fault::StartFault;
+use crate::joining::{Threaded, join_workers};
+use crate::preparing::{Base, Prepared, prepare};
+use crate::worker_parts::WorkerParts;
 use packet_ledger::Blank;
 use process_packet::Config;
+use router_pipes::{CloseFault, Controller, Events, Pipes};
 use router_rules::{causes_are_apart, link_count, links_stand_in_order, rules_are_lawful};
 use router_stages::{Forwarder, Processor, Receiver, SlowPath};
 use run_laws::{crews_end, crews_return};
-use run_parts::{Base, Prepared, Space, WorkerParts, prepare};
+use run_report::{Report, Space, gather_pipes, part_all, report_of};
 use stage_parts::{Event, Gate, Router, Sink, Source};
 use std::alloc::Global;
 use std::marker::Model;
 use std::rt::Clock;
 use std::sync::Wait;
 use std::thread::Threads;
-use wired_workers::{Common, Entering, Events, Leaving, Pipes, forwarders_of, receivers_of};
+use wired_workers::{Common, Entering, Leaving, forwarders_of, receivers_of};
 use worker_threads::{Orders, Team, start_four};
 
 /// A running router. It has no `Drop`: it can only be finished. Contracts see its configuration, its pipes,
@@ -57,12 +59,13 @@ where
 {
     ghost use Rattle.std.specs.Prelude.{◌≡◌, ◌+◌, ◌*◌};
     ghost use Rattle.std.specs.Arc.{arc_value};
-    ghost use Rattle.router_ends.specs.Rows.{HaveLeft};
+    ghost use Rattle.pipe_ends.specs.Rows.{HaveLeft};
     ghost use Rattle.router_rules.specs.Links.{link_count};
     ghost use Rattle.run_laws.specs.Crew.{IsCrew};
-    ghost use Rattle.wired_workers.specs.Dealing.{piping};
-    ghost use Rattle.run_parts.specs.Room.{HaveSpace};
-    ghost use Rattle.router_run.specs.Run.{Run, crew_of};
+    ghost use Rattle.router_pipes.specs.Dealing.{piping};
+    ghost use Rattle.run_report.specs.Room.{HaveSpace};
+    ghost use Rattle.router_run.specs.Run.{Run};
+    ghost use Rattle.run_report.specs.Parting.{crew_of};
 
     ghost Value = { Run S G K };
 

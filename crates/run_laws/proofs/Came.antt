@@ -23,13 +23,14 @@ use Rattle.router_stages.specs.Working.{Working}
 use Rattle.stage_parts.specs.Outlet.{Offering}
 use Rattle.stage_parts.specs.Outlets.{senders}
 use Rattle.stage_parts.specs.Told.{Told, told_of}
-use Rattle.router_ends.specs.Handing.{NeverClosed}
-use Rattle.router_ends.specs.Settled.{ReadsColumns}
-use Rattle.router_ends.specs.Shutting.{AreShutters, EachEnds, Shutting, closed_at, shutter_ends}
+use Rattle.router_pipes.specs.Handing.{NeverClosed}
+use Rattle.pipe_ends.specs.Settled.{ReadsColumns}
+use Rattle.pipe_ends.specs.Shutting.{AreShutters, EachEnds, Shutting, closed_at, shutter_ends}
 use Rattle.worker_threads.specs.Back.{AreBack}
 use Rattle.worker_threads.specs.Workers.{IsSameReceiver, ReceiverEnded, IsSameProcessor, ProcessorEnded, IsSameSlowPath, SlowPathEnded}
 use Rattle.run_laws.specs.Crew.{AreAnswering, AreForwarding, AreWorking, Crew, IsCrew, IsReceivingAt}
-use Rattle.wired_workers.specs.Piping.{IsAnsweringAt, IsWorkingAt, Piping, are_used}
+use Rattle.wired_workers.specs.Kits.{IsAnsweringAt, IsWorkingAt}
+use Rattle.router_pipes.specs.Piping.{Piping, are_used}
 use Rattle.run_laws.specs.Ended.{IsBack, inner_rows, inner_takers, middle_row, outer_rows, takers_of}
 use Rattle.run_laws.specs.Came.{CrewsReturn, HasKept, HasSettled, back_of, forwarder_back, processor_back, receiver_back}
 use Rattle.run_laws.proofs.Ends.{ends_long, same_ends}

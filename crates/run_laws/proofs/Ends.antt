@@ -4,8 +4,8 @@ use Rattle.ruled_pipe.specs.Producer.{Sender}
 use Rattle.ruled_pipe.specs.Pipe.{Shape, IsEndOf}
 use Rattle.stage_parts.specs.Outlets.{AreFresh, senders}
 use Rattle.stage_parts.specs.Outlet.{Offering}
-use Rattle.router_ends.specs.Rows.{AreEndsOf}
-use Rattle.router_ends.specs.Handing.{AreSpared}
+use Rattle.pipe_ends.specs.Rows.{AreEndsOf}
+use Rattle.router_pipes.specs.Handing.{AreSpared}
 use Rattle.worker_threads.specs.Same.{AreSameEnds, IsSameEnd, IsSameWhere}
 
 module _ {T : Type 0} where

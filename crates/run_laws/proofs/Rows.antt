@@ -17,15 +17,16 @@ use Rattle.router_stages.specs.Working.{Working}
 use Rattle.stage_parts.specs.Outlet.{IsMarked}
 use Rattle.stage_parts.specs.Outlets.{senders}
 use Rattle.stage_parts.specs.Outlets as outlets
-use Rattle.router_ends.specs.Handing.{AreMarked, AreSpared, Finishes}
-use Rattle.router_ends.specs.Rows.{AreFor, Row, rows_of}
-use Rattle.router_ends.specs.Settled.{AreBundles, AreFinished, AreOfPipe, AreTaken, HasTaken, IsFinal}
-use Rattle.router_ends.specs.Shutting.{AreMarking, AreShutters, EachEnds, Shutting, ShuttersFinish, shutter_ends}
+use Rattle.router_pipes.specs.Handing.{AreMarked, AreSpared, Finishes}
+use Rattle.pipe_ends.specs.Rows.{AreFor, Row, rows_of}
+use Rattle.pipe_ends.specs.Settled.{AreBundles, AreFinished, AreOfPipe, AreTaken, HasTaken, IsFinal}
+use Rattle.pipe_ends.specs.Shutting.{AreMarking, AreShutters, EachEnds, Shutting, ShuttersFinish, shutter_ends}
 use Rattle.worker_threads.specs.Back.{AreBack}
 use Rattle.worker_threads.specs.Same.{AreSameEnds, IsSameTaker}
 use Rattle.worker_threads.specs.Workers.{IsSameReceiver, ReceiverEnded, IsSameProcessor, ProcessorEnded, IsSameSlowPath, SlowPathEnded, IsSameForwarder, ForwarderEnded}
 use Rattle.run_laws.specs.Crew.{IsReceivingAt, AreWorking, AreAnswering, IsForwardingAt, AreForwarding}
-use Rattle.wired_workers.specs.Piping.{Piping, IsWorkingAt, IsAnsweringAt, IsTakerOf, are_used}
+use Rattle.router_pipes.specs.Piping.{Piping, IsTakerOf, are_used}
+use Rattle.wired_workers.specs.Kits.{IsWorkingAt, IsAnsweringAt}
 use Rattle.run_laws.specs.Ended.{takers_of}
 use Rattle.run_laws.proofs.Ends.{same_ends, spared}
 use Rattle.stage_parts.proofs.UsedLemmas.{used_high}

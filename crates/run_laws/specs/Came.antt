@@ -14,11 +14,11 @@ use Rattle.router_stages.specs.Receiving.{Receiving}
 use Rattle.router_stages.specs.Working.{Working}
 use Rattle.stage_parts.specs.Outlets.{senders}
 use Rattle.stage_parts.specs.Told.{Told, told_of}
-use Rattle.router_ends.specs.Handing.{NeverClosed}
-use Rattle.router_ends.specs.Settled.{AreSettled, IsDone}
-use Rattle.router_ends.specs.Shutting.{PushMarks, closed_at, shutter_ends}
+use Rattle.router_pipes.specs.Handing.{NeverClosed}
+use Rattle.pipe_ends.specs.Settled.{AreSettled, IsDone}
+use Rattle.pipe_ends.specs.Shutting.{PushMarks, closed_at, shutter_ends}
 use Rattle.run_laws.specs.Crew.{Crew, IsCrew}
-use Rattle.wired_workers.specs.Piping.{Piping}
+use Rattle.router_pipes.specs.Piping.{Piping}
 use Rattle.run_laws.specs.Ended.{IsBack, inner_rows, inner_takers, middle_row, middle_takers, outer_rows, takers_of}
 
 module _ {S G K : Type 0} (told : S → Option (List Heard)) (shown : K → Option (List Told)) (failed : K → ℕ) where

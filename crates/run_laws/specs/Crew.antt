@@ -11,9 +11,10 @@ use Rattle.router_stages.specs.Forwarding.{Forwarding}
 use Rattle.router_stages.specs.Receiving.{Receiving}
 use Rattle.router_stages.specs.Working.{Working}
 use Rattle.stage_parts.specs.Outlets.{senders}
-use Rattle.router_ends.specs.Rows.{AreEndsOf}
-use Rattle.router_ends.specs.Shutting.{AreOpen, AreShutters, Shutting}
-use Rattle.wired_workers.specs.Piping.{IsAnsweringAt, IsPiping, IsTakerOf, IsWorkingAt, Piping, are_used}
+use Rattle.pipe_ends.specs.Rows.{AreEndsOf}
+use Rattle.pipe_ends.specs.Shutting.{AreOpen, AreShutters, Shutting}
+use Rattle.wired_workers.specs.Kits.{IsAnsweringAt, IsWorkingAt}
+use Rattle.router_pipes.specs.Piping.{IsPiping, IsTakerOf, Piping, are_used}
 
 -- the workers, and the controller's ends
 pub record Crew (S G K : Type 0) : Type 0 where

@@ -13,14 +13,14 @@ use Rattle.router_stages.specs.Receiving.{Receiving}
 use Rattle.router_stages.specs.Working.{Working}
 use Rattle.stage_parts.specs.Outlets.{senders}
 use Rattle.stage_parts.specs.Outlet.{IsMarked}
-use Rattle.router_ends.specs.Handing.{AreMarked}
-use Rattle.router_ends.specs.Rows.{Row, rows_of}
-use Rattle.router_ends.specs.Settled.{HaveEnded, IsEnded}
-use Rattle.router_ends.specs.Shutting.{AreMarking, EachEnds, shutter_ends}
+use Rattle.router_pipes.specs.Handing.{AreMarked}
+use Rattle.pipe_ends.specs.Rows.{Row, rows_of}
+use Rattle.pipe_ends.specs.Settled.{HaveEnded, IsEnded}
+use Rattle.pipe_ends.specs.Shutting.{AreMarking, EachEnds, shutter_ends}
 use Rattle.worker_threads.specs.Back.{AreBack}
 use Rattle.worker_threads.specs.Workers.{IsSameReceiver, ReceiverEnded, IsSameProcessor, ProcessorEnded, IsSameSlowPath, SlowPathEnded, IsSameForwarder, ForwarderEnded}
 use Rattle.run_laws.specs.Crew.{Crew, IsCrew}
-use Rattle.wired_workers.specs.Piping.{Piping}
+use Rattle.router_pipes.specs.Piping.{Piping}
 
 -- Each worker is the same and has ended; the controller's end marks are there.
 pub record IsBack {S G K : Type 0} (old new : Crew S G K) : Type 0 where

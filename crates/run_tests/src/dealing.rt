@@ -1,6 +1,6 @@
 //! Ends of pipes, dealt to workers.
 
-use router_ends::{Dealt, Ends, Opened, deal, open_pipes, take_last};
+use pipe_ends::{Dealt, Ends, Opened, deal, open_pipes, take_last};
 use std::alloc::Global;
 use std::process::Abort;
 use std::test::*;

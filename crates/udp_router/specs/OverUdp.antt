@@ -2,10 +2,10 @@
 use Rattle.std.specs.Prelude.{◌≡◌, ⊤, ℕ, List, None, Result, Ok, Err}
 use Rattle.router_lines.specs.declared.closing.Closing.{Closing}
 use Rattle.router_lines.specs.declared.closing.Closing.TheVariants as closing
-use Rattle.router_run.specs.Closing.{Closing as Marking, IsSameRun}
-use Rattle.router_run.specs.Run.{HasRun, Run}
-use Rattle.router_run.specs.declared.fault.CloseFault.{CloseFault}
-use Rattle.router_run.specs.declared.fault.CloseFault.TheVariants as fault
+use Rattle.router_pipes.specs.Closing.{Closing as Marking}
+use Rattle.router_run.specs.Run.{HasRun, IsSameRun, Run}
+use Rattle.router_pipes.specs.declared.closing.CloseFault.{CloseFault}
+use Rattle.router_pipes.specs.declared.closing.CloseFault.TheVariants as fault
 use Rattle.run_engine.specs.declared.control.Figures.{Figures}
 use Rattle.udp_devices.specs.Devices.{Sending}
 

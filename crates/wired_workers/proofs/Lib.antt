@@ -1,5 +1,2 @@
-pub mod FreeLemmas
-pub mod Fresh
 pub mod Making
-pub mod OkLemmas
 pub mod RestLemmas

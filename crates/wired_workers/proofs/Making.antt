@@ -1,5 +1,6 @@
 -- A worker made of what is next of each list.
 use Rattle.std.proofs.Common.{◌≡◌, ℕ, zero, suc, ◌+◌, List, [], ◌∷◌, ◌++◌, length, Some, slice_get, sym, ◌∙◌, ap, subst, arith, append_assoc, append-nil, length-append}
+use Rattle.std.specs.List.{All}
 use Rattle.packet_ledger.specs.Share.{Held, new_share}
 use Rattle.pipeline_laws.specs.Deeds.{Each}
 use Rattle.pipeline_laws.specs.Item.{Arrival, Outgoing}
@@ -13,12 +14,20 @@ use Rattle.router_rules.specs.Rules.{kinds}
 use Rattle.router_stages.specs.Working.{Working}
 use Rattle.stage_parts.specs.Outlet.{Offering}
 use Rattle.stage_parts.specs.Outlets.{AreFresh, senders}
-use Rattle.router_ends.specs.Rows.{AreEndsOf, AreFor, Row, fresh_ends}
-use Rattle.wired_workers.specs.Dealing.{IsLong, IsNewEnd, IsTakerThere, piping}
+use Rattle.pipe_ends.specs.Rows.{AreEndsOf, AreFor, Row, fresh_ends}
+use Rattle.router_pipes.specs.Dealing.{IsLong, IsNewEnd, IsTakerThere, piping}
 use Rattle.wired_workers.specs.Kits.{IsWorkingThere}
-use Rattle.wired_workers.specs.Rest.{AreNewShares, HaveGone, IsRest}
-use Rattle.wired_workers.proofs.Fresh.{fresh_are, fresh_long}
+use Rattle.wired_workers.specs.Shares.{AreNewShares, HaveGone}
+use Rattle.router_pipes.specs.Rest.{IsRest}
+use Rattle.router_pipes.proofs.Fresh.{fresh_are, fresh_long}
 use Rattle.wired_workers.proofs.RestLemmas.{all_more}
+
+each_of : {X : Type 0} (P : X → Type 0) (xs : List X) → All P xs → Each P xs
+each_of P [] all = tt
+each_of P (x ∷ xs) all = (all 0 x (omega arith), each_of P xs (λ k d lt. all (suc k) d (omega arith)))
+
+pub new_shares : (n : ℕ) (xs : List Held) → length xs ≡ n → All (λ (s : Held). s ≡ new_share) xs → AreNewShares n xs
+new_shares n xs long all = record { each = each_of (λ (s : Held). s ≡ new_share) xs all; enough = omega arith }
 
 -- the shares, before the first is taken, and after the next
 pub none_gone : (n : ℕ) (xs : List Held) → AreNewShares n xs → HaveGone 0 xs xs

@@ -2,7 +2,7 @@
 use Rattle.std.proofs.Common.{◌≡◌, ℕ, suc, ◌+◌, List, [], ◌∷◌, ◌++◌, map, length, sym, ◌∙◌, ap, subst, arith, append_assoc, append-nil}
 use Rattle.pipeline_laws.specs.Deeds.{Each}
 use Rattle.router_laws.specs.Returned.{AllAt}
-use Rattle.wired_workers.specs.Rest.{IsRest}
+use Rattle.router_pipes.specs.Rest.{IsRest}
 
 module _ {X : Type 0} where
   pub all_more : (P : ℕ → X → Type 0) (n : ℕ) (xs : List X) (x : X) → AllAt P n xs → P (n + length xs) x → AllAt P n (xs ++ x ∷ [])

@@ -4,15 +4,16 @@ use Rattle.pipeline_laws.specs.Item.{Arrival, Outgoing}
 use Rattle.process_packet.specs.declared.config.Config.{Config}
 use Rattle.ruled_pipe.specs.Producer.{Sender}
 use Rattle.ruled_pipe.specs.Consumer.{Taker}
-use Rattle.ruled_pipe.specs.Pipe.{Shape}
+use Rattle.ruled_pipe.specs.Pipe.{Shape, IsEndOf}
 use Rattle.router_rules.specs.Rules.{kinds}
+use Rattle.router_stages.specs.Answering.{Answering}
 use Rattle.router_stages.specs.Forwarding.{Band, Forwarding, first_delivery, first_forwarding}
 use Rattle.router_stages.specs.Receiving.{Receiving, first_receiving}
 use Rattle.router_stages.specs.Working.{Working}
 use Rattle.stage_parts.specs.Outlet.{Offering}
-use Rattle.stage_parts.specs.Outlets.{senders}
-use Rattle.router_ends.specs.Rows.{AreEndsOf}
-use Rattle.wired_workers.specs.Piping.{IsTakerOf, IsWorkingAt, Piping}
+use Rattle.stage_parts.specs.Outlets.{AreFresh, senders}
+use Rattle.pipe_ends.specs.Rows.{AreEndsOf}
+use Rattle.router_pipes.specs.Piping.{IsTakerOf, Piping}
 
 -- a receiver without its source
 pub record Entry : Type 0 where
@@ -58,6 +59,22 @@ module _ {K : Type 0} (failed : K → ℕ) where
   forwardings [] sinks = []
   forwardings (e ∷ es) [] = []
   forwardings (e ∷ es) (k ∷ ks) = first_forwarding e.link e.low e.high (failed k) (first_delivery e.config k e.free) ∷ forwardings es ks
+
+module _ {G : Type 0} where
+  -- a processor takes from its pipe, and has the producers of its number
+  pub record IsWorkingAt (c : Config) (p : Piping) (i : ℕ) (s : Shape) (w : Working G) : Type 0 where
+    pub config : w.side.config ≡ c
+    pub taker : IsTakerOf s w.taker
+    pub slow : IsEndOf p.middle i w.slow.sender
+    pub links : AreEndsOf i p.outer (senders w.side.links)
+    pub fresh : AreFresh w.side.links
+
+-- the slow path has the producers after the processors'
+pub record IsAnsweringAt (c : Config) (p : Piping) (a : Answering) : Type 0 where
+  pub config : a.side.config ≡ c
+  pub taker : IsTakerOf p.middle a.taker
+  pub links : AreEndsOf c.processors p.outer (senders a.side.links)
+  pub fresh : AreFresh a.side.links
 
 -- the processor of a number
 pub record IsWorkingThere {G : Type 0} (c : Config) (p : Piping) (i : ℕ) (w : Working G) : Type 0 where

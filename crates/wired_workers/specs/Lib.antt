@@ -1,4 +1,2 @@
-pub mod Piping
-pub mod Rest
-pub mod Dealing
+pub mod Shares
 pub mod Kits

@@ -1,6 +1,6 @@
 //! What all workers share.
 
-use crate::waking::Events;
+use router_pipes::Events;
 use router_rules::Shared;
 use std::alloc::Global;
 use std::sync::Arc;

@@ -1,26 +1,26 @@
 //! The processors and the slow path.
 
-ghost use Rattle.std.specs.Prelude.{◌≡◌, ◌+◌, ◌*◌, ◌≤◌, ◌<◌, ◌∷◌, ℕ, List, IfOk, [], Some, length};
+ghost use Rattle.std.specs.Prelude.{◌≡◌, ◌+◌, ◌*◌, ◌<◌, ℕ, List, IfOk, [], Some, length};
 ghost use Rattle.std.specs.Arc.{arc_value};
 ghost use Rattle.packet_ledger.specs.Share.{new_share};
 ghost use Rattle.router_rules.specs.Links.{link_count};
 ghost use Rattle.ruled_pipe.specs.Pipe.{Shape};
-ghost use Rattle.wired_workers.specs.Piping.{IsAnsweringAt, IsTakerOf};
+ghost use Rattle.wired_workers.specs.Kits.{IsAnsweringAt, IsWorkingThere};
+ghost use Rattle.router_pipes.specs.Piping.{IsTakerOf};
 ghost use Rattle.stage_parts.specs.Outlets.{AreFresh, senders};
-ghost use Rattle.router_ends.specs.Rows.{AreEndsOf, AreFor, IsBundle, fresh_ends, new_takers};
-ghost use Rattle.wired_workers.specs.Dealing.{IsBundleOf, IsLong, IsNewEnd, piping};
-ghost use Rattle.wired_workers.specs.Kits.{IsWorkingThere};
-ghost use Rattle.wired_workers.specs.Rest.{AreNewShares, HaveGone, IsRest};
+ghost use Rattle.pipe_ends.specs.Rows.{AreEndsOf, AreFor, IsBundle, fresh_ends, new_takers};
+ghost use Rattle.router_pipes.specs.Dealing.{IsBundleOf, IsLong, IsNewEnd, piping};
+ghost use Rattle.wired_workers.specs.Shares.{AreNewShares, HaveGone};
+ghost use Rattle.router_pipes.specs.Rest.{IsRest};
 
 use crate::common::Common;
-use crate::pipes::{Inputs, Pipes};
 use crate::remaining::{Portion, Remaining};
-use crate::waking::Events;
 use packet_ledger::Share;
-use router_ends::{Ends, Line, outlets};
+use pipe_ends::Line;
+use router_pipes::{Events, Inputs, Pipes, outlets};
 use router_rules::{Shared, link_count};
 use router_stages::{Processor, SlowPath};
-use ruled_pipe::{Consumer, Pipe, Producer};
+use ruled_pipe::{Consumer, Producer};
 use stage_parts::{
     Buffer, EgressPacket, Event, Gate, Inlet, Outlet, Packet, Router, SlowPathRequest, both,
 };

@@ -3,7 +3,7 @@
 ghost use Rattle.std.specs.Prelude.{◌≡◌, ◌<◌, ◌∷◌, length};
 
 use packet_ledger::Share;
-use router_ends::{Ends, Line};
+use pipe_ends::{Ends, Line};
 use stage_parts::{Buffer, EgressPacket, Router};
 
 /// The ends of the links' pipes and of those of free buffers, and the shares, which the workers that are

@@ -1,6 +1,6 @@
 use Rattle.std.proofs.Common.{◌≡◌, length, refl, vec_capacity, ◌∙◌, ap, arith}
 use Rattle.std.specs.Arc.{arc_value}
-use Rattle.wired_workers.specs.Dealing.{piping}
+use Rattle.router_pipes.specs.Dealing.{piping}
 use Rattle.router_run.proofs.Begin.{begins, crew_by, forwardings_long, is_crew, receivings_long}
 use Rattle.router_run.proofs.running.run.Goals as goal
 

@@ -1,5 +1,5 @@
-use Rattle.router_ends.proofs.HandingLemmas.{finishes}
-use Rattle.router_ends.proofs.ShuttingLemmas.{shutters_finish}
+use Rattle.router_pipes.proofs.HandingLemmas.{finishes}
+use Rattle.pipe_ends.proofs.ShuttingLemmas.{shutters_finish}
 use Rattle.run_laws.proofs.Crews.{crews_end}
 use Rattle.run_laws.proofs.laws.crews_end.Goals as goal
 

@@ -1,4 +1,4 @@
-use Rattle.router_ends.proofs.SettledLemmas.{column_of}
+use Rattle.pipe_ends.proofs.SettledLemmas.{column_of}
 use Rattle.run_laws.proofs.Came.{crews_return}
 use Rattle.run_laws.proofs.laws.crews_return.Goals as goal
 

@@ -2,11 +2,11 @@ use Rattle.std.proofs.Common.{◌≡◌, ℕ, List, ◌∷◌, length, ◌∙◌
 use Rattle.std.specs.Arc.{arc_value}
 use Rattle.ruled_pipe.specs.Pipe.{Shape}
 use Rattle.router_rules.specs.Links.{link_count}
-use Rattle.router_ends.specs.Rows.{Row, fresh_ends}
-use Rattle.wired_workers.specs.Dealing.{IsBundleOf, IsUnlooked}
+use Rattle.pipe_ends.specs.Rows.{Row, fresh_ends}
+use Rattle.router_pipes.specs.Dealing.{IsBundleOf, IsUnlooked}
 use Rattle.wired_workers.specs.Kits.{IsEnteringAt}
-use Rattle.wired_workers.specs.Rest.{IsRest}
-use Rattle.wired_workers.proofs.Fresh.{bundles_are, fresh_long}
+use Rattle.router_pipes.specs.Rest.{IsRest}
+use Rattle.router_pipes.proofs.Fresh.{bundles_are, fresh_long}
 use Rattle.wired_workers.proofs.Making.{all_none, all_pushed, next_new, none_gone, one_gone, pushed_long, rest_as}
 use Rattle.wired_workers.proofs.RestLemmas.{rest_first, rest_next}
 use Rattle.wired_workers.proofs.entering.all_entering.Goals as goal

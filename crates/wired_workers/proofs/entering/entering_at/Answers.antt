@@ -5,7 +5,7 @@ use Rattle.router_rules.specs.Links.{link_count}
 use Rattle.router_rules.specs.Rules.{kinds}
 use Rattle.router_rules.specs.declared.shared.Shared.{Shared}
 use Rattle.stage_parts.specs.Outlet.{Offering}
-use Rattle.wired_workers.proofs.OkLemmas.{of_ok}
+use Rattle.router_pipes.proofs.OkLemmas.{of_ok}
 use Rattle.wired_workers.proofs.entering.entering_at.Goals as goal
 
 pub outlets-processors-requires-clause-bundle : goal.outlets-processors-requires-clause-bundle

@@ -5,15 +5,15 @@ use Rattle.ruled_pipe.specs.Pipe.{Shape}
 use Rattle.ruled_pipe.specs.Consumer.{Taker, new_taker}
 use Rattle.router_rules.specs.Links.{link_count}
 use Rattle.router_rules.specs.declared.shared.Shared.{Shared}
-use Rattle.router_ends.specs.Rows.{Row, new_takers}
+use Rattle.pipe_ends.specs.Rows.{Row, new_takers}
 use Rattle.pipeline_laws.specs.Item.{Outgoing}
 use Rattle.router_rules.specs.Rules.{kinds}
 use Rattle.router_stages.specs.Forwarding.{Band}
-use Rattle.wired_workers.specs.Piping.{IsTakerOf}
-use Rattle.wired_workers.specs.Dealing.{IsLong, IsTakerThere}
+use Rattle.router_pipes.specs.Piping.{IsTakerOf}
+use Rattle.router_pipes.specs.Dealing.{IsLong, IsTakerThere}
 use Rattle.wired_workers.specs.Kits.{Exit, IsLeavingAt}
-use Rattle.wired_workers.specs.Rest.{IsRest}
-use Rattle.wired_workers.proofs.Fresh.{takers_are}
+use Rattle.router_pipes.specs.Rest.{IsRest}
+use Rattle.router_pipes.proofs.Fresh.{takers_are}
 use Rattle.wired_workers.proofs.Making.{all_none, all_pushed, next_new, none_gone, one_gone, pushed_long, rest_as, taker_new}
 use Rattle.wired_workers.proofs.RestLemmas.{rest_first, rest_next}
 use Rattle.wired_workers.proofs.leaving.all_leaving.Goals as goal

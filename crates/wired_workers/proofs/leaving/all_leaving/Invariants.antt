@@ -1,9 +1,10 @@
 use Rattle.std.proofs.Common.{◌≡◌, ◌+◌, ◌*◌, ◌≤◌, length, vec_capacity}
 use Rattle.std.specs.Arc.{arc_value}
 use Rattle.router_laws.specs.Returned.{AllAt}
-use Rattle.wired_workers.specs.Dealing.{IsLong, IsTakerThere}
+use Rattle.router_pipes.specs.Dealing.{IsLong, IsTakerThere}
 use Rattle.wired_workers.specs.Kits.{IsLeavingAt}
-use Rattle.wired_workers.specs.Rest.{HaveGone, IsRest}
+use Rattle.wired_workers.specs.Shares.{HaveGone}
+use Rattle.router_pipes.specs.Rest.{IsRest}
 use Rattle.wired_workers.proofs.leaving.all_leaving.Given as goal
 
 abbrev pub invariant-loop-link : goal.invariant-loop-link

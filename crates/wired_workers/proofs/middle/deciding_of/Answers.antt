@@ -1,9 +1,9 @@
 use Rattle.std.proofs.Common.{◌≡◌, ◌+◌, ◌*◌, length, subst, sym, refl, ◌∙◌, arith}
 use Rattle.std.specs.Arc.{arc_value}
-use Rattle.router_ends.specs.Rows.{fresh_ends}
+use Rattle.pipe_ends.specs.Rows.{fresh_ends}
 use Rattle.router_rules.specs.Links.{link_count}
-use Rattle.wired_workers.specs.Dealing.{IsBundleOf, IsLong}
-use Rattle.wired_workers.specs.Piping.{IsTakerOf}
+use Rattle.router_pipes.specs.Dealing.{IsBundleOf, IsLong}
+use Rattle.router_pipes.specs.Piping.{IsTakerOf}
 use Rattle.wired_workers.proofs.Making.{bundle_long, next_new, one_gone}
 use Rattle.wired_workers.proofs.RestLemmas.{rest_first, rest_next}
 use Rattle.wired_workers.proofs.middle.deciding_of.Goals as goal

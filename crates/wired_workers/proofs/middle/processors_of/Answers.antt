@@ -1,12 +1,12 @@
 use Rattle.std.proofs.Common.{◌≡◌, ◌≤◌, ℕ, ◌+◌, ◌*◌, Some, length, refl, sym, ◌∙◌, ap, subst, arith}
 use Rattle.std.specs.Arc.{arc_value}
-use Rattle.router_ends.specs.Rows.{fresh_ends}
+use Rattle.pipe_ends.specs.Rows.{fresh_ends}
 use Rattle.router_rules.specs.Links.{link_count}
 use Rattle.router_rules.specs.declared.shared.Shared.{Shared}
-use Rattle.wired_workers.specs.Dealing.{IsBundleOf, IsLong, IsNewEnd, IsTakerThere, piping}
+use Rattle.router_pipes.specs.Dealing.{IsBundleOf, IsLong, IsNewEnd, IsTakerThere, piping}
 use Rattle.wired_workers.specs.Kits.{IsWorkingThere}
-use Rattle.wired_workers.specs.Rest.{HaveGone}
-use Rattle.wired_workers.proofs.Fresh.{takers_are}
+use Rattle.wired_workers.specs.Shares.{HaveGone}
+use Rattle.router_pipes.proofs.Fresh.{takers_are}
 use Rattle.wired_workers.proofs.Making.{all_made, all_none, all_pushed, bundle_long, long_as, next_new, none_gone, one_gone, pushed_long, rest_as, rest_ends, taker_new, working_there}
 use Rattle.wired_workers.proofs.RestLemmas.{rest_first, rest_next}
 use Rattle.wired_workers.proofs.middle.processors_of.Goals as goal

@@ -1,9 +1,10 @@
 use Rattle.std.proofs.Common.{◌≡◌, ◌+◌, ◌≤◌, length, vec_capacity}
 use Rattle.std.specs.Arc.{arc_value}
 use Rattle.router_laws.specs.Returned.{AllAt}
-use Rattle.wired_workers.specs.Dealing.{IsBundleOf, IsLong, IsNewEnd, IsTakerThere, piping}
+use Rattle.router_pipes.specs.Dealing.{IsBundleOf, IsLong, IsNewEnd, IsTakerThere, piping}
 use Rattle.wired_workers.specs.Kits.{IsWorkingThere}
-use Rattle.wired_workers.specs.Rest.{HaveGone, IsRest}
+use Rattle.wired_workers.specs.Shares.{HaveGone}
+use Rattle.router_pipes.specs.Rest.{IsRest}
 use Rattle.wired_workers.proofs.middle.processors_of.Given as goal
 
 abbrev pub invariant-loop-index : goal.invariant-loop-index

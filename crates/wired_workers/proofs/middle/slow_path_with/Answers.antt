@@ -1,7 +1,7 @@
 use Rattle.std.proofs.Common.{sym, subst}
-use Rattle.router_ends.specs.Rows.{AreEndsOf}
+use Rattle.pipe_ends.specs.Rows.{AreEndsOf}
 use Rattle.stage_parts.specs.Outlets.{senders}
-use Rattle.wired_workers.proofs.OkLemmas.{of_ok}
+use Rattle.router_pipes.proofs.OkLemmas.{of_ok}
 use Rattle.wired_workers.proofs.middle.slow_path_with.Goals as goal
 
 pub returns-clause-links : goal.returns-clause-links

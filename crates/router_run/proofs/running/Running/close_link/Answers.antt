@@ -3,9 +3,9 @@ use Rattle.std.specs.Arc.{arc_value}
 use Rattle.process_packet.specs.declared.config.Config.{Config}
 use Rattle.router_rules.specs.Links.{link_count}
 use Rattle.router_rules.specs.declared.shared.Shared.{Shared}
-use Rattle.router_run.specs.Closing.{Closing}
+use Rattle.router_pipes.specs.Closing.{Closing}
 use Rattle.router_run.specs.Run.{Run}
-use Rattle.router_run.proofs.ClosingLemmas.{controller_long, controller_used, crew_after}
+use Rattle.router_run.proofs.CrewLemmas.{controller_long, controller_used, crew_after}
 use Rattle.router_run.proofs.Finish.{crew_as, left_as, space_as}
 use Rattle.router_run.proofs.running.Running.close_link.Goals as goal
 

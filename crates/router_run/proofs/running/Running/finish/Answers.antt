@@ -1,7 +1,7 @@
 use Rattle.std.proofs.Common.{length, sym, ◌∙◌, ap}
 use Rattle.router_laws.proofs.Returned.{runs_as_told}
 use Rattle.router_run.proofs.Finish.{has_run, inner_count, inner_ended, left_as, middle_ended, outer_count, outer_ended, run_as, settled, shares_count, the_slow}
-use Rattle.router_run.proofs.Parted.{own_size, own_space}
+use Rattle.run_report.proofs.PartedLemmas.{own_size, own_space}
 use Rattle.router_run.proofs.Sized.{is_sized}
 use Rattle.router_run.proofs.running.Running.finish.Goals as goal
 

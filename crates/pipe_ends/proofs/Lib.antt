@@ -1,0 +1,3 @@
+pub mod RowLemmas
+pub mod SettledLemmas
+pub mod ShuttingLemmas

@@ -1,0 +1,46 @@
+//! Ends that push marks alone, all of one worker.
+
+ghost use Rattle.std.specs.Prelude.{◌≡◌, ◌≤◌, ◌<◌, [], length, true, slice_index_or};
+ghost use Rattle.pipe_ends.specs.Shutting.{AreMarking, AreOpen, ClosesAt, EachEnds, PushMarks, Shutting, shutter_ends};
+
+use crate::ends::Ends;
+use crate::shutter::{CloseFault, Shutter};
+use std::sync::Wait;
+
+/// Tries the closing mark of the pipe at a place once, where it is not there yet.
+pub fn close_at<T: Drop, R: Wait>(
+    rt: &R,
+    shutters: &mut Vec<Shutter<T>>,
+    at: usize,
+) -> Result<(), CloseFault>
+    requires there { at < length shutters.old.items }
+    requires used { (d : Shutting T) → (slice_index_or shutters.old.items at d).used ≡ true }
+    requires unended { AreOpen shutters.old.items }
+    ensures { ClosesAt at result shutters.old.items shutters.new.items }
+{
+    shutters[at].close(rt)
+}
+
+/// Tries the end mark of each pipe that is used until it is accepted.
+pub fn mark_all<T: Drop, R: Wait>(rt: &R, shutters: &mut Vec<Shutter<T>>)
+    requires { AreOpen shutters.old.items }
+    ensures { EachEnds shutters.old.items shutters.new.items }
+{
+    for k in 0..shutters.len() {
+        shutters[k].end(rt);
+    }
+}
+
+/// The producers of these ends, put where there is room for them. It takes no memory.
+pub fn bare_shutters<T: Drop>(shutters: Vec<Shutter<T>>, room: Ends<T>) -> Ends<T>
+    requires { (room.ends ≡ []) × (length shutters.items ≤ room.room) }
+    ensures same { result.ends ≡ shutter_ends shutters.items }
+    ensures marking { AreMarking shutters.items }
+    ensures marks { PushMarks shutters.items }
+{
+    let mut row = room;
+    for shutter in shutters {
+        row.put(shutter.into_producer());
+    }
+    row
+}

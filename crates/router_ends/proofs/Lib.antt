@@ -1,4 +1,0 @@
-pub mod RowLemmas
-pub mod SettledLemmas
-pub mod HandingLemmas
-pub mod ShuttingLemmas

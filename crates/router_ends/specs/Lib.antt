@@ -1,4 +1,0 @@
-pub mod Rows
-pub mod Settled
-pub mod Handing
-pub mod Shutting

@@ -1,0 +1,5 @@
+pub mod Piping
+pub mod Rest
+pub mod Dealing
+pub mod Handing
+pub mod Closing

@@ -1,0 +1,68 @@
+use Rattle.std.proofs.Common.{◌≡◌, Ok, ◌+◌, ◌*◌, length, refl, ◌∙◌, ap, subst, arith}
+use Rattle.std.specs.Arc.{arc_value}
+use Rattle.pipe_ends.specs.Rows.{fresh_ends}
+use Rattle.pipe_ends.specs.Shutting.{AreShutters}
+use Rattle.router_rules.specs.Links.{link_count}
+use Rattle.router_rules.specs.declared.shared.Shared.{Shared}
+use Rattle.router_pipes.specs.Dealing.{IsBundleOf}
+use Rattle.wired_workers.specs.Kits.{IsLeavingAt}
+use Rattle.router_pipes.specs.Piping.{are_used}
+use Rattle.router_pipes.specs.Rest.{IsRest}
+use Rattle.wired_workers.proofs.Making.{bundle_long, ends_of}
+use Rattle.router_pipes.proofs.OkLemmas.{of_ok}
+use Rattle.wired_workers.proofs.RestLemmas.{rest_first}
+use Rattle.router_run.proofs.worker_parts.after_receivers.Goals as goal
+
+pub deciding_of-requires-clause-shares : goal.deciding_of-requires-clause-shares
+deciding_of-requires-clause-shares g c = let r = c.requires.shares in record { each = r.each; enough = let e = r.enough in omega arith }
+
+pub shutters-closing-requires-clause-fresh : goal.shutters-closing-requires-clause-fresh
+shutters-closing-requires-clause-fresh g c =
+    let config = (arc_value c.args.common.now.shared).config in
+    let shapes = c.args.pipes.now.outer.items in
+    (config.processors + 1, shapes, rest_first (IsBundleOf shapes) (config.processors + 1) (config.processors + 2) c.deciding_of.new.remaining.links c.next.new.self c.next.result c.next.ensures c.in_ok-deciding.ensures.links)
+
+pub shutters-closing-requires-clause-few : goal.shutters-closing-requires-clause-few
+shutters-closing-requires-clause-few g c =
+    let config = (arc_value c.args.common.now.shared).config in
+    let shapes = c.args.pipes.now.outer.items in
+    let is : c.next.result.ends ≡ fresh_ends (config.processors + 1) shapes = rest_first (IsBundleOf shapes) (config.processors + 1) (config.processors + 2) c.deciding_of.new.remaining.links c.next.new.self c.next.result c.next.ensures c.in_ok-deciding.ensures.links in
+    let long = bundle_long (2 * link_count config) (config.processors + 1) (length c.next.result.ends) shapes c.next.result.ends refl is c.requires.pipes.2 in
+    let few = c.link_count.ensures.few in
+    let links = c.link_count.ensures.count ∙ ap (λ (s : Shared). link_count s.config) c.deref.ensures in
+    omega arith
+
+pub all_leaving-leaving-requires-clause-shares : goal.all_leaving-leaving-requires-clause-shares
+all_leaving-leaving-requires-clause-shares g c =
+    let gone = c.in_ok-deciding.ensures.shares in
+    record { each = gone.each; enough = let k = gone.count in let e = c.requires.shares.enough in omega arith }
+
+pub returns-clause-working : goal.returns-clause-working
+returns-clause-working g c = of_ok _ c.deciding_of.result c.in_ok-decided.decided (c.in_ok-deciding.was ∙ c.in_ok-decided.ensures.0) c.deciding_of.ensures.working
+
+pub returns-clause-answering : goal.returns-clause-answering
+returns-clause-answering g c = of_ok _ c.deciding_of.result c.in_ok-decided.decided (c.in_ok-deciding.was ∙ c.in_ok-decided.ensures.0) c.deciding_of.ensures.answering
+
+pub returns-clause-leaving : goal.returns-clause-leaving
+returns-clause-leaving g c =
+    let made = c.in_ok-decided.forwarders in
+    let ends = of_ok (λ r. (c.all_leaving-leaving.result ≡ Ok r.0) × (c.shutters-closing.result ≡ Ok r.1)) c.both-ends.result (made, c.in_ok-decided.shutters) c.in_ok-decided.ensures.1 c.both-ends.ensures in
+    let config = (arc_value c.args.common.now.shared).config in
+    of_ok (λ v. IsRest (IsLeavingAt config c.args.pipes.now.outer.items) 0 (link_count config) v.items) c.all_leaving-leaving.result made ends.0 c.all_leaving-leaving.ensures.made
+
+pub returns-clause-unmarked : goal.returns-clause-unmarked
+returns-clause-unmarked g c =
+    let made = c.in_ok-decided.shutters in
+    let ends = of_ok (λ r. (c.all_leaving-leaving.result ≡ Ok r.0) × (c.shutters-closing.result ≡ Ok r.1)) c.both-ends.result (c.in_ok-decided.forwarders, made) c.in_ok-decided.ensures.1 c.both-ends.ensures in
+    of_ok _ c.shutters-closing.result made ends.1 c.shutters-closing.ensures.unended
+
+pub returns-clause-shutting : goal.returns-clause-shutting
+returns-clause-shutting g c =
+    let config = (arc_value c.args.common.now.shared).config in
+    let shapes = c.args.pipes.now.outer.items in
+    let made = c.in_ok-decided.shutters in
+    let is : c.next.result.ends ≡ fresh_ends (config.processors + 1) shapes = rest_first (IsBundleOf shapes) (config.processors + 1) (config.processors + 2) c.deciding_of.new.remaining.links c.next.new.self c.next.result c.next.ensures c.in_ok-deciding.ensures.links in
+    let ends = of_ok (λ r. (c.all_leaving-leaving.result ≡ Ok r.0) × (c.shutters-closing.result ≡ Ok r.1)) c.both-ends.result (c.in_ok-decided.forwarders, made) c.in_ok-decided.ensures.1 c.both-ends.ensures in
+    let shut = of_ok _ c.shutters-closing.result made ends.1 c.shutters-closing.ensures.ends in
+    subst (λ (s : Shared). AreShutters (are_used s.config) 0 (config.processors + 1) shapes made.items) c.deref-2.ensures
+    (shut (config.processors + 1) shapes (ends_of (config.processors + 1) shapes c.next.result.ends is))

@@ -1,0 +1,68 @@
+//! The workers stopped and joined.
+
+ghost use Rattle.pipe_ends.specs.Shutting.{AreOpen, EachEnds};
+ghost use Rattle.run_laws.specs.Ended.{IsBack};
+ghost use Rattle.run_report.specs.Parting.{crew_of};
+
+use pipe_ends::{Shutter, mark_all};
+use router_pipes::{Controller, notify_all};
+use router_stages::{Forwarder, Processor, Receiver, SlowPath};
+use run_report::Joined;
+use stage_parts::{EgressPacket, Gate, Router, Sink, Source};
+use std::rt::Clock;
+use std::sync::Wait;
+use std::thread::Threads;
+use worker_threads::{Both, Orders, join_all};
+
+/// The threads: the receivers' and processors', then the slow path's and the forwarders'.
+pub type Threaded<N, S, K, G> = (
+    Both<N, Receiver<N, S>, Processor<N, G>>,
+    Both<N, SlowPath<N>, Forwarder<N, K>>,
+);
+
+// Marks the ends of the controller's pipes, and wakes the forwarders.
+fn marked<N: Router, R: Wait>(rt: &R, controller: Controller<N>) -> Vec<Shutter<EgressPacket<N>>>
+    requires unmarked { AreOpen controller.shutters.items }
+    ensures { EachEnds controller.shutters.items result.items }
+{
+    let Controller {
+        shared: _,
+        mut shutters,
+        forwarder_events,
+    } = controller;
+    mark_all(rt, &mut shutters);
+    notify_all(forwarder_events.as_slice());
+    shutters
+}
+
+/// Stops the workers and joins them.
+pub fn join_workers<N, S, K, G, R>(
+    rt: &R,
+    orders: &Orders<N>,
+    controller: Controller<N>,
+    threads: Threaded<N, S, K, G>,
+) -> Joined<N, S, K, G>
+where
+    N: Router,
+    S: Source,
+    K: Sink,
+    G: Gate + Drop,
+    R: Threads + Wait + Clock,
+    requires unmarked { AreOpen controller.shutters.items }
+    ensures { IsBack (crew_of threads.0.first threads.0.second threads.1.first threads.1.second controller.shutters.items) result }
+{
+    let (front, rear) = threads;
+    orders.stop();
+    let receivers = join_all(rt, front.first);
+    let processors = join_all(rt, front.second);
+    let slow = join_all(rt, rear.first);
+    let shutters = marked(rt, controller);
+    let forwarders = join_all(rt, rear.second);
+    Joined {
+        receivers,
+        processors,
+        slow,
+        forwarders,
+        shutters,
+    }
+}

@@ -1,0 +1,120 @@
+//! The teams that get the threads, before their workers are there.
+
+ghost use Rattle.std.specs.Prelude.{◌≡◌, IfOk, [], vec_capacity};
+
+use router_pipes::Events;
+use stage_parts::{Event, Router, both};
+use std::alloc::{AllocError, Global};
+use std::slice;
+use worker_threads::{Handle, Orders, Team, Work};
+
+// Orders for the threads of so many workers, each with its worker's event if it has one.
+fn orders_for<N: Router>(
+    alloc: Global,
+    orders: &Orders<N>,
+    events: &[Event],
+    count: usize,
+) -> Result<Vec<Orders<N>>, AllocError> {
+    let mut each = Vec::new(alloc);
+    for k in 0..count {
+        let next = match events.get(k) {
+            Some(event) => orders.another_with(event),
+            None => orders.another(),
+        };
+        each.push(next?)?;
+    }
+    Ok(each)
+}
+
+// A team of so many workers, none of whom is there yet.
+fn team_for<N: Router, W: Work<N> + Drop>(
+    alloc: Global,
+    orders: &Orders<N>,
+    events: &[Event],
+    count: usize,
+) -> Result<Team<N, W>, AllocError>
+    ensures workers { IfOk result (λ t. (t.workers.items ≡ []) × (vec_capacity t.workers ≡ count)) }
+    ensures room { IfOk result (λ t. (t.room.items ≡ []) × (vec_capacity t.room ≡ count)) }
+{
+    let orders = orders_for(alloc, orders, events, count)?;
+    let workers = Vec::<W>::with_capacity(alloc, count)?;
+    let room = Vec::<Handle<N, W>>::with_capacity(alloc, count)?;
+    Ok(Team {
+        workers,
+        orders,
+        room,
+    })
+}
+
+// Two such teams, of workers that have these events.
+fn two_teams_for<N: Router, V: Work<N> + Drop, W: Work<N> + Drop>(
+    alloc: Global,
+    orders: &Orders<N>,
+    first_events: &[Event],
+    first: usize,
+    second_events: &[Event],
+    second: usize,
+) -> Result<(Team<N, V>, Team<N, W>), AllocError>
+    ensures first { IfOk result (λ r. (r.0.workers.items ≡ []) × (vec_capacity r.0.workers ≡ first) × (r.0.room.items ≡ []) × (vec_capacity r.0.room ≡ first)) }
+    ensures second { IfOk result (λ r. (r.1.workers.items ≡ []) × (vec_capacity r.1.workers ≡ second) × (r.1.room.items ≡ []) × (vec_capacity r.1.room ≡ second)) }
+{
+    let one = team_for(alloc, orders, first_events, first);
+    let other = team_for(alloc, orders, second_events, second);
+    let teams = both(one, other)?;
+    Ok(teams)
+}
+
+/// The teams of workers of any four kinds, in pairs: those at the router's front, the receivers and
+/// processors, and those at its rear, the slow path and the forwarders.
+#[derive(Drop)]
+pub struct Teams<N, A, B, C, D>
+where
+    N: Router,
+    A: Work<N>,
+    B: Work<N>,
+    C: Work<N>,
+    D: Work<N>,
+{
+    pub front: (Team<N, A>, Team<N, B>),
+    pub rear: (Team<N, C>, Team<N, D>),
+}
+
+/// The teams of a router with these numbers of links and processors, with room for the workers, none of
+/// whom is there yet.
+pub fn teams_for<N, A, B, C, D>(
+    alloc: Global,
+    orders: &Orders<N>,
+    events: &Events,
+    links: usize,
+    processors: usize,
+) -> Result<Teams<N, A, B, C, D>, AllocError>
+where
+    N: Router,
+    A: Work<N> + Drop,
+    B: Work<N> + Drop,
+    C: Work<N> + Drop,
+    D: Work<N> + Drop,
+    ensures receivers { IfOk result (λ t. (t.front.0.workers.items ≡ []) × (vec_capacity t.front.0.workers ≡ links) × (t.front.0.room.items ≡ []) × (vec_capacity t.front.0.room ≡ links)) }
+    ensures processors { IfOk result (λ t. (t.front.1.workers.items ≡ []) × (t.front.1.room.items ≡ []) × (vec_capacity t.front.1.room ≡ processors)) }
+    ensures slow { IfOk result (λ t. (t.rear.0.workers.items ≡ []) × (vec_capacity t.rear.0.workers ≡ 1) × (t.rear.0.room.items ≡ []) × (vec_capacity t.rear.0.room ≡ 1)) }
+    ensures forwarders { IfOk result (λ t. (t.rear.1.workers.items ≡ []) × (vec_capacity t.rear.1.workers ≡ links) × (t.rear.1.room.items ≡ []) × (vec_capacity t.rear.1.room ≡ links)) }
+{
+    let front = two_teams_for(
+        alloc,
+        orders,
+        &[],
+        links,
+        events.processors.as_slice(),
+        processors,
+    );
+    let rear = two_teams_for(
+        alloc,
+        orders,
+        slice::from_ref(&events.slow),
+        1,
+        events.forwarders.as_slice(),
+        links,
+    );
+    let (front, rear) = both(front, rear)?;
+    Ok(Teams { front, rear })
+}

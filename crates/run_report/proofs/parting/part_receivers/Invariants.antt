@@ -1,0 +1,24 @@
+use Rattle.std.proofs.Common.{◌≡◌, ◌+◌, ◌++◌, ◌≤◌, length, map, vec_capacity}
+use Rattle.pipeline_laws.specs.Deeds.{Each}
+use Rattle.router_laws.specs.Keeping.{IsReceiving}
+use Rattle.stage_parts.specs.Outlets.{senders}
+use Rattle.router_pipes.specs.Handing.{AreMarked, NeverClosed}
+use Rattle.pipe_ends.specs.Rows.{rows_of}
+use Rattle.run_report.specs.Room.{IsRoomy}
+use Rattle.run_report.proofs.parting.part_receivers.Given as goal
+
+abbrev pub invariant-loop-k : goal.invariant-loop-k
+invariant-loop-k g l = record {
+  left : l.k + length l.receivers ≡ length l.fn.receivers.items;
+  ends : Each (λ r. length r.side.processors ≡ l.pipes) l.receivers;
+  rows : Each (IsRoomy l.pipes) l.rows × (length l.receivers ≤ length l.rows);
+  bundles : rows_of l.bundles.items ++ map (λ r. senders r.side.processors) l.receivers ≡ map (λ r. senders r.side.processors) l.fn.receivers.items;
+  bundle_room : (length l.bundles.items ≡ l.k) × (length l.fn.receivers.items ≤ vec_capacity l.bundles);
+  sources : l.sources.items ++ map (λ r. r.source) l.receivers ≡ map (λ r. r.source) l.fn.receivers.items;
+  source_room : (length l.sources.items ≡ l.k) × (length l.fn.receivers.items ≤ vec_capacity l.sources);
+  shares : l.shares.items ++ map (λ r. r.side.share) l.receivers ≡ l.fn.shares.items ++ map (λ r. r.side.share) l.fn.receivers.items;
+  share_room : (length l.shares.items + length l.receivers ≤ vec_capacity l.shares) × (vec_capacity l.shares ≡ vec_capacity l.fn.shares);
+  laws : Each (λ r. IsReceiving r.side.config r.side.link r.side.interface r.number (g.S.Source.told r.source) r.side.stock.free.looks (senders r.side.processors) r.side.share × NeverClosed (senders r.side.processors)) l.receivers
+      → Each (λ r. IsReceiving r.side.config r.side.link r.side.interface r.number (g.S.Source.told r.source) r.side.stock.free.looks (senders r.side.processors) r.side.share × NeverClosed (senders r.side.processors)) l.fn.receivers.items;
+  marks : Each (λ r. AreMarked r.side.processors) l.receivers → Each (λ r. AreMarked r.side.processors) l.fn.receivers.items;
+}

@@ -1,9 +1,0 @@
-use Rattle.std.proofs.Common.{ℕ, subst}
-use Rattle.wired_workers.specs.Dealing.{IsNewEnd}
-use Rattle.wired_workers.specs.Rest.{IsRest}
-use Rattle.wired_workers.proofs.Fresh.{new_ends}
-use Rattle.wired_workers.proofs.pipes.middle_pipe.Goals as goal
-
-pub returns-clause-ends : goal.returns-clause-ends
-returns-clause-ends g c =
-    subst (λ (n : ℕ). IsRest (IsNewEnd c.in_ok-made.made.0) 0 n c.in_ok-made.made.1.items) c.from-processors.ensures (new_ends _ _ _ _ c.in_ok-made.ensures.pipe.1 c.in_ok-made.ensures.pipe.0 c.in_ok-made.ensures.producers)
