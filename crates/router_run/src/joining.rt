@@ -16,8 +16,8 @@ use worker_threads::{Both, Orders, join_all};
 
 /// The threads: the receivers' and processors', then the slow path's and the forwarders'.
 pub type Threaded<N, S, K, G> = (
-    Both<N, Receiver<N, S>, Processor<N, G>>,
-    Both<N, SlowPath<N>, Forwarder<N, K>>,
+    Both<Receiver<N, S>, Processor<N, G>>,
+    Both<SlowPath<N>, Forwarder<N, K>>,
 );
 
 // Marks the ends of the controller's pipes, and wakes the forwarders.
@@ -46,7 +46,7 @@ where
     N: Router,
     S: Source,
     K: Sink,
-    G: Gate + Drop,
+    G: Gate,
     R: Threads + Wait + Clock,
     requires unmarked { AreOpen controller.shutters.items }
     ensures { IsBack (crew_of threads.0.first threads.0.second threads.1.first threads.1.second controller.shutters.items) result }

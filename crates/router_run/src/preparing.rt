@@ -20,7 +20,7 @@ use std::alloc::{AllocError, Global};
 use std::sync::atomic::AtomicU64;
 use std::sync::{Arc, Wait};
 use wired_workers::Common;
-use worker_threads::{HOLD, Orders, Work};
+use worker_threads::{HOLD, Orders, Worker};
 
 /// What a run stands on: what its workers share, and the orders of their threads, with the book.
 #[derive(Drop)]
@@ -107,10 +107,10 @@ pub struct Prepared<N, G, A, B, C, D, S, K>
 where
     N: Router,
     G: Gate,
-    A: Work<N>,
-    B: Work<N>,
-    C: Work<N>,
-    D: Work<N>,
+    A: Worker,
+    B: Worker,
+    C: Worker,
+    D: Worker,
 {
     pub base: Base<N>,
     pub worker_parts: WorkerParts<N, G>,
@@ -129,10 +129,10 @@ pub fn prepare<N, G, A, B, C, D, S, K, R>(
 where
     N: Router,
     G: Gate + Drop,
-    A: Work<N> + Drop,
-    B: Work<N> + Drop,
-    C: Work<N> + Drop,
-    D: Work<N> + Drop,
+    A: Worker + Drop,
+    B: Worker + Drop,
+    C: Worker + Drop,
+    D: Worker + Drop,
     S: Drop,
     K: Drop,
     R: Wait,

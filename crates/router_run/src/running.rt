@@ -40,7 +40,7 @@ where
     N: Router,
     S: Source,
     K: Sink,
-    G: Gate + Drop,
+    G: Gate,
 {
     rt: R,
     controller: Controller<N>,
@@ -55,7 +55,7 @@ where
     N: Router,
     S: Source,
     K: Sink,
-    G: Gate + Drop,
+    G: Gate,
 {
     ghost use Rattle.std.specs.Prelude.{◌≡◌, ◌+◌, ◌*◌};
     ghost use Rattle.std.specs.Arc.{arc_value};

@@ -6,7 +6,7 @@ use router_pipes::Events;
 use stage_parts::{Event, Router, both};
 use std::alloc::{AllocError, Global};
 use std::slice;
-use worker_threads::{Handle, Orders, Team, Work};
+use worker_threads::{Handle, Orders, Team, Worker};
 
 // Orders for the threads of so many workers, each with its worker's event if it has one.
 fn orders_for<N: Router>(
@@ -27,7 +27,7 @@ fn orders_for<N: Router>(
 }
 
 // A team of so many workers, none of whom is there yet.
-fn team_for<N: Router, W: Work<N> + Drop>(
+fn team_for<N: Router, W: Worker + Drop>(
     alloc: Global,
     orders: &Orders<N>,
     events: &[Event],
@@ -38,7 +38,7 @@ fn team_for<N: Router, W: Work<N> + Drop>(
 {
     let orders = orders_for(alloc, orders, events, count)?;
     let workers = Vec::<W>::with_capacity(alloc, count)?;
-    let room = Vec::<Handle<N, W>>::with_capacity(alloc, count)?;
+    let room = Vec::<Handle<W>>::with_capacity(alloc, count)?;
     Ok(Team {
         workers,
         orders,
@@ -47,7 +47,7 @@ fn team_for<N: Router, W: Work<N> + Drop>(
 }
 
 // Two such teams, of workers that have these events.
-fn two_teams_for<N: Router, V: Work<N> + Drop, W: Work<N> + Drop>(
+fn two_teams_for<N: Router, V: Worker + Drop, W: Worker + Drop>(
     alloc: Global,
     orders: &Orders<N>,
     first_events: &[Event],
@@ -70,10 +70,10 @@ fn two_teams_for<N: Router, V: Work<N> + Drop, W: Work<N> + Drop>(
 pub struct Teams<N, A, B, C, D>
 where
     N: Router,
-    A: Work<N>,
-    B: Work<N>,
-    C: Work<N>,
-    D: Work<N>,
+    A: Worker,
+    B: Worker,
+    C: Worker,
+    D: Worker,
 {
     pub front: (Team<N, A>, Team<N, B>),
     pub rear: (Team<N, C>, Team<N, D>),
@@ -90,10 +90,10 @@ pub fn teams_for<N, A, B, C, D>(
 ) -> Result<Teams<N, A, B, C, D>, AllocError>
 where
     N: Router,
-    A: Work<N> + Drop,
-    B: Work<N> + Drop,
-    C: Work<N> + Drop,
-    D: Work<N> + Drop,
+    A: Worker + Drop,
+    B: Worker + Drop,
+    C: Worker + Drop,
+    D: Worker + Drop,
     ensures receivers { IfOk result (λ t. (t.front.0.workers.items ≡ []) × (vec_capacity t.front.0.workers ≡ links) × (t.front.0.room.items ≡ []) × (vec_capacity t.front.0.room ≡ links)) }
     ensures processors { IfOk result (λ t. (t.front.1.workers.items ≡ []) × (t.front.1.room.items ≡ []) × (vec_capacity t.front.1.room ≡ processors)) }
     ensures slow { IfOk result (λ t. (t.rear.0.workers.items ≡ []) × (vec_capacity t.rear.0.workers ≡ 1) × (t.rear.0.room.items ≡ []) × (vec_capacity t.rear.0.room ≡ 1)) }

@@ -17,7 +17,7 @@ use std::test::*;
 use std::thread::Threads;
 use std::time::Clock;
 use worker_threads::{
-    Both, HOLD, Orders, Started, Team, ThreadFault, Work, join_all, start_both, start_four,
+    Both, HOLD, Orders, Started, Team, ThreadFault, Work, Worker, join_all, start_both, start_four,
 };
 
 // It counts a number of datagrams as received, one in a turn, is quiet for a number of turns, and has ended.
@@ -28,17 +28,21 @@ struct Countdown<N: Router> {
     share: Share<N>,
 }
 
+impl<N: Router> Worker for Countdown<N> {
+    ghost use Rattle.std.specs.Prelude.{◌≡◌};
+
+    ghost same = { λ a b. Unit {0} };
+
+    ghost has_ended = { λ a. a.left ≡ 0 };
+}
+
 impl<N: Router> Work<N> for Countdown<N> {
     ghost use Rattle.std.specs.Prelude.{◌≡◌};
     ghost use Rattle.packet_ledger.specs.Share.{HasRoom};
 
-    ghost same = { λ a b. Unit {0} };
-
     ghost may_turn = { λ a. HasRoom a.share.counts };
 
     ghost turned = { λ turn a b. Unit {0} };
-
-    ghost has_ended = { λ a. a.left ≡ 0 };
 
     ghost is_posted = { λ a. Unit {0} };
 
@@ -80,7 +84,7 @@ impl<N: Router> Work<N> for Countdown<N> {
 }
 
 // Workers and their orders, with room for the handles of their threads.
-fn team_of<N: Router, W: Work<N> + Drop, R: Abort>(
+fn team_of<N: Router, W: Worker + Drop, R: Abort>(
     rt: &R,
     alloc: Global,
     workers: Vec<W>,
@@ -152,7 +156,7 @@ fn is_over<N: Router>(worker: &Countdown<N>) -> bool {
 }
 
 // How many workers came back, each over.
-fn joined<N, R>(rt: &R, started: Started<N, Countdown<N>>) -> usize
+fn joined<N, R>(rt: &R, started: Started<Countdown<N>>) -> usize
 where
     N: Router,
     R: Threads + Wait + Clock,
@@ -182,7 +186,7 @@ fn orders_for<N: Router, R: Abort>(
     (Orders::new(word, book), shares)
 }
 
-type Countdowns<N> = Both<N, Countdown<N>, Countdown<N>>;
+type Countdowns<N> = Both<Countdown<N>, Countdown<N>>;
 
 // Four teams of these sizes, in threads.
 fn started<N, R>(
@@ -279,14 +283,16 @@ impl Feeder {
     }
 }
 
-impl<N: Router> Work<N> for Feeder {
+impl Worker for Feeder {
     ghost same = { λ a b. Unit {0} };
 
+    ghost has_ended = { λ a. Unit {0} };
+}
+
+impl<N: Router> Work<N> for Feeder {
     ghost may_turn = { λ a. Unit {0} };
 
     ghost turned = { λ turn a b. Unit {0} };
-
-    ghost has_ended = { λ a. Unit {0} };
 
     ghost is_posted = { λ a. Unit {0} };
 
@@ -329,14 +335,16 @@ struct Drain {
     sum: u64,
 }
 
-impl<N: Router> Work<N> for Drain {
+impl Worker for Drain {
     ghost same = { λ a b. Unit {0} };
 
+    ghost has_ended = { λ a. Unit {0} };
+}
+
+impl<N: Router> Work<N> for Drain {
     ghost may_turn = { λ a. Unit {0} };
 
     ghost turned = { λ turn a b. Unit {0} };
-
-    ghost has_ended = { λ a. Unit {0} };
 
     ghost is_posted = { λ a. Unit {0} };
 
@@ -379,7 +387,7 @@ impl<N: Router> Work<N> for Drain {
 }
 
 // One worker, and room for its handle.
-fn alone<N: Router, W: Work<N> + Drop, R: Abort>(
+fn alone<N: Router, W: Worker + Drop, R: Abort>(
     rt: &R,
     alloc: Global,
     worker: W,
@@ -412,7 +420,7 @@ fn at_both_ends<R: Abort>(rt: &R, alloc: Global, event: Event) -> (Feeder, Drain
 }
 
 // Both workers in threads. The second one sleeps until the first one's event.
-fn feeding<N, R>(rt: R, alloc: Global, orders: &Orders<N>) -> Both<N, Feeder, Drain>
+fn feeding<N, R>(rt: R, alloc: Global, orders: &Orders<N>) -> Both<Feeder, Drain>
 where
     N: Router + Send + Sync + 'static,
     R: Abort + Threads + Wait + Clock + Copy + Send + 'static,
@@ -428,11 +436,7 @@ where
 }
 
 // Joins both: what the second one took, in sum.
-fn taken_by<N, R>(rt: &R, both: Both<N, Feeder, Drain>) -> u64
-where
-    N: Router,
-    R: Abort + Threads + Wait + Clock,
-{
+fn taken_by<R: Abort + Threads + Wait + Clock>(rt: &R, both: Both<Feeder, Drain>) -> u64 {
     let Both { first, second } = both;
     drop(join_all(rt, first));
     let mut back = join_all(rt, second);

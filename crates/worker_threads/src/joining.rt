@@ -4,18 +4,16 @@ ghost use Rattle.worker_threads.specs.Back.{AreBack};
 
 use crate::starting::Started;
 use crate::thread::Handle;
-use crate::work::Work;
-use packet_ledger::Router;
+use crate::work::Worker;
 use std::sync::Wait;
 use std::thread;
 use std::thread::Threads;
 use std::time::{Clock, Duration};
 
 // Joins a worker that was told to run. One that gave up never comes.
-fn join_worker<N, W, R>(rt: &R, handle: Handle<N, W>) -> W
+fn join_worker<W, R>(rt: &R, handle: Handle<W>) -> W
 where
-    N: Router,
-    W: Work<N>,
+    W: Worker,
     R: Threads + Wait + Clock,
     ensures { W.same handle.promise.0.value result × W.has_ended result }
 {
@@ -30,10 +28,9 @@ where
 
 /// Joins workers that were told to run, one by one, into the list that they came from. It takes no memory.
 /// Each has ended, and is the same as when its thread was made.
-pub fn join_all<N, W, R>(rt: &R, started: Started<N, W>) -> Vec<W>
+pub fn join_all<W, R>(rt: &R, started: Started<W>) -> Vec<W>
 where
-    N: Router,
-    W: Work<N>,
+    W: Worker,
     R: Threads + Wait + Clock,
     ensures { AreBack (λ a b. W.same a b × W.has_ended b) started result.items }
 {

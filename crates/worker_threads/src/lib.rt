@@ -16,4 +16,4 @@ pub use joining::join_all;
 pub use orders::{GIVE_UP, HOLD, Orders, RUN};
 pub use starting::{Both, Started, Team, start_all, start_both, start_four};
 pub use thread::{Handle, STACK, ThreadFault, WillEnd, start_worker, work_on};
-pub use work::Work;
+pub use work::{Work, Worker};

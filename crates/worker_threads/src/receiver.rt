@@ -1,24 +1,28 @@
 //! A receiver, as the loop of a thread drives it.
 
-use crate::work::Work;
+use crate::work::{Work, Worker};
 use packet_ledger::Book;
 use router_stages::{Receiver, Turn};
 use stage_parts::{Router, Source};
 use std::sync::Wait;
 
+impl<N: Router, S: Source> Worker for Receiver<N, S> {
+    ghost use Rattle.worker_threads.specs.Workers.{IsSameReceiver, ReceiverEnded};
+
+    ghost same = { λ a b. IsSameReceiver a b };
+
+    ghost has_ended = { λ r. ReceiverEnded r };
+}
+
 impl<N: Router, S: Source> Work<N> for Receiver<N, S> {
     ghost use Rattle.std.specs.Prelude.{◌≡◌, false, MatchBool};
     ghost use Rattle.packet_ledger.specs.Share.{HasRoom, IsDrained};
     ghost use Rattle.router_stages.specs.Receiving.{Received};
-    ghost use Rattle.worker_threads.specs.Workers.{IsSameReceiver, ReceiverEnded, receiver_self, receiver_then};
-
-    ghost same = { λ a b. IsSameReceiver a b };
+    ghost use Rattle.worker_threads.specs.Workers.{receiver_self, receiver_then};
 
     ghost may_turn = { λ r. HasRoom r.side.share.counts };
 
     ghost turned = { λ turn a b. Received S.told S.failed turn a b };
-
-    ghost has_ended = { λ r. ReceiverEnded r };
 
     ghost is_posted = { λ r. IsDrained r.side.share };
 

@@ -1,24 +1,28 @@
 //! The slow path, as the loop of a thread drives it.
 
-use crate::work::Work;
+use crate::work::{Work, Worker};
 use packet_ledger::Book;
 use router_stages::{SlowPath, Turn};
 use stage_parts::Router;
 use std::sync::Wait;
 
+impl<N: Router> Worker for SlowPath<N> {
+    ghost use Rattle.worker_threads.specs.Workers.{IsSameSlowPath, SlowPathEnded};
+
+    ghost same = { λ a b. IsSameSlowPath a b };
+
+    ghost has_ended = { λ a. SlowPathEnded a };
+}
+
 impl<N: Router> Work<N> for SlowPath<N> {
     ghost use Rattle.std.specs.Prelude.{◌≡◌, false};
     ghost use Rattle.packet_ledger.specs.Share.{HasRoom, IsDrained};
     ghost use Rattle.router_stages.specs.Answering.{Answered};
-    ghost use Rattle.worker_threads.specs.Workers.{IsSameSlowPath, SlowPathEnded, slow_self, slow_then};
-
-    ghost same = { λ a b. IsSameSlowPath a b };
+    ghost use Rattle.worker_threads.specs.Workers.{slow_self, slow_then};
 
     ghost may_turn = { λ a. HasRoom a.side.share.counts };
 
     ghost turned = { λ turn a b. Answered turn a b };
-
-    ghost has_ended = { λ a. SlowPathEnded a };
 
     ghost is_posted = { λ a. IsDrained a.side.share };
 

@@ -4,7 +4,7 @@ ghost use Rattle.std.specs.Prelude.{◌≡◌, ◌≤◌, [], IfOk, length, vec_
 
 use crate::orders::Orders;
 use crate::thread::{Handle, ThreadFault, start_worker};
-use crate::work::Work;
+use crate::work::{Work, Worker};
 use packet_ledger::Router;
 use std::marker::Model;
 use std::sync::Wait;
@@ -13,21 +13,21 @@ use std::time::Clock;
 
 /// Workers of one kind, orders for the thread of each, in order, and room for the threads' handles.
 #[derive(Drop)]
-pub struct Team<N: Router, W: Work<N>> {
+pub struct Team<N: Router, W: Worker> {
     pub workers: Vec<W>,
     pub orders: Vec<Orders<N>>,
-    pub room: Vec<Handle<N, W>>,
+    pub room: Vec<Handle<W>>,
 }
 
 /// Workers of one kind in threads of their own, and their list, which is empty now: the room that they come
 /// back into. Contracts see the workers as they were when their threads were made.
 #[derive(Drop)]
-pub struct Started<N: Router, W: Work<N>> {
-    pub(crate) handles: Vec<Handle<N, W>>,
+pub struct Started<W: Worker> {
+    pub(crate) handles: Vec<Handle<W>>,
     pub(crate) room: Vec<W>,
 }
 
-impl<N: Router, W: Work<N>> Model for Started<N, W> {
+impl<W: Worker> Model for Started<W> {
     ghost use Rattle.std.specs.Prelude.{◌≡◌, ◌≤◌, List, [], length, map, vec_capacity};
 
     ghost Value = { List W };
@@ -38,7 +38,7 @@ impl<N: Router, W: Work<N>> Model for Started<N, W> {
 }
 
 // At `Err` one thread was refused, and those that were made are given.
-fn start_each<N, W, R>(rt: R, team: Team<N, W>) -> Result<Started<N, W>, Vec<Handle<N, W>>>
+fn start_each<N, W, R>(rt: R, team: Team<N, W>) -> Result<Started<W>, Vec<Handle<W>>>
 where
     N: Router + Send + Sync + 'static,
     W: Work<N> + Send + Drop + 'static,
@@ -73,10 +73,10 @@ where
 }
 
 // Tells the threads to give up, and joins them.
-fn give_up<N, W, R>(rt: &R, orders: &Orders<N>, handles: Vec<Handle<N, W>>)
+fn give_up<N, W, R>(rt: &R, orders: &Orders<N>, handles: Vec<Handle<W>>)
 where
     N: Router,
-    W: Work<N> + Drop,
+    W: Worker + Drop,
     R: Threads + Wait,
 {
     orders.give_up();
@@ -92,7 +92,7 @@ pub fn start_all<N, W, R>(
     rt: R,
     orders: &Orders<N>,
     team: Team<N, W>,
-) -> Result<Started<N, W>, ThreadFault>
+) -> Result<Started<W>, ThreadFault>
 where
     N: Router + Send + Sync + 'static,
     W: Work<N> + Send + Drop + 'static,
@@ -111,9 +111,9 @@ where
 
 /// The threads of two kinds of workers.
 #[derive(Drop)]
-pub struct Both<N: Router, V: Work<N>, W: Work<N>> {
-    pub first: Started<N, V>,
-    pub second: Started<N, W>,
+pub struct Both<V: Worker, W: Worker> {
+    pub first: Started<V>,
+    pub second: Started<W>,
 }
 
 /// Threads for the workers of two teams, or none.
@@ -122,7 +122,7 @@ pub fn start_both<N, V, W, R>(
     orders: &Orders<N>,
     first: Team<N, V>,
     second: Team<N, W>,
-) -> Result<Both<N, V, W>, ThreadFault>
+) -> Result<Both<V, W>, ThreadFault>
 where
     N: Router + Send + Sync + 'static,
     V: Work<N> + Send + Drop + 'static,
@@ -149,7 +149,7 @@ pub fn start_four<N, A, B, C, D, R>(
     orders: &Orders<N>,
     one: (Team<N, A>, Team<N, B>),
     other: (Team<N, C>, Team<N, D>),
-) -> Result<(Both<N, A, B>, Both<N, C, D>), ThreadFault>
+) -> Result<(Both<A, B>, Both<C, D>), ThreadFault>
 where
     N: Router + Send + Sync + 'static,
     A: Work<N> + Send + Drop + 'static,

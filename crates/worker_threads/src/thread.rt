@@ -4,11 +4,10 @@ ghost use Rattle.std.specs.Prelude.{◌≡◌, IfOk, IfSome, true};
 
 use crate::idle::{Idle, nap};
 use crate::orders::{GIVE_UP, HOLD, Orders};
-use crate::work::Work;
+use crate::work::{Work, Worker};
 use packet_ledger::{Book, Router};
 use router_stages::Turn;
 use stage_parts::Event;
-use std::marker::PhantomData;
 use std::snapshot::Snapshot;
 use std::sync::Wait;
 use std::sync::atomic::{AtomicU64, Ordering};
@@ -24,9 +23,9 @@ const TURNS: u32 = 1023;
 /// That a worker comes back ended, the same but for what it did. Only one whose thread was told to give
 /// up before its first turn doesn't come back.
 #[derive(Drop)]
-pub struct WillEnd<N, W>(pub Snapshot<W>, pub PhantomData<N>);
+pub struct WillEnd<W>(pub Snapshot<W>);
 
-impl<N: Router, W: Work<N>> Promise<Option<W>> for WillEnd<N, W> {
+impl<W: Worker> Promise<Option<W>> for WillEnd<W> {
     ghost use Rattle.std.specs.Prelude.{IfSome};
 
     ghost kept_by = { λ p r. IfSome r (λ w. W.same p.0.value w × W.has_ended w) };
@@ -252,25 +251,21 @@ fn work_once_told<N: Router, W: Work<N> + Drop, R: Wait + Clock>(
 }
 
 /// A thread of a worker, which holds until it is told to run, and what it promises.
-pub type Handle<N, W> = PromisedHandle<Option<W>, WillEnd<N, W>>;
+pub type Handle<W> = PromisedHandle<Option<W>, WillEnd<W>>;
 
 /// No thread could be made.
 #[derive(Clone, Copy, PartialEq, Eq)]
 pub struct ThreadFault;
 
 /// A thread of the worker's own, which waits for its orders. It takes no memory of the allocator.
-pub fn start_worker<N, W, R>(
-    rt: R,
-    orders: Orders<N>,
-    worker: W,
-) -> Result<Handle<N, W>, ThreadFault>
+pub fn start_worker<N, W, R>(rt: R, orders: Orders<N>, worker: W) -> Result<Handle<W>, ThreadFault>
 where
     N: Router + Send + Sync + 'static,
     W: Work<N> + Send + Drop + 'static,
     R: Threads + Wait + Clock + Copy + Send + 'static,
     ensures { IfOk result (λ h. h.promise.0.value ≡ worker) }
 {
-    let promise = WillEnd(Snapshot::of(&worker), PhantomData);
+    let promise = WillEnd(Snapshot::of(&worker));
     let builder = Builder::new().stack_size(STACK);
     match builder.spawn_with(&rt, promise, move || work_once_told(&rt, &orders, worker)) {
         Ok(handle) => Ok(handle),

@@ -6,6 +6,6 @@ abbrev pub invariant-loop-k : goal.invariant-loop-k
 invariant-loop-k g l = record {
   left : l.k + length l.handles.items ≡ l.count;
   room : length l.back.items + length l.handles.items ≤ vec_capacity l.back;
-  back : (ys : List g.row.W.Denot) → AreBack (λ a b. g.W.Work.same a b × g.W.Work.has_ended b) (map (λ h. h.promise.0.value) (reverse l.handles.items)) ys
-      → AreBack (λ a b. g.W.Work.same a b × g.W.Work.has_ended b) l.fn.started (l.back.items ++ ys);
+  back : (ys : List g.row.W.Denot) → AreBack (λ a b. g.W.Worker.same a b × g.W.Worker.has_ended b) (map (λ h. h.promise.0.value) (reverse l.handles.items)) ys
+      → AreBack (λ a b. g.W.Worker.same a b × g.W.Worker.has_ended b) l.fn.started (l.back.items ++ ys);
 }
