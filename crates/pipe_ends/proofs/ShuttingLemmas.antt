@@ -68,6 +68,12 @@ module _ {T : Type 0} where
       subst (λ (x : Shutting T). (x.closed ≡ false) × (shutting new used closed ended ≡ shutting (refused x.end (entry x.end.number (Marked Close))) x.used false x.ended)) is
       (un, ap (λ (x : Sender T). shutting x used closed ended) step ∙ ap (λ (b : Bool). shutting (refused s at) used b ended) un)
 
+  -- the mark was refused, and that is all
+  pub still_full : (s new : Sender T) (e : Entry T) (used closed ended : Bool) (h : Shutting T) → shutting s used closed ended ≡ h → ended ≡ false → new ≡ refused s e → IsStill h (shutting new used closed ended)
+  still_full s new e used closed ended h is un step =
+      subst (λ (x : Shutting T). IsStill x (shutting new used closed ended)) is
+      (subst (λ (n : Sender T). IsStill (shutting s used closed ended) (shutting n used closed ended)) (sym step) ((refl, refl, refl, refl, refl), refl, un))
+
   pub ended_now : (s : Sender T) (used closed ended : Bool) → IsShutting (shutting s used closed ended) → used ≡ true → ended ≡ false → IsShutting (shutting (offered s (entry s.number (Marked End))) used closed true)
   ended_now s used closed ended is u e = record {
     silent = silent_more s.offers s.number End is.silent;

@@ -1,4 +1,4 @@
-use Rattle.std.proofs.Common.{rules, ◌≡◌, ℕ, ◌+◌, ◌*◌, List, ◌∷◌, length, sym, ◌∙◌, ap, subst, arith}
+use Rattle.std.proofs.Common.{◌≡◌, ℕ, ◌+◌, ◌*◌, List, ◌∷◌, length, sym, ◌∙◌, ap, subst, arith}
 use Rattle.std.specs.Arc.{arc_value}
 use Rattle.process_packet.specs.declared.config.Config.{Config}
 use Rattle.ruled_pipe.specs.Pipe.{Shape}
@@ -90,14 +90,14 @@ leaving_at-requires-clause-low g c =
     let at = c.loop-link in
     let two = first_two c.args.pipes.now.items at.link c.link_count-links.result at.takers c.next-low.new.self c.next-high.new.self c.next-low.result c.next-high.result c.next-low.ensures c.next-high.ensures at.invariant.takers in
     let is = taker_new ((arc_value c.args.common.now.shared).config.processors + 2) c.args.pipes.now.items (2 * at.link) c.next-low.result c.requires.pipes.1 two.0 in
-    search (rules, is)
+    (is.0, is.1 ∙ sym (ap (λ (n : ℕ). n + 2) (c.from-producers.ensures ∙ ap (λ (s : Shared). s.config.processors) c.deref-2.ensures)))
 
 pub leaving_at-requires-clause-high : goal.leaving_at-requires-clause-high
 leaving_at-requires-clause-high g c =
     let at = c.loop-link in
     let two = first_two c.args.pipes.now.items at.link c.link_count-links.result at.takers c.next-low.new.self c.next-high.new.self c.next-low.result c.next-high.result c.next-low.ensures c.next-high.ensures at.invariant.takers in
     let is = taker_new ((arc_value c.args.common.now.shared).config.processors + 2) c.args.pipes.now.items (2 * at.link + 1) c.next-high.result c.requires.pipes.1 two.1.0 in
-    search (rules, is)
+    (is.0, is.1 ∙ sym (ap (λ (n : ℕ). n + 2) (c.from-producers.ensures ∙ ap (λ (s : Shared). s.config.processors) c.deref-2.ensures)))
 
 pub loop-link-preserved : goal.loop-link-preserved
 loop-link-preserved g c =

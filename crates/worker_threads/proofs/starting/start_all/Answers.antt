@@ -1,5 +1,4 @@
-use Rattle.std.proofs.Common.{rules}
 use Rattle.worker_threads.proofs.starting.start_all.Goals as goal
 
-pub returns-in-Err : goal.returns-in-Err
-returns-in-Err g c = search rules
+pub returns-in-Ok : goal.returns-in-Ok
+returns-in-Ok g c = c.in-Ok.ensures
