@@ -188,9 +188,10 @@ pub fn all_pipes<N: Router, R: Wait>(
     ensures outer { IfOk result (λ a. IsDealing (shared.now.config.processors + 2) (2 * link_count shared.now.config) a.pipes.outer.items a.pipes.outer_rooms.items a.egress_packets.items a.to_links.items) }
     ensures free { IfOk result (λ a. AreFree shared.now.config a.free.takers.items a.free.bundles.items) }
 {
-    let sides = both(inner_pipes(alloc, shared), outer_pipes(alloc, shared));
-    let others = both(middle_pipe(alloc, shared), free_pipes(rt, alloc, shared));
-    let ((inner, outer), ((middle, asking, asked), free)) = both(sides, others)?;
+    let free = free_pipes(rt, alloc, shared)?;
+    let (middle, asking, asked) = middle_pipe(alloc, shared)?;
+    let inner = inner_pipes(alloc, shared);
+    let (inner, outer) = both(inner, outer_pipes(alloc, shared))?;
     Ok(AllPipes {
         pipes: Pipes {
             inner: inner.pipes,

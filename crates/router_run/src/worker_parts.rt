@@ -76,10 +76,9 @@ fn after_receivers<N: Router, G: Gate + Drop>(
     let deciding = deciding_of(alloc, common, gate, pipes, inputs, &mut remaining)?;
     let closing = shutters(alloc, &common.shared, remaining.links.next());
     let leaving = all_leaving(alloc, common, &pipes.outer, egress_packets, &mut remaining);
-    let ends = both(leaving, closing);
-    let (decided, (forwarders, shutters)) = both(Ok(deciding), ends)?;
+    let (forwarders, shutters) = both(leaving, closing)?;
     Ok(AfterReceivers {
-        deciding: decided,
+        deciding,
         forwarders,
         shutters,
     })

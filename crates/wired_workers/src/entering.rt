@@ -22,7 +22,7 @@ use router_pipes::outlets;
 use router_rules::{Shared, link_count};
 use router_stages::Receiver;
 use ruled_pipe::{Consumer, Pipe};
-use stage_parts::{Buffer, Outlet, Packet, Router, Source, both};
+use stage_parts::{Buffer, Outlet, Packet, Router, Source};
 use std::alloc::{AllocError, Global};
 use std::marker::Model;
 use std::sync::Arc;
@@ -117,8 +117,8 @@ fn entering_at<N: Router>(
     ensures config { IfOk result (λ e. (e.config ≡ (arc_value common.now.shared).config) × (e.link ≡ link)) }
     ensures processors { IfOk result (λ e. (p : ℕ) (shapes : List Shape) → bundle.ends ≡ fresh_ends p shapes → AreEndsOf p shapes (senders e.processors)) }
 {
-    let processors = outlets(alloc, bundle, common.events.processors.as_slice(), 1);
-    let (processors, (shared, stop, first)) = both(processors, begun(alloc, common))?;
+    let processors = outlets(alloc, bundle, common.events.processors.as_slice(), 1)?;
+    let (shared, stop, first) = begun(alloc, common)?;
     Ok(Entering {
         shared,
         stop,

@@ -107,8 +107,8 @@ fn own_of<N: Router, G: Drop>(
     ensures count { IfOk result (λ o. length o.ways.links ≡ length portion.links.ends) }
     ensures free { IfOk result (λ o. o.ways.free ≡ portion.free.ends) }
 {
-    let ways = ways_of(alloc, portion, &common.events);
-    let (ways, (shared, gate, event)) = both(ways, clones(common, gate))?;
+    let ways = ways_of(alloc, portion, &common.events)?;
+    let (shared, gate, event) = clones(common, gate)?;
     Ok(Own {
         shared,
         gate,

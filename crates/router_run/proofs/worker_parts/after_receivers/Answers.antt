@@ -1,4 +1,4 @@
-use Rattle.std.proofs.Common.{◌≡◌, Ok, ◌+◌, ◌*◌, length, refl, ◌∙◌, ap, subst, arith}
+use Rattle.std.proofs.Common.{◌≡◌, ◌+◌, ◌*◌, length, refl, ◌∙◌, ap, subst, arith}
 use Rattle.std.specs.Arc.{arc_value}
 use Rattle.pipe_ends.specs.Rows.{fresh_ends}
 use Rattle.pipe_ends.specs.Shutting.{AreShutters}
@@ -38,31 +38,25 @@ all_leaving-leaving-requires-clause-shares g c =
     record { each = gone.each; enough = let k = gone.count in let e = c.requires.shares.enough in omega arith }
 
 pub returns-clause-working : goal.returns-clause-working
-returns-clause-working g c = of_ok _ c.deciding_of.result c.in_ok-decided.decided (c.in_ok-deciding.was ∙ c.in_ok-decided.ensures.0) c.deciding_of.ensures.working
+returns-clause-working g c = c.in_ok-deciding.ensures.working
 
 pub returns-clause-answering : goal.returns-clause-answering
-returns-clause-answering g c = of_ok _ c.deciding_of.result c.in_ok-decided.decided (c.in_ok-deciding.was ∙ c.in_ok-decided.ensures.0) c.deciding_of.ensures.answering
+returns-clause-answering g c = c.in_ok-deciding.ensures.answering
 
 pub returns-clause-leaving : goal.returns-clause-leaving
 returns-clause-leaving g c =
-    let made = c.in_ok-decided.forwarders in
-    let ends = of_ok (λ r. (c.all_leaving-leaving.result ≡ Ok r.0) × (c.shutters-closing.result ≡ Ok r.1)) c.both-ends.result (made, c.in_ok-decided.shutters) c.in_ok-decided.ensures.1 c.both-ends.ensures in
     let config = (arc_value c.args.common.now.shared).config in
-    of_ok (λ v. IsRest (IsLeavingAt config c.args.pipes.now.outer.items) 0 (link_count config) v.items) c.all_leaving-leaving.result made ends.0 c.all_leaving-leaving.ensures.made
+    of_ok (λ v. IsRest (IsLeavingAt config c.args.pipes.now.outer.items) 0 (link_count config) v.items) c.all_leaving-leaving.result c.in_ok-forwarders.forwarders c.in_ok-forwarders.ensures.0 c.all_leaving-leaving.ensures.made
 
 pub returns-clause-unmarked : goal.returns-clause-unmarked
-returns-clause-unmarked g c =
-    let made = c.in_ok-decided.shutters in
-    let ends = of_ok (λ r. (c.all_leaving-leaving.result ≡ Ok r.0) × (c.shutters-closing.result ≡ Ok r.1)) c.both-ends.result (c.in_ok-decided.forwarders, made) c.in_ok-decided.ensures.1 c.both-ends.ensures in
-    of_ok _ c.shutters-closing.result made ends.1 c.shutters-closing.ensures.unended
+returns-clause-unmarked g c = of_ok _ c.shutters-closing.result c.in_ok-forwarders.shutters c.in_ok-forwarders.ensures.1 c.shutters-closing.ensures.unended
 
 pub returns-clause-shutting : goal.returns-clause-shutting
 returns-clause-shutting g c =
     let config = (arc_value c.args.common.now.shared).config in
     let shapes = c.args.pipes.now.outer.items in
-    let made = c.in_ok-decided.shutters in
+    let made = c.in_ok-forwarders.shutters in
     let is : c.next.result.ends ≡ fresh_ends (config.processors + 1) shapes = rest_first (IsBundleOf shapes) (config.processors + 1) (config.processors + 2) c.deciding_of.new.remaining.links c.next.new.self c.next.result c.next.ensures c.in_ok-deciding.ensures.links in
-    let ends = of_ok (λ r. (c.all_leaving-leaving.result ≡ Ok r.0) × (c.shutters-closing.result ≡ Ok r.1)) c.both-ends.result (c.in_ok-decided.forwarders, made) c.in_ok-decided.ensures.1 c.both-ends.ensures in
-    let shut = of_ok _ c.shutters-closing.result made ends.1 c.shutters-closing.ensures.ends in
+    let shut = of_ok _ c.shutters-closing.result made c.in_ok-forwarders.ensures.1 c.shutters-closing.ensures.ends in
     subst (λ (s : Shared). AreShutters (are_used s.config) 0 (config.processors + 1) shapes made.items) c.deref-2.ensures
     (shut (config.processors + 1) shapes (ends_of (config.processors + 1) shapes c.next.result.ends is))
