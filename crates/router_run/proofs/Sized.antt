@@ -1,5 +1,5 @@
 -- How many workers came back, and what they did.
-use Rattle.std.proofs.Common.{◌≡◌, ℕ, suc, ◌+◌, ◌*◌, Bool, List, [], ◌∷◌, length, refl, sym, ◌∙◌, subst, arith}
+use Rattle.std.proofs.Common.{◌≡◌, ℕ, ◌+◌, ◌*◌, List, [], ◌∷◌, length, refl, sym, ◌∙◌, subst, arith}
 use Rattle.std.proofs.lemmas.List.{length-map}
 use Rattle.pipeline_laws.specs.Deeds.{Each}
 use Rattle.process_packet.specs.declared.config.Config.{Config}
@@ -12,12 +12,13 @@ use Rattle.router_stages.specs.Receiving.{Receiving}
 use Rattle.router_stages.specs.Working.{Working}
 use Rattle.stage_parts.specs.Outlet.{Offering}
 use Rattle.stage_parts.specs.Outlets.{senders}
-use Rattle.pipe_ends.specs.Shutting.{AreShutters, EachEnds, Shutting}
 use Rattle.worker_threads.specs.Back.{AreBack}
 use Rattle.worker_threads.specs.Workers.{IsSameReceiver, ReceiverEnded, IsSameProcessor, ProcessorEnded, IsSameSlowPath, SlowPathEnded}
 use Rattle.run_laws.specs.Crew.{AreAnswering, AreForwarding, AreWorking, Crew, IsCrew, IsReceivingAt}
 use Rattle.router_pipes.specs.Piping.{Piping, are_used}
 use Rattle.run_laws.specs.Ended.{IsBack}
+use Rattle.router_pipes.proofs.ClosingLemmas.{shutters_long}
+use Rattle.run_laws.proofs.Came.{each_ends_long}
 use Rattle.run_laws.proofs.Ends.{ends_long, same_ends}
 use Rattle.run_laws.proofs.Rows.{back_long, working_long}
 use Rattle.run_report.specs.Parting.{IsSized}
@@ -60,19 +61,6 @@ forwarding_long c l [] (f ∷ fs) are = absurd are
 forwarding_long c l (s ∷ []) fs are = absurd are
 forwarding_long c l (s ∷ t ∷ ss) [] are = absurd are
 forwarding_long c l (s ∷ t ∷ ss) (f ∷ fs) are = let r = forwarding_long c (l + 1) ss fs are.1 in omega arith
-
-module _ {T : Type 0} where
-  pub shutters_long : (uses : ℕ → Bool) (k q : ℕ) (ss : List Shape) (hs : List (Shutting T)) → AreShutters uses k q ss hs → length hs ≡ length ss
-  shutters_long uses k q [] [] are = refl
-  shutters_long uses k q [] (h ∷ hs) are = absurd are
-  shutters_long uses k q (s ∷ ss) [] are = absurd are
-  shutters_long uses k q (s ∷ ss) (h ∷ hs) are = let r = shutters_long uses (suc k) q ss hs are.1 in omega arith
-
-  each_ends_long : (hs ks : List (Shutting T)) → EachEnds hs ks → length ks ≡ length hs
-  each_ends_long [] [] e = refl
-  each_ends_long [] (k ∷ ks) e = absurd e
-  each_ends_long (h ∷ hs) [] e = absurd e
-  each_ends_long (h ∷ hs) (k ∷ ks) e = let r = each_ends_long hs ks e.1 in omega arith
 
 -- how many workers there are
 module _ {S G K : Type 0} (c : Config) (p : Piping) (w : Crew S G K) (is : IsCrew c p w) where

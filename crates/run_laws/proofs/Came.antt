@@ -1,5 +1,5 @@
 -- What the workers that came back give the running theorem.
-use Rattle.std.proofs.Common.{◌≡◌, ℕ, zero, suc, ◌+◌, ◌*◌, Bool, true, List, [], ◌∷◌, ◌++◌, map, length, Option, Some, None, slice_get, refl, sym, ◌∙◌, ap, subst, arith}
+use Rattle.std.proofs.Common.{◌≡◌, ℕ, zero, suc, ◌+◌, ◌*◌, true, List, [], ◌∷◌, ◌++◌, map, length, Option, Some, None, slice_get, refl, sym, ◌∙◌, ap, subst, arith}
 use Rattle.std.proofs.lemmas.List.{length-map}
 use Rattle.pipeline_laws.specs.Deeds.{Each}
 use Rattle.pipeline_laws.specs.Item.{Arrival, Outgoing}
@@ -25,7 +25,7 @@ use Rattle.stage_parts.specs.Outlets.{senders}
 use Rattle.stage_parts.specs.Told.{Told, told_of}
 use Rattle.router_pipes.specs.Handing.{NeverClosed}
 use Rattle.pipe_ends.specs.Settled.{ReadsColumns}
-use Rattle.pipe_ends.specs.Shutting.{AreShutters, EachEnds, Shutting, closed_at, shutter_ends}
+use Rattle.pipe_ends.specs.Shutting.{EachEnds, Shutting, closed_at, shutter_ends}
 use Rattle.worker_threads.specs.Back.{AreBack}
 use Rattle.worker_threads.specs.Workers.{IsSameReceiver, ReceiverEnded, IsSameProcessor, ProcessorEnded, IsSameSlowPath, SlowPathEnded}
 use Rattle.run_laws.specs.Crew.{AreAnswering, AreForwarding, AreWorking, Crew, IsCrew, IsReceivingAt}
@@ -33,6 +33,7 @@ use Rattle.wired_workers.specs.Kits.{IsAnsweringAt, IsWorkingAt}
 use Rattle.router_pipes.specs.Piping.{Piping, are_used}
 use Rattle.run_laws.specs.Ended.{IsBack, inner_rows, inner_takers, middle_row, outer_rows, takers_of}
 use Rattle.run_laws.specs.Came.{CrewsReturn, HasKept, HasSettled, back_of, forwarder_back, processor_back, receiver_back}
+use Rattle.router_pipes.proofs.ClosingLemmas.{shutters_long}
 use Rattle.run_laws.proofs.Ends.{ends_long, same_ends}
 use Rattle.run_laws.proofs.Rows.{back_long, working_long}
 
@@ -151,13 +152,7 @@ module _ {K : Type 0} where
   high_at (g ∷ fs) (suc l) f at = let e : 2 * suc l + 1 ≡ suc (suc (2 * l + 1)) = omega arith in ap (λ (k : ℕ). slice_get (takers_of (g ∷ fs)) k) e ∙ high_at fs l f at
 
 module _ {T : Type 0} where
-  shutters_long : (uses : ℕ → Bool) (k q : ℕ) (ss : List Shape) (hs : List (Shutting T)) → AreShutters uses k q ss hs → length hs ≡ length ss
-  shutters_long uses k q [] [] are = refl
-  shutters_long uses k q [] (h ∷ hs) are = absurd are
-  shutters_long uses k q (s ∷ ss) [] are = absurd are
-  shutters_long uses k q (s ∷ ss) (h ∷ hs) are = let r = shutters_long uses (suc k) q ss hs are.1 in omega arith
-
-  each_ends_long : (hs ks : List (Shutting T)) → EachEnds hs ks → length ks ≡ length hs
+  pub each_ends_long : (hs ks : List (Shutting T)) → EachEnds hs ks → length ks ≡ length hs
   each_ends_long [] [] e = refl
   each_ends_long [] (k ∷ ks) e = absurd e
   each_ends_long (h ∷ hs) [] e = absurd e

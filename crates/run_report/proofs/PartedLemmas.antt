@@ -45,9 +45,6 @@ module _ {X : Type 0} where
   only_one (y ∷ []) old rest x long e f = let same : y ∷ [] ≡ x ∷ rest = sym e ∙ f in cc
   only_one (y ∷ z ∷ xs) old rest x long e f = absurd (omega arith)
 
-  pub one_more : (old new : List X) (x : X) (n : ℕ) → new ≡ old ++ x ∷ [] → length old ≡ n → length new ≡ n + 1
-  one_more old new x n e long = let a = ap length e in let b = length-append old (x ∷ []) in omega arith
-
 module _ {X Y : Type 0} where
   pub grew : (f : X → Y) (old new : List Y) (xs : List X) (n m : ℕ) → new ≡ old ++ map f xs → length old ≡ n → length xs ≡ m → length new ≡ n + m
   grew f old new xs n m e a b = let d = ap length e in let l = length-append old (map f xs) in let k = length-map xs f in omega arith

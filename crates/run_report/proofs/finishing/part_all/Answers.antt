@@ -3,8 +3,8 @@ use Rattle.packet_ledger.specs.Share.{forwarded}
 use Rattle.router_stages.specs.Receiving.{Receiving}
 use Rattle.router_stages.specs.Working.{Working}
 use Rattle.run_report.specs.Room.{IsRoomy}
-use Rattle.run_report.proofs.PartLemmas.{each_same}
-use Rattle.run_report.proofs.PartedLemmas.{all_at, grew, has_kept, has_marked, is_parted, le_as, none_long, one_more, only_one, rows_made, shares_parted, sized_as, slow_long, space_as}
+use Rattle.run_report.proofs.PartLemmas.{each_same, longer}
+use Rattle.run_report.proofs.PartedLemmas.{all_at, grew, has_kept, has_marked, is_parted, le_as, none_long, only_one, rows_made, shares_parted, sized_as, slow_long, space_as}
 use Rattle.run_report.proofs.finishing.part_all.Goals as goal
 
 pub part_receivers-front-requires-clause-ends : goal.part_receivers-front-requires-clause-ends
@@ -152,7 +152,7 @@ part_forwarders-rear-requires-clause-shares g c =
     let space = space_as _ _ _ _ c.space.view_is c.requires.space in
     let first = grew _ _ _ _ _ _ c.part_receivers-front.ensures.shares.0 (none_long _ c.space.invariant.4) sized.receivers.1 in
     let second = grew _ _ _ _ _ _ c.part_processors-middle.ensures.shares.0 first sized.workers.1 in
-    let third = one_more _ _ _ _ c.part_slow_path-rest.ensures.shares.0 second in
+    let third = longer _ _ _ _ c.part_slow_path-rest.ensures.shares.0 second in
     let same = c.part_receivers-front.ensures.shares.1 in
     let still = c.part_processors-middle.ensures.shares.1 in
     let yet = c.part_slow_path-rest.ensures.shares.1 in

@@ -1,4 +1,4 @@
-use Rattle.std.proofs.Common.{◌≡◌, ◌+◌, ◌*◌, ◌++◌, ◌∷◌, [], length, ℕ, List, sym, ◌∙◌, ap, arith, append_assoc, append-nil, length-append}
+use Rattle.std.proofs.Common.{◌≡◌, ◌+◌, ◌*◌, ◌++◌, ◌∷◌, [], length, ℕ, List, sym, ◌∙◌, ap, arith, append_assoc, append-nil, length-append, vec_capacity}
 use Rattle.packet_ledger.specs.Share.{forwarded}
 use Rattle.pipeline_laws.specs.Item.{Outgoing}
 use Rattle.router_rules.specs.Rules.{kinds}
@@ -53,7 +53,7 @@ pub push_reserved-requires : goal.push_reserved-requires
 push_reserved-requires g c = let t = c.loop-k-test.true in let n = c.len-count.ensures in let o = c.args.forwarders.ok in let l = c.loop-k.invariant.left in let r = c.loop-k.invariant.taker_room in let a = r.0 in let b = r.1 in omega arith
 
 pub push_reserved-requires-in-loop-k : goal.push_reserved-requires-in-loop-k
-push_reserved-requires-in-loop-k g c = let t = c.loop-k-test.true in let n = c.len-count.ensures in let o = c.args.forwarders.ok in let l = c.loop-k.invariant.left in let r = c.loop-k.invariant.taker_room in let a = r.0 in let b = r.1 in let p = longer _ _ _ _ c.push_reserved.ensures.items r.0 in let q = c.push_reserved.ensures.capacity in omega arith
+push_reserved-requires-in-loop-k g c = let t = c.loop-k-test.true in let n = c.len-count.ensures in let o = c.args.forwarders.ok in let l = c.loop-k.invariant.left in let r = c.loop-k.invariant.taker_room in let a = r.0 in let b = r.1 in let p = longer _ _ c.push_reserved.new.self.items _ c.push_reserved.ensures.items r.0 in let q = c.push_reserved.ensures.capacity in omega arith
 
 pub push_reserved-requires-in-loop-k-2 : goal.push_reserved-requires-in-loop-k-2
 push_reserved-requires-in-loop-k-2 g c = let t = c.loop-k-test.true in let n = c.len-count.ensures in let o = c.args.forwarders.ok in let l = c.loop-k.invariant.left in let r = c.loop-k.invariant.sink_room in let a = r.0 in let b = r.1 in omega arith
@@ -74,16 +74,21 @@ loop-k-preserved g c =
     let wrote = c.push_reserved-in-loop-k-2.ensures in
     let counted = c.push_reserved-in-loop-k-3.ensures in
     let shared = c.push_reserved-in-loop-k-4.ensures in
+    let low = c.push_reserved.new.self in
+    let takers = c.push_reserved-in-loop-k.new.self in
+    let sinks = c.push_reserved-in-loop-k-2.new.self in
+    let sent = c.push_reserved-in-loop-k-3.new.self in
+    let shares = c.push_reserved-in-loop-k-4.new.self in
     record {
       left = shorter _ _ _ _ _ is inv.left;
-      takers = takers_moved _ _ _ _ _ _ _ _ _ is first.items second.items parts.1 parts.2 inv.takers;
-      taker_room = (twice _ _ _ _ _ _ first.items second.items inv.taker_room.0, fits_still _ _ _ (second.capacity ∙ first.capacity) inv.taker_room.1);
-      sinks = grown _ _ _ _ _ _ _ _ is wrote.items parts.0 inv.sinks;
-      sink_room = (longer _ _ _ _ wrote.items inv.sink_room.0, fits_still _ _ _ wrote.capacity inv.sink_room.1);
-      sent = grown _ _ _ _ _ _ _ _ is counted.items (c.forwarded.ensures ∙ ap forwarded parts.4) inv.sent;
-      sent_room = (longer _ _ _ _ counted.items inv.sent_room.0, fits_still _ _ _ counted.capacity inv.sent_room.1);
-      shares = grown _ _ _ _ _ _ _ _ is shared.items parts.4 inv.shares;
-      share_room = room_kept _ _ _ _ _ _ _ _ shared.items is shared.capacity inv.share_room;
+      takers = takers_moved _ low.items takers.items _ _ _ _ _ _ is first.items second.items parts.1 parts.2 inv.takers;
+      taker_room = (twice _ _ low.items takers.items _ _ first.items second.items inv.taker_room.0, fits_still _ _ (vec_capacity takers) (second.capacity ∙ first.capacity) inv.taker_room.1);
+      sinks = grown _ _ sinks.items _ _ _ _ _ is wrote.items parts.0 inv.sinks;
+      sink_room = (longer _ _ sinks.items _ wrote.items inv.sink_room.0, fits_still _ _ (vec_capacity sinks) wrote.capacity inv.sink_room.1);
+      sent = grown _ _ sent.items _ _ _ _ _ is counted.items (c.forwarded.ensures ∙ ap forwarded parts.4) inv.sent;
+      sent_room = (longer _ _ sent.items _ counted.items inv.sent_room.0, fits_still _ _ (vec_capacity sent) counted.capacity inv.sent_room.1);
+      shares = grown _ _ shares.items _ _ _ _ _ is shared.items parts.4 inv.shares;
+      share_room = room_kept _ shares.items _ _ _ _ _ (vec_capacity shares) shared.items is shared.capacity inv.share_room;
       laws = each_back _ _ _ _ _ is inv.laws c.into_parts-sink.ensures.law;
     }
 

@@ -1,4 +1,4 @@
-use Rattle.std.proofs.Common.{length, refl, sym, ◌∙◌, ap, subst, arith}
+use Rattle.std.proofs.Common.{length, refl, sym, ◌∙◌, ap, subst, arith, vec_capacity}
 use Rattle.stage_parts.specs.Outlet.{IsMarked, Offering}
 use Rattle.stage_parts.specs.Outlets.{senders}
 use Rattle.router_pipes.specs.Handing.{AreMarked, NeverClosed}
@@ -54,18 +54,22 @@ loop-k-preserved g c =
     let took = c.push_reserved.ensures in
     let put = c.push_reserved-in-loop-k.ensures in
     let shared = c.push_reserved-in-loop-k-2.ensures in
+    let takers = c.push_reserved.new.self in
+    let asking = c.put.new.self in
+    let bundles = c.push_reserved-in-loop-k.new.self in
+    let shares = c.push_reserved-in-loop-k-2.new.self in
     record {
       left = shorter _ _ _ _ _ is inv.left;
       ends = (each_first _ _ _ _ is inv.ends).1;
       rows = ((each_first _ _ _ _ row inv.rows.0).1, (let a = ap length is in let b = ap length row in let r = inv.rows.1 in omega arith), shorter _ _ _ _ _ row inv.rows.2);
-      takers = grown _ _ _ _ _ _ _ _ is took.items (c.into_consumer.ensures ∙ parts.0) inv.takers;
-      taker_room = (longer _ _ _ _ took.items inv.taker_room.0, fits_still _ _ _ took.capacity inv.taker_room.1);
-      asking = grown _ _ _ _ _ _ _ _ is c.put.ensures.0 (c.into_producer.ensures.same ∙ ap (λ (o : Offering _). o.sender) parts.2) inv.asking;
-      asking_room = (longer _ _ _ _ c.put.ensures.0 inv.asking_room.0, fits_still _ _ _ c.put.ensures.1 inv.asking_room.1);
-      bundles = grown _ _ _ _ _ _ _ _ is (one_after _ _ _ _ put.items) ends inv.bundles;
-      bundle_room = (longer _ _ _ _ put.items inv.bundle_room.0, fits_still _ _ _ put.capacity inv.bundle_room.1, put.capacity ∙ inv.bundle_room.2);
-      shares = grown _ _ _ _ _ _ _ _ is shared.items parts.4 inv.shares;
-      share_room = (room_kept _ _ _ _ _ _ _ _ shared.items is shared.capacity inv.share_room.0, shared.capacity ∙ inv.share_room.1);
+      takers = grown _ _ takers.items _ _ _ _ _ is took.items (c.into_consumer.ensures ∙ parts.0) inv.takers;
+      taker_room = (longer _ _ takers.items _ took.items inv.taker_room.0, fits_still _ _ (vec_capacity takers) took.capacity inv.taker_room.1);
+      asking = grown _ _ asking.ends _ _ _ _ _ is c.put.ensures.0 (c.into_producer.ensures.same ∙ ap (λ (o : Offering _). o.sender) parts.2) inv.asking;
+      asking_room = (longer _ _ asking.ends _ c.put.ensures.0 inv.asking_room.0, fits_still _ _ asking.room c.put.ensures.1 inv.asking_room.1);
+      bundles = grown _ _ (rows_of bundles.items) _ _ _ _ _ is (one_after _ _ bundles.items _ put.items) ends inv.bundles;
+      bundle_room = (longer _ _ bundles.items _ put.items inv.bundle_room.0, fits_still _ _ (vec_capacity bundles) put.capacity inv.bundle_room.1, put.capacity ∙ inv.bundle_room.2);
+      shares = grown _ _ shares.items _ _ _ _ _ is shared.items parts.4 inv.shares;
+      share_room = (room_kept _ shares.items _ _ _ _ _ (vec_capacity shares) shared.items is shared.capacity inv.share_room.0, shared.capacity ∙ inv.share_room.1);
       laws = each_back _ _ _ _ _ is inv.laws (c.into_parts-from.ensures.law, subst (λ xs. NeverClosed xs) ends c.bare.ensures.unclosed);
       marks = each_back _ _ _ _ _ is inv.marks (
         subst (λ xs. AreMarked xs) parts.1 c.bare.ensures.marks,

@@ -1,4 +1,4 @@
-use Rattle.std.proofs.Common.{length, refl, sym, ◌∙◌, ap, subst, arith}
+use Rattle.std.proofs.Common.{length, refl, sym, ◌∙◌, ap, subst, arith, vec_capacity}
 use Rattle.stage_parts.specs.Outlets.{senders}
 use Rattle.router_pipes.specs.Handing.{AreMarked, NeverClosed}
 use Rattle.pipe_ends.specs.Rows.{rows_of}
@@ -49,16 +49,19 @@ loop-k-preserved g c =
     let put = c.push_reserved.ensures in
     let read = c.push_reserved-in-loop-k.ensures in
     let shared = c.push_reserved-in-loop-k-2.ensures in
+    let rows = c.push_reserved.new.self in
+    let sources = c.push_reserved-in-loop-k.new.self in
+    let shares = c.push_reserved-in-loop-k-2.new.self in
     record {
       left = shorter _ _ _ _ _ is inv.left;
       ends = (each_first _ _ _ _ is inv.ends).1;
       rows = ((each_first _ _ _ _ row inv.rows.0).1, let a = ap length is in let b = ap length row in let r = inv.rows.1 in omega arith);
-      bundles = grown _ _ _ _ _ _ _ _ is (one_after _ _ _ _ put.items) ends inv.bundles;
-      bundle_room = (longer _ _ _ _ put.items inv.bundle_room.0, fits_still _ _ _ put.capacity inv.bundle_room.1);
-      sources = grown _ _ _ _ _ _ _ _ is read.items parts.0 inv.sources;
-      source_room = (longer _ _ _ _ read.items inv.source_room.0, fits_still _ _ _ read.capacity inv.source_room.1);
-      shares = grown _ _ _ _ _ _ _ _ is shared.items parts.3 inv.shares;
-      share_room = (room_kept _ _ _ _ _ _ _ _ shared.items is shared.capacity inv.share_room.0, shared.capacity ∙ inv.share_room.1);
+      bundles = grown _ _ (rows_of rows.items) _ _ _ _ _ is (one_after _ _ rows.items _ put.items) ends inv.bundles;
+      bundle_room = (longer _ _ rows.items _ put.items inv.bundle_room.0, fits_still _ _ (vec_capacity rows) put.capacity inv.bundle_room.1);
+      sources = grown _ _ sources.items _ _ _ _ _ is read.items parts.0 inv.sources;
+      source_room = (longer _ _ sources.items _ read.items inv.source_room.0, fits_still _ _ (vec_capacity sources) read.capacity inv.source_room.1);
+      shares = grown _ _ shares.items _ _ _ _ _ is shared.items parts.3 inv.shares;
+      share_room = (room_kept _ shares.items _ _ _ _ _ (vec_capacity shares) shared.items is shared.capacity inv.share_room.0, shared.capacity ∙ inv.share_room.1);
       laws = each_back _ _ _ _ _ is inv.laws (c.into_parts-source.ensures.law, subst (λ xs. NeverClosed xs) ends c.bare.ensures.unclosed);
       marks = each_back _ _ _ _ _ is inv.marks (subst (λ xs. AreMarked xs) parts.1 c.bare.ensures.marks);
     }
