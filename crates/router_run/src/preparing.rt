@@ -1,10 +1,11 @@
 //! All that a run takes memory for, before its first thread.
 
-ghost use Rattle.std.specs.Prelude.{◌≡◌, ◌+◌, ◌*◌, ◌≤◌, IfOk, Some, [], vec_capacity};
+ghost use Rattle.std.specs.Prelude.{◌≡◌, ◌+◌, ◌*◌, ◌≤◌, IfOk, Ok, Some};
 ghost use Rattle.std.specs.Arc.{arc_value};
 ghost use Rattle.router_rules.specs.Links.{link_count};
 ghost use Rattle.router_pipes.specs.Dealing.{piping};
 ghost use Rattle.wired_workers.specs.Shares.{AreNewShares};
+ghost use Rattle.worker_threads.specs.Teams.{IsFor};
 ghost use Rattle.run_report.specs.Room.{HaveSpace};
 ghost use Rattle.router_run.specs.WorkerParts.{AreWorkerParts};
 
@@ -15,7 +16,7 @@ use process_packet::Config;
 use router_pipes::events_for;
 use router_rules::{Shared, link_count};
 use run_report::{Space, space_for};
-use stage_parts::{Gate, Router, both};
+use stage_parts::{Gate, Router};
 use std::alloc::{AllocError, Global};
 use std::sync::atomic::AtomicU64;
 use std::sync::{Arc, Wait};
@@ -101,6 +102,17 @@ fn base_for<N: Router>(
     Ok((Base { common, orders }, shares))
 }
 
+// All three values, or an error in place of any.
+fn all_three<X: Drop, Y: Drop, Z: Drop>(
+    x: Result<X, AllocError>,
+    y: Result<Y, AllocError>,
+    z: Result<Z, AllocError>,
+) -> Result<(X, Y, Z), AllocError>
+    ensures { IfOk result (λ r. (x ≡ Ok r.0) × (y ≡ Ok r.1) × (z ≡ Ok r.2)) }
+{
+    Ok((x?, y?, z?))
+}
+
 /// All that is ready, for workers of any four kinds over sources `S` and sinks `K`.
 #[derive(Drop)]
 pub struct Prepared<N, G, A, B, C, D, S, K>
@@ -141,10 +153,8 @@ where
     requires workers { N.workers ≡ 2 * link_count config + config.processors + 1 }
     ensures shared { IfOk result (λ p. (arc_value p.base.common.shared).config ≡ config) }
     ensures worker_parts { IfOk result (λ p. AreWorkerParts config (piping p.worker_parts.pipes.inner.items p.worker_parts.pipes.middle p.worker_parts.pipes.outer.items) p.worker_parts.pipes.inner_rooms.items p.worker_parts.pipes.outer_rooms.items p.worker_parts.receivers.items p.worker_parts.processors.items p.worker_parts.slow p.worker_parts.forwarders.items p.worker_parts.shutters.items) }
-    ensures receivers { IfOk result (λ p. (p.teams.front.0.workers.items ≡ []) × (vec_capacity p.teams.front.0.workers ≡ link_count config) × (p.teams.front.0.room.items ≡ []) × (vec_capacity p.teams.front.0.room ≡ link_count config)) }
-    ensures processors { IfOk result (λ p. (p.teams.front.1.workers.items ≡ []) × (p.teams.front.1.room.items ≡ []) × (vec_capacity p.teams.front.1.room ≡ config.processors)) }
-    ensures slow { IfOk result (λ p. (p.teams.rear.0.workers.items ≡ []) × (vec_capacity p.teams.rear.0.workers ≡ 1) × (p.teams.rear.0.room.items ≡ []) × (vec_capacity p.teams.rear.0.room ≡ 1)) }
-    ensures forwarders { IfOk result (λ p. (p.teams.rear.1.workers.items ≡ []) × (vec_capacity p.teams.rear.1.workers ≡ link_count config) × (p.teams.rear.1.room.items ≡ []) × (vec_capacity p.teams.rear.1.room ≡ link_count config)) }
+    ensures front { IfOk result (λ p. IsFor (link_count config) p.teams.front.0 × IsFor config.processors p.teams.front.1) }
+    ensures rear { IfOk result (λ p. IsFor 1 p.teams.rear.0 × IsFor (link_count config) p.teams.rear.1) }
     ensures space { IfOk result (λ p. HaveSpace (link_count config) config.processors p.space) }
 {
     let links = link_count(&config);
@@ -154,7 +164,7 @@ where
     let events = &base.common.events;
     let teams = teams_for(alloc, &base.orders, events, links, processors);
     let space = space_for(alloc, links, processors);
-    let (worker_parts, (teams, space)) = both(worker_parts, both(teams, space))?;
+    let (worker_parts, teams, space) = all_three(worker_parts, teams, space)?;
     Ok(Prepared {
         base,
         worker_parts,

@@ -1,6 +1,6 @@
 //! A router: started by one call, ended by another.
 
-ghost use Rattle.std.specs.Prelude.{◌≡◌, ◌≤◌, ◌+◌, ◌*◌, ◌∷◌, MatchBool, MatchResult, Some, [], length, vec_capacity};
+ghost use Rattle.std.specs.Prelude.{◌≡◌, ◌+◌, ◌*◌, ◌∷◌, MatchBool, MatchResult, Some, [], length};
 ghost use Rattle.std.specs.Arc.{arc_value};
 ghost use Rattle.pipeline_laws.specs.Deeds.{Each};
 ghost use Rattle.router_laws.specs.Heard.{ToldNothing};
@@ -10,6 +10,7 @@ ghost use Rattle.router_run.specs.Run.{HasRun, IsSameRun};
 ghost use Rattle.router_pipes.specs.Dealing.{piping};
 ghost use Rattle.wired_workers.specs.Kits.{forwardings, receivings};
 ghost use Rattle.router_run.specs.WorkerParts.{AreWorkerParts};
+ghost use Rattle.worker_threads.specs.Teams.{IsFor};
 ghost use Rattle.run_report.specs.Room.{HaveSpace};
 ghost use Rattle.router_run.specs.Starting.{Begins, GivesBack, IsOneALink};
 
@@ -133,11 +134,10 @@ where
     G: Gate + Drop,
     requires count { length sources.items ≡ length receivers.items }
     requires untold { Each (λ s. ToldNothing (S.told s)) sources.items }
-    requires room { (teams.0.workers.items ≡ []) × (length receivers.items ≤ vec_capacity teams.0.workers) }
-    requires none { teams.1.workers.items ≡ [] }
-    ensures receivers { result.0.workers.items ≡ receivings receivers.items sources.items }
-    ensures processors { result.1.workers ≡ processors }
-    ensures rooms { (result.0.room ≡ teams.0.room) × (result.1.room ≡ teams.1.room) }
+    requires first { IsFor (length receivers.items) teams.0 }
+    requires second { IsFor (length processors.items) teams.1 }
+    ensures receivers { result.0.workers ≡ receivings receivers.items sources.items }
+    ensures processors { result.1.workers ≡ processors.items }
 {
     let (receiving, working) = teams;
     working.workers.destroy_empty();
@@ -168,11 +168,10 @@ where
     K: Sink,
     requires count { length sinks.items ≡ length forwarders.items }
     requires untold { Each (λ k. ToldNothing (K.told k)) sinks.items }
-    requires slow_room { (teams.0.workers.items ≡ []) × (vec_capacity teams.0.workers ≡ 1) }
-    requires room { (teams.1.workers.items ≡ []) × (length forwarders.items ≤ vec_capacity teams.1.workers) }
-    ensures slow { result.0.workers.items ≡ slow ∷ [] }
-    ensures forwarders { result.1.workers.items ≡ forwardings K.failed forwarders.items sinks.items }
-    ensures rooms { (result.0.room ≡ teams.0.room) × (result.1.room ≡ teams.1.room) }
+    requires first { IsFor 1 teams.0 }
+    requires second { IsFor (length forwarders.items) teams.1 }
+    ensures slow { result.0.workers ≡ slow ∷ [] }
+    ensures forwarders { result.1.workers ≡ forwardings K.failed forwarders.items sinks.items }
 {
     let (answering, forwarding) = teams;
     let mut answerers = answering.workers;
@@ -206,10 +205,8 @@ where
     G: Gate + Send + Sync + Drop + 'static,
     R: Threads + Wait + Clock + Copy + Send + 'static,
     requires worker_parts { AreWorkerParts (arc_value prepared.base.common.shared).config (piping prepared.worker_parts.pipes.inner.items prepared.worker_parts.pipes.middle prepared.worker_parts.pipes.outer.items) prepared.worker_parts.pipes.inner_rooms.items prepared.worker_parts.pipes.outer_rooms.items prepared.worker_parts.receivers.items prepared.worker_parts.processors.items prepared.worker_parts.slow prepared.worker_parts.forwarders.items prepared.worker_parts.shutters.items }
-    requires receivers { (prepared.teams.front.0.workers.items ≡ []) × (vec_capacity prepared.teams.front.0.workers ≡ link_count (arc_value prepared.base.common.shared).config) × (prepared.teams.front.0.room.items ≡ []) × (vec_capacity prepared.teams.front.0.room ≡ link_count (arc_value prepared.base.common.shared).config) }
-    requires processors { (prepared.teams.front.1.workers.items ≡ []) × (prepared.teams.front.1.room.items ≡ []) × (vec_capacity prepared.teams.front.1.room ≡ (arc_value prepared.base.common.shared).config.processors) }
-    requires slow { (prepared.teams.rear.0.workers.items ≡ []) × (vec_capacity prepared.teams.rear.0.workers ≡ 1) × (prepared.teams.rear.0.room.items ≡ []) × (vec_capacity prepared.teams.rear.0.room ≡ 1) }
-    requires forwarders { (prepared.teams.rear.1.workers.items ≡ []) × (vec_capacity prepared.teams.rear.1.workers ≡ link_count (arc_value prepared.base.common.shared).config) × (prepared.teams.rear.1.room.items ≡ []) × (vec_capacity prepared.teams.rear.1.room ≡ link_count (arc_value prepared.base.common.shared).config) }
+    requires front { IsFor (link_count (arc_value prepared.base.common.shared).config) prepared.teams.front.0 × IsFor (arc_value prepared.base.common.shared).config.processors prepared.teams.front.1 }
+    requires rear { IsFor 1 prepared.teams.rear.0 × IsFor (link_count (arc_value prepared.base.common.shared).config) prepared.teams.rear.1 }
     requires space { HaveSpace (link_count (arc_value prepared.base.common.shared).config) (arc_value prepared.base.common.shared).config.processors prepared.space }
     requires workers { N.workers ≡ 2 * link_count (arc_value prepared.base.common.shared).config + (arc_value prepared.base.common.shared).config.processors + 1 }
     requires sources { Each (λ s. ToldNothing (S.told s)) sources.items × (length sources.items ≡ link_count (arc_value prepared.base.common.shared).config) }

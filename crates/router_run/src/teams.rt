@@ -1,6 +1,7 @@
 //! The teams that get the threads, before their workers are there.
 
-ghost use Rattle.std.specs.Prelude.{◌≡◌, IfOk, [], vec_capacity};
+ghost use Rattle.std.specs.Prelude.{IfOk};
+ghost use Rattle.worker_threads.specs.Teams.{IsFor};
 
 use router_pipes::Events;
 use stage_parts::{Event, Router, both};
@@ -33,8 +34,7 @@ fn team_for<N: Router, W: Worker + Drop>(
     events: &[Event],
     count: usize,
 ) -> Result<Team<N, W>, AllocError>
-    ensures workers { IfOk result (λ t. (t.workers.items ≡ []) × (vec_capacity t.workers ≡ count)) }
-    ensures room { IfOk result (λ t. (t.room.items ≡ []) × (vec_capacity t.room ≡ count)) }
+    ensures { IfOk result (λ t. IsFor count t) }
 {
     let orders = orders_for(alloc, orders, events, count)?;
     let workers = Vec::<W>::with_capacity(alloc, count)?;
@@ -55,8 +55,7 @@ fn two_teams_for<N: Router, V: Worker + Drop, W: Worker + Drop>(
     second_events: &[Event],
     second: usize,
 ) -> Result<(Team<N, V>, Team<N, W>), AllocError>
-    ensures first { IfOk result (λ r. (r.0.workers.items ≡ []) × (vec_capacity r.0.workers ≡ first) × (r.0.room.items ≡ []) × (vec_capacity r.0.room ≡ first)) }
-    ensures second { IfOk result (λ r. (r.1.workers.items ≡ []) × (vec_capacity r.1.workers ≡ second) × (r.1.room.items ≡ []) × (vec_capacity r.1.room ≡ second)) }
+    ensures { IfOk result (λ r. IsFor first r.0 × IsFor second r.1) }
 {
     let one = team_for(alloc, orders, first_events, first);
     let other = team_for(alloc, orders, second_events, second);
@@ -94,10 +93,8 @@ where
     B: Worker + Drop,
     C: Worker + Drop,
     D: Worker + Drop,
-    ensures receivers { IfOk result (λ t. (t.front.0.workers.items ≡ []) × (vec_capacity t.front.0.workers ≡ links) × (t.front.0.room.items ≡ []) × (vec_capacity t.front.0.room ≡ links)) }
-    ensures processors { IfOk result (λ t. (t.front.1.workers.items ≡ []) × (t.front.1.room.items ≡ []) × (vec_capacity t.front.1.room ≡ processors)) }
-    ensures slow { IfOk result (λ t. (t.rear.0.workers.items ≡ []) × (vec_capacity t.rear.0.workers ≡ 1) × (t.rear.0.room.items ≡ []) × (vec_capacity t.rear.0.room ≡ 1)) }
-    ensures forwarders { IfOk result (λ t. (t.rear.1.workers.items ≡ []) × (vec_capacity t.rear.1.workers ≡ links) × (t.rear.1.room.items ≡ []) × (vec_capacity t.rear.1.room ≡ links)) }
+    ensures front { IfOk result (λ t. IsFor links t.front.0 × IsFor processors t.front.1) }
+    ensures rear { IfOk result (λ t. IsFor 1 t.rear.0 × IsFor links t.rear.1) }
 {
     let front = two_teams_for(
         alloc,

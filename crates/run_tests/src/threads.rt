@@ -1,6 +1,6 @@
 //! Small workers, in threads, to their ends.
 
-ghost use Rattle.std.specs.Prelude.{◌≡◌, ◌≤◌, [], false, length, vec_capacity};
+ghost use Rattle.std.specs.Prelude.{◌≡◌, ◌≤◌, false};
 
 use crossbeam_utils::sync::EventCount;
 use packet_ledger::{Blank, Book, Router, Share};
@@ -89,9 +89,7 @@ fn team_of<N: Router, W: Worker + Drop, R: Abort>(
     alloc: Global,
     workers: Vec<W>,
     orders: Vec<Orders<N>>,
-) -> Team<N, W>
-    ensures { (result.room.items ≡ []) × (length result.workers.items ≤ vec_capacity result.room) }
-{
+) -> Team<N, W> {
     let room = Vec::with_capacity(alloc, workers.len()).expect(rt, "memory");
     Team {
         workers,
@@ -143,9 +141,7 @@ fn team<N: Router, R: Abort>(
     orders: &Orders<N>,
     shares: &mut Vec<Share<N>>,
     size: Size,
-) -> Team<N, Countdown<N>>
-    ensures { (result.room.items ≡ []) × (length result.workers.items ≤ vec_capacity result.room) }
-{
+) -> Team<N, Countdown<N>> {
     let workers = countdowns(rt, alloc, shares, size.0);
     team_of(rt, alloc, workers, copies(rt, alloc, orders, size.1))
 }
@@ -392,9 +388,7 @@ fn alone<N: Router, W: Worker + Drop, R: Abort>(
     alloc: Global,
     worker: W,
     orders: Orders<N>,
-) -> Team<N, W>
-    ensures { (result.room.items ≡ []) × (length result.workers.items ≤ vec_capacity result.room) }
-{
+) -> Team<N, W> {
     let mut workers = Vec::new(alloc);
     workers.push(worker).expect(rt, "memory");
     let mut each = Vec::new(alloc);

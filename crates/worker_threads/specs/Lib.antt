@@ -1,3 +1,4 @@
 pub mod Same
 pub mod Workers
 pub mod Back
+pub mod Teams

@@ -1,6 +1,6 @@
 //! Threads for all workers, or none.
 
-ghost use Rattle.std.specs.Prelude.{◌≡◌, ◌≤◌, [], IfOk, length, vec_capacity};
+ghost use Rattle.std.specs.Prelude.{◌≡◌, IfOk};
 
 use crate::orders::Orders;
 use crate::thread::{Handle, ThreadFault, start_worker};
@@ -11,12 +11,24 @@ use std::sync::Wait;
 use std::thread::Threads;
 use std::time::Clock;
 
-/// Workers of one kind, orders for the thread of each, in order, and room for the threads' handles.
+/// Workers of one kind, orders for the thread of each, in order, and room for the threads' handles, of which
+/// none is there. Contracts see the workers, and for how many of them and of their handles there is room.
 #[derive(Drop)]
 pub struct Team<N: Router, W: Worker> {
     pub workers: Vec<W>,
     pub orders: Vec<Orders<N>>,
     pub room: Vec<Handle<W>>,
+}
+
+impl<N: Router, W: Worker> Model for Team<N, W> {
+    ghost use Rattle.std.specs.Prelude.{◌≡◌, ◌≤◌, [], length, vec_capacity};
+    ghost use Rattle.worker_threads.specs.Teams.{Seated};
+
+    ghost Value = { Seated W };
+
+    ghost view = { λ t. record { workers = t.workers.items; seats = vec_capacity t.workers; handles = vec_capacity t.room } };
+
+    ghost invariant = { λ t. (t.room.items ≡ []) × (length t.workers.items ≤ vec_capacity t.room) };
 }
 
 /// Workers of one kind in threads of their own, and their list, which is empty now: the room that they come
@@ -43,8 +55,7 @@ where
     N: Router + Send + Sync + 'static,
     W: Work<N> + Send + Drop + 'static,
     R: Threads + Wait + Clock + Copy + Send + 'static,
-    requires room { (team.room.items ≡ []) × (length team.workers.items ≤ vec_capacity team.room) }
-    ensures { IfOk result (λ s. s ≡ team.workers.items) }
+    ensures { IfOk result (λ s. s ≡ team.workers) }
 {
     let Team {
         mut workers,
@@ -97,8 +108,7 @@ where
     N: Router + Send + Sync + 'static,
     W: Work<N> + Send + Drop + 'static,
     R: Threads + Wait + Clock + Copy + Send + 'static,
-    requires room { (team.room.items ≡ []) × (length team.workers.items ≤ vec_capacity team.room) }
-    ensures { IfOk result (λ s. s ≡ team.workers.items) }
+    ensures { IfOk result (λ s. s ≡ team.workers) }
 {
     match start_each(rt, team) {
         Ok(started) => Ok(started),
@@ -128,10 +138,8 @@ where
     V: Work<N> + Send + Drop + 'static,
     W: Work<N> + Send + Drop + 'static,
     R: Threads + Wait + Clock + Copy + Send + 'static,
-    requires first { (first.room.items ≡ []) × (length first.workers.items ≤ vec_capacity first.room) }
-    requires second { (second.room.items ≡ []) × (length second.workers.items ≤ vec_capacity second.room) }
-    ensures first { IfOk result (λ b. b.first ≡ first.workers.items) }
-    ensures second { IfOk result (λ b. b.second ≡ second.workers.items) }
+    ensures first { IfOk result (λ b. b.first ≡ first.workers) }
+    ensures second { IfOk result (λ b. b.second ≡ second.workers) }
 {
     let first = start_all(rt, orders, first)?;
     match start_all(rt, orders, second) {
@@ -157,14 +165,10 @@ where
     C: Work<N> + Send + Drop + 'static,
     D: Work<N> + Send + Drop + 'static,
     R: Threads + Wait + Clock + Copy + Send + 'static,
-    requires one { (one.0.room.items ≡ []) × (length one.0.workers.items ≤ vec_capacity one.0.room) }
-    requires two { (one.1.room.items ≡ []) × (length one.1.workers.items ≤ vec_capacity one.1.room) }
-    requires three { (other.0.room.items ≡ []) × (length other.0.workers.items ≤ vec_capacity other.0.room) }
-    requires four { (other.1.room.items ≡ []) × (length other.1.workers.items ≤ vec_capacity other.1.room) }
-    ensures one { IfOk result (λ r. r.0.first ≡ one.0.workers.items) }
-    ensures two { IfOk result (λ r. r.0.second ≡ one.1.workers.items) }
-    ensures three { IfOk result (λ r. r.1.first ≡ other.0.workers.items) }
-    ensures four { IfOk result (λ r. r.1.second ≡ other.1.workers.items) }
+    ensures one { IfOk result (λ r. r.0.first ≡ one.0.workers) }
+    ensures two { IfOk result (λ r. r.0.second ≡ one.1.workers) }
+    ensures three { IfOk result (λ r. r.1.first ≡ other.0.workers) }
+    ensures four { IfOk result (λ r. r.1.second ≡ other.1.workers) }
 {
     let front = start_both(rt, orders, one.0, one.1)?;
     match start_both(rt, orders, other.0, other.1) {

@@ -1,40 +1,25 @@
-use Rattle.std.proofs.Common.{ℕ, ◌∙◌, subst}
+use Rattle.std.proofs.Common.{ℕ, sym, subst}
 use Rattle.process_packet.specs.declared.config.Config.{Config}
 use Rattle.router_pipes.specs.Dealing.{piping}
 use Rattle.run_report.specs.Room.{HaveSpace}
 use Rattle.router_run.specs.WorkerParts.{AreWorkerParts}
 use Rattle.router_pipes.proofs.OkLemmas.{of_ok}
+use Rattle.router_run.proofs.Begin.{for_as}
 use Rattle.router_run.proofs.preparing.prepare.Goals as goal
 
-pub returns-clause-receivers : goal.returns-clause-receivers
-returns-clause-receivers g c =
-    let rest = of_ok _ _ _ c.in_ok-worker_parts.ensures.1 c.both.ensures in
-    let d = of_ok _ _ _ rest.0 c.teams_for-teams.ensures.receivers in
-    let l = c.link_count-links.ensures.count in
-    (d.0, d.1 ∙ l, d.2, d.3 ∙ l)
+pub returns-clause-front : goal.returns-clause-front
+returns-clause-front g c =
+    let teams = of_ok _ _ _ c.in_ok-worker_parts.ensures.1 c.teams_for-teams.ensures.front in
+    (for_as _ _ _ teams.0 (sym c.link_count-links.ensures.count), for_as _ _ _ teams.1 (sym c.from-processors.ensures))
 
-pub returns-clause-processors : goal.returns-clause-processors
-returns-clause-processors g c =
-    let rest = of_ok _ _ _ c.in_ok-worker_parts.ensures.1 c.both.ensures in
-    let d = of_ok _ _ _ rest.0 c.teams_for-teams.ensures.processors in
-    (d.0, d.1, d.2 ∙ c.from-processors.ensures)
-
-pub returns-clause-slow : goal.returns-clause-slow
-returns-clause-slow g c =
-    let rest = of_ok _ _ _ c.in_ok-worker_parts.ensures.1 c.both.ensures in
-    of_ok _ _ _ rest.0 c.teams_for-teams.ensures.slow
-
-pub returns-clause-forwarders : goal.returns-clause-forwarders
-returns-clause-forwarders g c =
-    let rest = of_ok _ _ _ c.in_ok-worker_parts.ensures.1 c.both.ensures in
-    let d = of_ok _ _ _ rest.0 c.teams_for-teams.ensures.forwarders in
-    let l = c.link_count-links.ensures.count in
-    (d.0, d.1 ∙ l, d.2, d.3 ∙ l)
+pub returns-clause-rear : goal.returns-clause-rear
+returns-clause-rear g c =
+    let teams = of_ok _ _ _ c.in_ok-worker_parts.ensures.1 c.teams_for-teams.ensures.rear in
+    (teams.0, for_as _ _ _ teams.1 (sym c.link_count-links.ensures.count))
 
 pub returns-clause-space : goal.returns-clause-space
 returns-clause-space g c =
-    let rest = of_ok _ _ _ c.in_ok-worker_parts.ensures.1 c.both.ensures in
-    let space = of_ok (λ r. HaveSpace c.link_count-links.result c.from-processors.result r) c.space_for-space.result c.in_ok-worker_parts.space rest.1 c.space_for-space.ensures in
+    let space = of_ok (λ r. HaveSpace c.link_count-links.result c.from-processors.result r) c.space_for-space.result c.in_ok-worker_parts.space c.in_ok-worker_parts.ensures.2 c.space_for-space.ensures in
     subst (λ (n : ℕ). HaveSpace n c.args.config.processors c.in_ok-worker_parts.space) c.link_count-links.ensures.count
     (subst (λ (n : ℕ). HaveSpace c.link_count-links.result n c.in_ok-worker_parts.space) c.from-processors.ensures space)
 

@@ -1,7 +1,7 @@
 use Rattle.std.proofs.Common.{◌+◌, ◌*◌, refl, sym, ◌∙◌, ap}
 use Rattle.process_packet.specs.declared.config.Config.{Config}
 use Rattle.router_rules.specs.Links.{link_count}
-use Rattle.router_run.proofs.Begin.{parts_as, starts}
+use Rattle.router_run.proofs.Begin.{for_as, parts_as, starts}
 use Rattle.router_run.proofs.Finish.{space_as}
 use Rattle.router_run.proofs.running.start.Goals as goal
 
@@ -17,25 +17,14 @@ prepare-requires-clause-workers g c = c.requires.workers
 pub run-requires-clause-worker_parts : goal.run-requires-clause-worker_parts
 run-requires-clause-worker_parts g c κs within = parts_as _ _ _ _ _ _ _ _ _ _ c.in-Ok.ensures.shared c.in-Ok.ensures.worker_parts
 
-pub run-requires-clause-receivers : goal.run-requires-clause-receivers
-run-requires-clause-receivers g c κs within =
-    let room = c.in-Ok.ensures.receivers in
-    let links = ap link_count (sym c.in-Ok.ensures.shared) in
-    (room.0, room.1 ∙ links, room.2, room.3 ∙ links)
+pub run-requires-clause-front : goal.run-requires-clause-front
+run-requires-clause-front g c κs within =
+    let same = c.in-Ok.ensures.shared in
+    let front = c.in-Ok.ensures.front in
+    (for_as _ _ _ front.0 (ap link_count same), for_as _ _ _ front.1 (ap (λ (k : Config). k.processors) same))
 
-pub run-requires-clause-processors : goal.run-requires-clause-processors
-run-requires-clause-processors g c κs within =
-    let room = c.in-Ok.ensures.processors in
-    (room.0, room.1, room.2 ∙ ap (λ (k : Config). k.processors) (sym c.in-Ok.ensures.shared))
-
-pub run-requires-clause-slow : goal.run-requires-clause-slow
-run-requires-clause-slow g c κs within = c.in-Ok.ensures.slow
-
-pub run-requires-clause-forwarders : goal.run-requires-clause-forwarders
-run-requires-clause-forwarders g c κs within =
-    let room = c.in-Ok.ensures.forwarders in
-    let links = ap link_count (sym c.in-Ok.ensures.shared) in
-    (room.0, room.1 ∙ links, room.2, room.3 ∙ links)
+pub run-requires-clause-rear : goal.run-requires-clause-rear
+run-requires-clause-rear g c κs within = let rear = c.in-Ok.ensures.rear in (rear.0, for_as _ _ _ rear.1 (ap link_count c.in-Ok.ensures.shared))
 
 pub run-requires-clause-space : goal.run-requires-clause-space
 run-requires-clause-space g c κs within = space_as _ _ _ c.in-Ok.ensures.shared c.in-Ok.ensures.space

@@ -4,7 +4,7 @@ use Rattle.worker_threads.proofs.starting.start_each.Given as goal
 abbrev pub invariant-loop-k : goal.invariant-loop-k
 invariant-loop-k g l = record {
   left : l.k + length l.workers.items ≡ l.count;
-  made : map (λ h. h.promise.0.value) l.handles.items ++ reverse l.workers.items ≡ l.fn.team.workers.items;
-  fits : length l.fn.team.workers.items ≤ vec_capacity l.handles;
-  room : length l.fn.team.workers.items ≤ vec_capacity l.workers;
+  made : map (λ h. h.promise.0.value) l.handles.items ++ reverse l.workers.items ≡ l.fn.team.workers;
+  fits : length l.fn.team.workers ≤ vec_capacity l.handles;
+  room : length l.fn.team.workers ≤ vec_capacity l.workers;
 }
