@@ -6,8 +6,8 @@
 It is called at the top of a checkout in which `rt ci` was run before, so that the libraries below are there; with
 `--test` the crate is read with its tests. The first N functions are printed (20), those with the most `Lts` first: it
 lists each local at each statement, and is what most functions take longest for. It takes as long as a check, but these
-sizes are the same on each machine and at each hour, so they show which of two forms of a function is shorter where
-seconds don't. They say less of `Tie`, and nothing of searches.
+sizes don't vary from run to run, so they show which of two forms of a function is shorter where seconds don't. They say
+less of what `Tie` takes, and nothing of searches.
 """
 
 import collections
@@ -18,6 +18,7 @@ import subprocess
 import sys
 import tempfile
 
+from pair import crates_at
 from times import load
 
 KINDS = ("Lts", "Tie", "Mir", "Named", "Proof")
@@ -47,11 +48,9 @@ def main():
     tests = "--test" in sys.argv
     name, *number = [it for it in sys.argv[1:] if it != "--test"] or sys.exit(__doc__)
     sys.argv[1:] = []
-    root = os.getcwd()
     rt = load(os.path.realpath(shutil.which("rt")))
-    rt.Crate.allowed = rt.handles_of(root)
     rt.Crate.cuts_libraries = True
-    crate = {it.name: it for it in rt.crates_of(root)}[name]
+    crate = crates_at(rt, os.getcwd()).get(name) or sys.exit(f"crates.txt has no crate {name}")
     with tempfile.TemporaryDirectory(prefix="sizes-") as folder:
         if not made(rt, crate, tests, folder):
             sys.exit(f"the modules of {name} could not be made: rt check says why")
