@@ -1,1 +1,3 @@
 pub mod Forwarding
+pub mod SameForwarder
+pub mod ForwarderLaws

@@ -1,12 +1,12 @@
 //! A forwarder.
 
-ghost use Rattle.std.specs.Prelude.{◌≡◌, ◌+◌, [], false, MatchBool, Some, length};
+ghost use Rattle.std.specs.Prelude.{◌≡◌, [], false, MatchBool, Some, length};
 ghost use Rattle.std.specs.Arc.{arc_value};
-ghost use Rattle.packet_ledger.specs.Share.{HasRoom, IsPosted, new_share};
+ghost use Rattle.packet_ledger.specs.Share.{new_share};
 ghost use Rattle.router_laws.specs.Heard.{ToldNothing};
 ghost use Rattle.router_laws.specs.Keeping.{IsForwarding};
 ghost use Rattle.router_rules.specs.Links.{link_count};
-ghost use Rattle.forwarder_stage.specs.Forwarding.{AwaitsPush, Forwarded, HasEnded, first_delivery, first_forwarding, posted};
+ghost use Rattle.forwarder_stage.specs.Forwarding.{HasEnded, first_delivery, first_forwarding};
 ghost use Rattle.stage_parts.specs.Told.{told_of};
 
 use crate::band::Band;
@@ -14,7 +14,7 @@ use crate::delivery::Delivery;
 use packet_ledger::{Book, Share};
 use router_rules::Shared;
 use ruled_pipe::{Consumer, Producer};
-use stage_parts::{Buffer, EgressPacket, Router, Sink, Turn};
+use stage_parts::{Buffer, EgressPacket, Router, Sink, Stage, Turn, Turns};
 use std::alloc::Global;
 use std::marker::Model;
 use std::sync::{Arc, Wait};
@@ -113,13 +113,6 @@ impl<N: Router, K: Sink> Forwarder<N, K> {
         (sink, low.into_consumer(), high.into_consumer(), free, share)
     }
 
-    /// Whether each of its counts can still be raised.
-    pub fn has_room(&self) -> bool
-        ensures { MatchBool result (HasRoom self.now.side.share.counts) (HasRoom self.now.side.share.counts → ⊥) }
-    {
-        self.delivery.has_room()
-    }
-
     // Whether each end mark of its pipes was taken.
     fn is_over(&self) -> bool
         ensures { MatchBool result (HasEnded self.now) (HasEnded self.now → ⊥) }
@@ -132,24 +125,43 @@ impl<N: Router, K: Sink> Forwarder<N, K> {
         }
         self.high.is_over()
     }
+}
 
-    /// Whether its next turn can only do something once there is a push into its pipes: an end mark is
-    /// still to come, and the sink can be asked.
-    pub fn awaits_push(&self) -> bool
-        ensures { MatchBool result (AwaitsPush K.failed self.now) (AwaitsPush K.failed self.now → ⊥) }
-    {
-        if self.is_over() {
-            return false;
-        }
-        self.delivery.failures() != u64::MAX
+impl<N: Router, K: Sink> Stage for Forwarder<N, K> {
+    ghost use Rattle.forwarder_stage.specs.SameForwarder.{IsSameForwarder, ForwarderEnded};
+
+    ghost same = { λ a b. IsSameForwarder a b };
+
+    ghost has_ended = { λ f. ForwarderEnded f };
+}
+
+impl<N: Router, K: Sink> Turns<N> for Forwarder<N, K> {
+    ghost use Rattle.std.specs.Prelude.{◌≡◌, false};
+    ghost use Rattle.packet_ledger.specs.Share.{HasRoom, IsDrained, IsPosted};
+    ghost use Rattle.forwarder_stage.specs.Forwarding.{AwaitsPush, Forwarded, posted};
+    ghost use Rattle.forwarder_stage.specs.SameForwarder.{forwarder_self, forwarder_then};
+    ghost use Rattle.packet_ledger.proofs.Posting.{posted_drains};
+    ghost use Rattle.forwarder_stage.specs.ForwarderLaws.{forwarded_ended, forwarded_same, forwarder_as, forwarder_posted, forwarder_still};
+
+    ghost may_turn = { λ f. HasRoom f.side.share.counts };
+
+    ghost has_turned = { λ turn a b. Forwarded K.told K.failed turn a b };
+
+    ghost awaits = { λ f. AwaitsPush K.failed f };
+
+    ghost has_waited = { λ waited a b. (waited ≡ false) × (b ≡ a) };
+
+    ghost has_posted = { λ a b. IsPosted a.side.share b.side.share × (b ≡ posted b.side.share a) };
+
+    ghost is_drained = { λ f. IsDrained f.side.share };
+
+    fn has_room(&self) -> bool {
+        self.delivery.has_room()
     }
 
     /// Takes one entry of the high band's pipe, or, where that was seen empty, of the low one's. A sink
     /// whose count of failures is at the largest number isn't asked.
-    pub fn turn<R: Wait>(&mut self, rt: &R) -> Turn
-        requires { HasRoom self.old.side.share.counts }
-        ensures { Forwarded K.told K.failed result self.old self.new }
-    {
+    fn turn<R: Wait>(&mut self, rt: &R) -> Turn {
         if self.is_over() {
             return Turn::Ended;
         }
@@ -170,11 +182,36 @@ impl<N: Router, K: Sink> Forwarder<N, K> {
         }
     }
 
-    /// Posts its counts into the book, where there is room.
-    pub fn post<R: Wait>(&mut self, rt: &R, book: &Book<N>)
-        ensures share { IsPosted self.old.side.share self.new.side.share }
-        ensures same { self.new ≡ posted self.new.side.share self.old }
-    {
+    /// Whether an end mark is still to come and the sink can be asked.
+    fn awaits_push(&self) -> bool {
+        if self.is_over() {
+            return false;
+        }
+        self.delivery.failures() != u64::MAX
+    }
+
+    /// It has no wait of its own.
+    fn wait(&mut self) -> bool {
+        false
+    }
+
+    fn post<R: Wait>(&mut self, rt: &R, book: &Book<N>) {
         self.delivery.post(rt, book);
     }
+
+    ghost same_self = { λ x. forwarder_self x };
+
+    ghost same_then = { λ x y z p q. forwarder_then x y z p q };
+
+    ghost turn_same = { λ turn x y is. forwarded_same K.told K.failed x y turn is };
+
+    ghost turn_ended = { λ x y is. forwarded_ended K.told K.failed x y is };
+
+    ghost wait_same = { λ waited x y is. forwarder_as x y is.1 };
+
+    ghost post_same = { λ x y is. forwarder_posted x y is.1 };
+
+    ghost post_ended = { λ x y is ended. forwarder_still x y is.1 ended };
+
+    ghost post_drains = { λ x y is. posted_drains x.side.share y.side.share is.0 };
 }

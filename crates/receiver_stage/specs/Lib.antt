@@ -1,3 +1,5 @@
 pub mod Pool
 pub mod Intake
 pub mod Receiving
+pub mod SameReceiver
+pub mod ReceiverLaws

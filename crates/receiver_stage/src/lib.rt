@@ -5,4 +5,4 @@ mod intake;
 mod pool;
 mod receiver;
 
-pub use receiver::{Receiver, STOP};
+pub use receiver::Receiver;

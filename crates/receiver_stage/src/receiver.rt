@@ -1,12 +1,12 @@
 //! A receiver.
 
-ghost use Rattle.std.specs.Prelude.{◌≡◌, ◌<◌, true, false, MatchBool, Some, [], length};
+ghost use Rattle.std.specs.Prelude.{◌≡◌, ◌<◌, true, Some, [], length};
 ghost use Rattle.std.specs.Arc.{arc_value};
-ghost use Rattle.packet_ledger.specs.Share.{HasRoom, IsPosted, new_share};
+ghost use Rattle.packet_ledger.specs.Share.{new_share};
 ghost use Rattle.router_laws.specs.Heard.{ToldNothing};
 ghost use Rattle.router_laws.specs.Keeping.{IsReceiving};
 ghost use Rattle.router_rules.specs.Links.{link_count};
-ghost use Rattle.receiver_stage.specs.Receiving.{EndsQuietly, Received, Waited, first_receiving, posted};
+ghost use Rattle.receiver_stage.specs.Receiving.{EndsQuietly, first_receiving};
 ghost use Rattle.stage_parts.specs.Outlets.{AreFresh, senders};
 
 use crate::intake::Intake;
@@ -14,15 +14,11 @@ use crate::pool::Pool;
 use packet_ledger::{Book, Share};
 use router_rules::{Shared, links_stand_in_order};
 use ruled_pipe::Consumer;
-use stage_parts::{Buffer, NextLen, Outlet, Packet, Router, Source, Turn};
+use stage_parts::{Buffer, NextLen, Outlet, Packet, Router, STOP, Source, Stage, Turn, Turns};
 use std::alloc::Global;
 use std::marker::Model;
 use std::sync::atomic::{AtomicU64, Ordering};
 use std::sync::{Arc, Wait};
-
-/// The word of the stop flag that is shared with the receivers, once they are to end. Any other word
-/// lets them go on.
-pub const STOP: u64 = 1;
 
 // It ends after this number, so that no queue ever accepts 2^62 pushes.
 const LAST_NUMBER: u64 = 1 << 56;
@@ -117,20 +113,43 @@ impl<N: Router, S: Source> Receiver<N, S> {
         let (processors, free, share) = intake.into_parts();
         (source, processors, free, share)
     }
+}
 
-    /// Whether each of its counts can still be raised.
-    pub fn has_room(&self) -> bool
-        ensures { MatchBool result (HasRoom self.now.side.share.counts) (HasRoom self.now.side.share.counts → ⊥) }
-    {
+impl<N: Router, S: Source> Stage for Receiver<N, S> {
+    ghost use Rattle.receiver_stage.specs.SameReceiver.{IsSameReceiver, ReceiverEnded};
+
+    ghost same = { λ a b. IsSameReceiver a b };
+
+    ghost has_ended = { λ r. ReceiverEnded r };
+}
+
+impl<N: Router, S: Source> Turns<N> for Receiver<N, S> {
+    ghost use Rattle.std.specs.Prelude.{◌≡◌, false, MatchBool};
+    ghost use Rattle.packet_ledger.specs.Share.{HasRoom, IsDrained, IsPosted};
+    ghost use Rattle.packet_ledger.proofs.Posting.{posted_drains};
+    ghost use Rattle.receiver_stage.specs.Receiving.{Received, Waited, posted};
+    ghost use Rattle.receiver_stage.specs.SameReceiver.{receiver_self, receiver_then};
+    ghost use Rattle.receiver_stage.specs.ReceiverLaws.{received_ended, received_same, receiver_posted, receiver_still, waited_same};
+
+    ghost may_turn = { λ r. HasRoom r.side.share.counts };
+
+    ghost has_turned = { λ turn a b. Received S.told S.failed turn a b };
+
+    ghost awaits = { λ r. ⊥ };
+
+    ghost has_waited = { λ waited a b. Waited S.told S.failed a b × MatchBool a.ended (waited ≡ false) (S.waits a.source waited) };
+
+    ghost has_posted = { λ a b. IsPosted a.side.share b.side.share × (b ≡ posted b.side.share a) };
+
+    ghost is_drained = { λ r. IsDrained r.side.share };
+
+    fn has_room(&self) -> bool {
         self.intake.has_room()
     }
 
     /// Asks the source once, and passes on what it gives. A source whose count of failures is at the
     /// largest number isn't asked. After its end it tries the end marks that it owes.
-    pub fn turn<R: Wait>(&mut self, rt: &R) -> Turn
-        requires { HasRoom self.old.side.share.counts }
-        ensures { Received S.told S.failed result self.old self.new }
-    {
+    fn turn<R: Wait>(&mut self, rt: &R) -> Turn {
         if self.ended {
             return if self.intake.end(rt) {
                 Turn::Ended
@@ -164,22 +183,36 @@ impl<N: Router, S: Source> Receiver<N, S> {
         }
     }
 
+    /// It takes from its source, so no push ends its quiet.
+    fn awaits_push(&self) -> bool {
+        false
+    }
+
     /// Waits as its source does, before its end, and says what that says.
-    pub fn wait(&mut self) -> bool
-        ensures same { Waited S.told S.failed self.old self.new }
-        ensures waits { MatchBool self.old.ended (result ≡ false) (S.waits self.old.source result) }
-    {
+    fn wait(&mut self) -> bool {
         if self.ended {
             return false;
         }
         self.source.wait()
     }
 
-    /// Posts its counts into the book, where there is room.
-    pub fn post<R: Wait>(&mut self, rt: &R, book: &Book<N>)
-        ensures share { IsPosted self.old.side.share self.new.side.share }
-        ensures same { self.new ≡ posted self.new.side.share self.old }
-    {
+    fn post<R: Wait>(&mut self, rt: &R, book: &Book<N>) {
         self.intake.post(rt, book);
     }
+
+    ghost same_self = { λ x. receiver_self x };
+
+    ghost same_then = { λ x y z p q. receiver_then x y z p q };
+
+    ghost turn_same = { λ turn x y is. received_same S.told S.failed x y turn is };
+
+    ghost turn_ended = { λ x y is. received_ended S.told S.failed x y is };
+
+    ghost wait_same = { λ waited x y is. waited_same S.told S.failed x y is.0 };
+
+    ghost post_same = { λ x y is. receiver_posted x y is.1 };
+
+    ghost post_ended = { λ x y is ended. receiver_still x y is.1 ended };
+
+    ghost post_drains = { λ x y is. posted_drains x.side.share y.side.share is.0 };
 }

@@ -16,12 +16,12 @@ use process_packet::Config;
 use router_pipes::events_for;
 use router_rules::{Shared, link_count};
 use run_report::{Space, space_for};
-use stage_parts::{Gate, Router};
+use stage_parts::{Gate, Router, Stage};
 use std::alloc::{AllocError, Global};
 use std::sync::atomic::AtomicU64;
 use std::sync::{Arc, Wait};
 use wired_workers::Common;
-use worker_threads::{HOLD, Orders, Worker};
+use worker_threads::{HOLD, Orders};
 
 /// What a run stands on: what its workers share, and the orders of their threads, with the book.
 #[derive(Drop)]
@@ -119,10 +119,10 @@ pub struct Prepared<N, G, A, B, C, D, S, K>
 where
     N: Router,
     G: Gate,
-    A: Worker,
-    B: Worker,
-    C: Worker,
-    D: Worker,
+    A: Stage,
+    B: Stage,
+    C: Stage,
+    D: Stage,
 {
     pub base: Base<N>,
     pub worker_parts: WorkerParts<N, G>,
@@ -141,10 +141,10 @@ pub fn prepare<N, G, A, B, C, D, S, K, R>(
 where
     N: Router,
     G: Gate + Drop,
-    A: Worker + Drop,
-    B: Worker + Drop,
-    C: Worker + Drop,
-    D: Worker + Drop,
+    A: Stage + Drop,
+    B: Stage + Drop,
+    C: Stage + Drop,
+    D: Stage + Drop,
     S: Drop,
     K: Drop,
     R: Wait,

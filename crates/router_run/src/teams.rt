@@ -4,10 +4,10 @@ ghost use Rattle.std.specs.Prelude.{IfOk};
 ghost use Rattle.worker_threads.specs.Teams.{IsFor};
 
 use router_pipes::Events;
-use stage_parts::{Event, Router, both};
+use stage_parts::{Event, Router, Stage, both};
 use std::alloc::{AllocError, Global};
 use std::slice;
-use worker_threads::{Handle, Orders, Team, Worker};
+use worker_threads::{Handle, Orders, Team};
 
 // Orders for the threads of so many workers, each with its worker's event if it has one.
 fn orders_for<N: Router>(
@@ -28,7 +28,7 @@ fn orders_for<N: Router>(
 }
 
 // A team of so many workers, none of whom is there yet.
-fn team_for<N: Router, W: Worker + Drop>(
+fn team_for<N: Router, W: Stage + Drop>(
     alloc: Global,
     orders: &Orders<N>,
     events: &[Event],
@@ -47,7 +47,7 @@ fn team_for<N: Router, W: Worker + Drop>(
 }
 
 // Two such teams, of workers that have these events.
-fn two_teams_for<N: Router, V: Worker + Drop, W: Worker + Drop>(
+fn two_teams_for<N: Router, V: Stage + Drop, W: Stage + Drop>(
     alloc: Global,
     orders: &Orders<N>,
     first_events: &[Event],
@@ -69,10 +69,10 @@ fn two_teams_for<N: Router, V: Worker + Drop, W: Worker + Drop>(
 pub struct Teams<N, A, B, C, D>
 where
     N: Router,
-    A: Worker,
-    B: Worker,
-    C: Worker,
-    D: Worker,
+    A: Stage,
+    B: Stage,
+    C: Stage,
+    D: Stage,
 {
     pub front: (Team<N, A>, Team<N, B>),
     pub rear: (Team<N, C>, Team<N, D>),
@@ -89,10 +89,10 @@ pub fn teams_for<N, A, B, C, D>(
 ) -> Result<Teams<N, A, B, C, D>, AllocError>
 where
     N: Router,
-    A: Worker + Drop,
-    B: Worker + Drop,
-    C: Worker + Drop,
-    D: Worker + Drop,
+    A: Stage + Drop,
+    B: Stage + Drop,
+    C: Stage + Drop,
+    D: Stage + Drop,
     ensures front { IfOk result (λ t. IsFor links t.front.0 × IsFor processors t.front.1) }
     ensures rear { IfOk result (λ t. IsFor 1 t.rear.0 × IsFor links t.rear.1) }
 {

@@ -1,7 +1,12 @@
 pub use Rattle.receiver_stage.specs.Pool
 pub use Rattle.receiver_stage.specs.Intake
 pub use Rattle.receiver_stage.specs.Receiving
+pub use Rattle.receiver_stage.specs.SameReceiver
 pub use Rattle.forwarder_stage.specs.Forwarding
+pub use Rattle.forwarder_stage.specs.SameForwarder
 pub mod Exits
 pub mod Working
 pub mod Answering
+pub mod SameProcessor
+pub mod SameSlowPath
+pub mod ExitLaws

@@ -8,6 +8,6 @@ mod slow_path;
 
 pub use forwarder_stage::{Band, Forwarder};
 pub use processor::Processor;
-pub use receiver_stage::{Receiver, STOP};
+pub use receiver_stage::Receiver;
 pub use slow_path::SlowPath;
 pub use stage_parts::Turn;

@@ -1,11 +1,11 @@
 //! A processor.
 
-ghost use Rattle.std.specs.Prelude.{◌≡◌, ◌&&◌, ◌*◌, ◌∷◌, true, false, None, Some, [], MatchBool, is_some, length};
+ghost use Rattle.std.specs.Prelude.{◌≡◌, ◌&&◌, ◌*◌, ◌∷◌, true, Some, [], is_some, length};
 ghost use Rattle.std.specs.Arc.{arc_value};
-ghost use Rattle.packet_ledger.specs.Share.{HasRoom, IsPosted, new_share};
+ghost use Rattle.packet_ledger.specs.Share.{HasRoom, new_share};
 ghost use Rattle.router_laws.specs.Keeping.{IsWorking};
 ghost use Rattle.stage_parts.specs.Turn.{ending};
-ghost use Rattle.router_stages.specs.Working.{AwaitsPush, EndsWorking, IsDone, Worked, WorksFor, first_leaving, first_working, posted};
+ghost use Rattle.router_stages.specs.Working.{EndsWorking, IsDone, WorksFor, first_leaving, first_working};
 ghost use Rattle.router_rules.specs.Links.{link_count};
 ghost use Rattle.stage_parts.specs.Outlets.{AreFresh, senders};
 
@@ -14,7 +14,7 @@ use packet_ledger::{Book, Share};
 use router_rules::{Shared, Worker};
 use ruled_pipe::{Load, Producer};
 use stage_parts::{
-    Buffer, EgressPacket, Gate, Inlet, Outlet, Packet, Router, SlowPathRequest, Turn,
+    Buffer, EgressPacket, Gate, Inlet, Outlet, Packet, Router, SlowPathRequest, Stage, Turn, Turns,
 };
 use std::alloc::Global;
 use std::marker::Model;
@@ -123,43 +123,6 @@ impl<N: Router, G: Gate + Drop> Processor<N, G> {
         (from, links, slow, free, share)
     }
 
-    /// Whether each of its counts can still be raised.
-    pub fn has_room(&self) -> bool
-        ensures { MatchBool result (HasRoom self.now.side.share.counts) (HasRoom self.now.side.share.counts → ⊥) }
-    {
-        self.exits.has_room()
-    }
-
-    /// Takes a packet, where it has none in hand, and passes it on where the gate admits it. After the
-    /// last end mark of its pipe it tries the end marks that it owes, the slow path's first.
-    pub fn turn<R: Wait>(&mut self, rt: &R) -> Turn
-        requires { HasRoom self.old.side.share.counts }
-        ensures { Worked G.answers result self.old self.new }
-    {
-        if self.hand.is_some() {
-            return self.work(rt);
-        }
-        if self.from.is_done() {
-            return self.end(rt);
-        }
-        match self.from.take(rt) {
-            None => Turn::Quiet,
-            Some(Load::Marked(_)) => Turn::Did,
-            Some(Load::Payload(packet)) => {
-                self.hand = Some(packet);
-                self.work(rt)
-            }
-        }
-    }
-
-    /// Whether its next turn can only do something once there is a push into its pipe: nothing is in its
-    /// hand, and an end mark is still to come.
-    pub fn awaits_push(&self) -> bool
-        ensures { MatchBool result (AwaitsPush self.now) (AwaitsPush self.now → ⊥) }
-    {
-        self.hand.is_none() && !self.from.is_done()
-    }
-
     // Passes on the packet in hand, where the gate admits it.
     fn work<R: Wait>(&mut self, rt: &R) -> Turn
         requires some { is_some self.old.hand ≡ true }
@@ -187,12 +150,86 @@ impl<N: Router, G: Gate + Drop> Processor<N, G> {
         let links = self.exits.end(rt);
         both(slow, links)
     }
+}
 
-    /// Posts its counts into the book, where there is room.
-    pub fn post<R: Wait>(&mut self, rt: &R, book: &Book<N>)
-        ensures share { IsPosted self.old.side.share self.new.side.share }
-        ensures same { self.new ≡ posted self.new.side.share self.old }
-    {
+impl<N: Router, G: Gate> Stage for Processor<N, G> {
+    ghost use Rattle.router_stages.specs.SameProcessor.{IsSameProcessor, ProcessorEnded};
+
+    ghost same = { λ a b. IsSameProcessor a b };
+
+    ghost has_ended = { λ w. ProcessorEnded w };
+}
+
+impl<N: Router, G: Gate + Drop> Turns<N> for Processor<N, G> {
+    ghost use Rattle.std.specs.Prelude.{◌≡◌, false};
+    ghost use Rattle.packet_ledger.specs.Share.{HasRoom, IsDrained, IsPosted};
+    ghost use Rattle.packet_ledger.proofs.Posting.{posted_drains};
+    ghost use Rattle.router_stages.specs.Working.{AwaitsPush, Worked, posted};
+    ghost use Rattle.router_stages.specs.SameProcessor.{processor_self, processor_then};
+    ghost use Rattle.router_stages.specs.ExitLaws.{processor_as, processor_posted, processor_still, worked_ended, worked_same};
+
+    ghost may_turn = { λ w. HasRoom w.side.share.counts };
+
+    ghost has_turned = { λ turn a b. Worked G.answers turn a b };
+
+    ghost awaits = { λ w. AwaitsPush w };
+
+    ghost has_waited = { λ waited a b. (waited ≡ false) × (b ≡ a) };
+
+    ghost has_posted = { λ a b. IsPosted a.side.share b.side.share × (b ≡ posted b.side.share a) };
+
+    ghost is_drained = { λ w. IsDrained w.side.share };
+
+    fn has_room(&self) -> bool {
+        self.exits.has_room()
+    }
+
+    /// Takes a packet, where it has none in hand, and passes it on where the gate admits it. After the
+    /// last end mark of its pipe it tries the end marks that it owes, the slow path's first.
+    fn turn<R: Wait>(&mut self, rt: &R) -> Turn {
+        if self.hand.is_some() {
+            return self.work(rt);
+        }
+        if self.from.is_done() {
+            return self.end(rt);
+        }
+        match self.from.take(rt) {
+            None => Turn::Quiet,
+            Some(Load::Marked(_)) => Turn::Did,
+            Some(Load::Payload(packet)) => {
+                self.hand = Some(packet);
+                self.work(rt)
+            }
+        }
+    }
+
+    /// Whether nothing is in its hand and an end mark is still to come.
+    fn awaits_push(&self) -> bool {
+        self.hand.is_none() && !self.from.is_done()
+    }
+
+    /// It has no wait of its own.
+    fn wait(&mut self) -> bool {
+        false
+    }
+
+    fn post<R: Wait>(&mut self, rt: &R, book: &Book<N>) {
         self.exits.post(rt, book);
     }
+
+    ghost same_self = { λ x. processor_self x };
+
+    ghost same_then = { λ x y z p q. processor_then x y z p q };
+
+    ghost turn_same = { λ turn x y is. worked_same G.answers x y turn is };
+
+    ghost turn_ended = { λ x y is. worked_ended G.answers x y is };
+
+    ghost wait_same = { λ waited x y is. processor_as x y is.1 };
+
+    ghost post_same = { λ x y is. processor_posted x y is.1 };
+
+    ghost post_ended = { λ x y is ended. processor_still x y is.1 ended };
+
+    ghost post_drains = { λ x y is. posted_drains x.side.share y.side.share is.0 };
 }

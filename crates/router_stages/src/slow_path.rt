@@ -1,12 +1,11 @@
 //! The slow path.
 
-ghost use Rattle.std.specs.Prelude.{◌≡◌, ◌*◌, ◌<◌, MatchBool, Some, [], length};
+ghost use Rattle.std.specs.Prelude.{◌≡◌, ◌*◌, ◌<◌, Some, [], length};
 ghost use Rattle.std.specs.Arc.{arc_value};
-ghost use Rattle.packet_ledger.specs.Share.{HasRoom, IsPosted, MayRaise, new_share};
+ghost use Rattle.packet_ledger.specs.Share.{MayRaise, new_share};
 ghost use Rattle.router_laws.specs.Keeping.{IsAnswering};
 ghost use Rattle.router_rules.specs.Links.{link_count};
-ghost use Rattle.ruled_pipe.specs.Gathered.{ends_in};
-ghost use Rattle.router_stages.specs.Answering.{Answered, EndsAnswering, IsDone, RepliedTo, first_answering, posted};
+ghost use Rattle.router_stages.specs.Answering.{EndsAnswering, IsDone, RepliedTo, first_answering};
 ghost use Rattle.router_stages.specs.Working.{first_leaving};
 ghost use Rattle.stage_parts.specs.Outlets.{AreFresh, AreOpen, senders};
 
@@ -14,7 +13,9 @@ use crate::exits::Exits;
 use packet_ledger::{Book, Share};
 use router_rules::Shared;
 use ruled_pipe::{Load, Producer};
-use stage_parts::{Buffer, EgressPacket, Inlet, Outlet, Router, SlowPathRequest, Turn, Withheld};
+use stage_parts::{
+    Buffer, EgressPacket, Inlet, Outlet, Router, SlowPathRequest, Stage, Turn, Turns, Withheld,
+};
 use std::alloc::Global;
 use std::marker::Model;
 use std::sync::{Arc, Wait};
@@ -102,19 +103,55 @@ impl<N: Router> SlowPath<N> {
         (from, links, free, share)
     }
 
-    /// Whether each of its counts can still be raised.
-    pub fn has_room(&self) -> bool
-        ensures { MatchBool result (HasRoom self.now.side.share.counts) (HasRoom self.now.side.share.counts → ⊥) }
+    // Tries the end marks that are owed.
+    fn end<R: Wait>(&mut self, rt: &R) -> Turn
+        requires { IsDone self.old }
+        ensures { EndsAnswering result self.old self.new }
     {
+        if self.exits.end(rt) {
+            Turn::Ended
+        } else {
+            Turn::Quiet
+        }
+    }
+}
+
+impl<N: Router> Stage for SlowPath<N> {
+    ghost use Rattle.router_stages.specs.SameSlowPath.{IsSameSlowPath, SlowPathEnded};
+
+    ghost same = { λ a b. IsSameSlowPath a b };
+
+    ghost has_ended = { λ a. SlowPathEnded a };
+}
+
+impl<N: Router> Turns<N> for SlowPath<N> {
+    ghost use Rattle.std.specs.Prelude.{◌≡◌, ◌<◌, false};
+    ghost use Rattle.packet_ledger.specs.Share.{HasRoom, IsDrained, IsPosted};
+    ghost use Rattle.packet_ledger.proofs.Posting.{posted_drains};
+    ghost use Rattle.ruled_pipe.specs.Gathered.{ends_in};
+    ghost use Rattle.router_stages.specs.Answering.{Answered, posted};
+    ghost use Rattle.router_stages.specs.SameSlowPath.{slow_self, slow_then};
+    ghost use Rattle.router_stages.specs.ExitLaws.{answered_ended, answered_same, slow_as, slow_posted, slow_still};
+
+    ghost may_turn = { λ a. HasRoom a.side.share.counts };
+
+    ghost has_turned = { λ turn a b. Answered turn a b };
+
+    ghost awaits = { λ a. ends_in a.taker.taken < a.taker.producers };
+
+    ghost has_waited = { λ waited a b. (waited ≡ false) × (b ≡ a) };
+
+    ghost has_posted = { λ a b. IsPosted a.side.share b.side.share × (b ≡ posted b.side.share a) };
+
+    ghost is_drained = { λ a. IsDrained a.side.share };
+
+    fn has_room(&self) -> bool {
         self.exits.has_room()
     }
 
     /// Takes a request and sends its answer. After the last end mark of its pipe it tries the end marks
     /// that it owes.
-    pub fn turn<R: Wait>(&mut self, rt: &R) -> Turn
-        requires { HasRoom self.old.side.share.counts }
-        ensures { Answered result self.old self.new }
-    {
+    fn turn<R: Wait>(&mut self, rt: &R) -> Turn {
         if self.from.is_done() {
             return self.end(rt);
         }
@@ -128,31 +165,33 @@ impl<N: Router> SlowPath<N> {
         }
     }
 
-    /// Whether its next turn can only do something once there is a push into its pipe: an end mark is
-    /// still to come.
-    pub fn awaits_push(&self) -> bool
-        ensures { MatchBool result (ends_in self.now.taker.taken < self.now.taker.producers) (IsDone self.now) }
-    {
+    /// Whether an end mark is still to come.
+    fn awaits_push(&self) -> bool {
         !self.from.is_done()
     }
 
-    // Tries the end marks that are owed.
-    fn end<R: Wait>(&mut self, rt: &R) -> Turn
-        requires { IsDone self.old }
-        ensures { EndsAnswering result self.old self.new }
-    {
-        if self.exits.end(rt) {
-            Turn::Ended
-        } else {
-            Turn::Quiet
-        }
+    /// It has no wait of its own.
+    fn wait(&mut self) -> bool {
+        false
     }
 
-    /// Posts its counts into the book, where there is room.
-    pub fn post<R: Wait>(&mut self, rt: &R, book: &Book<N>)
-        ensures share { IsPosted self.old.side.share self.new.side.share }
-        ensures same { self.new ≡ posted self.new.side.share self.old }
-    {
+    fn post<R: Wait>(&mut self, rt: &R, book: &Book<N>) {
         self.exits.post(rt, book);
     }
+
+    ghost same_self = { λ x. slow_self x };
+
+    ghost same_then = { λ x y z p q. slow_then x y z p q };
+
+    ghost turn_same = { λ turn x y is. answered_same turn x y is };
+
+    ghost turn_ended = { λ x y is. answered_ended x y is };
+
+    ghost wait_same = { λ waited x y is. slow_as x y is.1 };
+
+    ghost post_same = { λ x y is. slow_posted x y is.1 };
+
+    ghost post_ended = { λ x y is ended. slow_still x y is.1 ended };
+
+    ghost post_drains = { λ x y is. posted_drains x.side.share y.side.share is.0 };
 }

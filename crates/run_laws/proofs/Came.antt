@@ -26,8 +26,10 @@ use Rattle.stage_parts.specs.Told.{Told, told_of}
 use Rattle.router_pipes.specs.Handing.{NeverClosed}
 use Rattle.pipe_ends.specs.Settled.{ReadsColumns}
 use Rattle.pipe_ends.specs.Shutting.{EachEnds, Shutting, closed_at, shutter_ends}
-use Rattle.worker_threads.specs.Back.{AreBack}
-use Rattle.worker_threads.specs.Workers.{IsSameReceiver, ReceiverEnded, IsSameProcessor, ProcessorEnded, IsSameSlowPath, SlowPathEnded}
+use Rattle.stage_parts.specs.Back.{AreBack}
+use Rattle.router_stages.specs.SameReceiver.{IsSameReceiver, ReceiverEnded}
+use Rattle.router_stages.specs.SameProcessor.{IsSameProcessor, ProcessorEnded}
+use Rattle.router_stages.specs.SameSlowPath.{IsSameSlowPath, SlowPathEnded}
 use Rattle.run_laws.specs.Crew.{AreAnswering, AreForwarding, AreWorking, Crew, IsCrew, IsReceivingAt}
 use Rattle.wired_workers.specs.Kits.{IsAnsweringAt, IsWorkingAt}
 use Rattle.router_pipes.specs.Piping.{Piping, are_used}

@@ -16,7 +16,7 @@ use Rattle.router_pipes.specs.Handing.{Finishes}
 use Rattle.pipe_ends.specs.Rows.{Row, rows_of}
 use Rattle.pipe_ends.specs.Settled.{AreBundles, AreTaken, HasTaken, HaveEnded, IsEnded}
 use Rattle.pipe_ends.specs.Shutting.{ShuttersFinish, shutter_ends}
-use Rattle.worker_threads.specs.Back.{AreBack}
+use Rattle.stage_parts.specs.Back.{AreBack}
 use Rattle.run_laws.specs.Crew.{AreAnswering, Crew, IsCrew}
 use Rattle.router_pipes.specs.Piping.{Piping, are_used}
 use Rattle.run_laws.specs.Ended.{CrewsEnd, HasMarked, IsBack, inner_rows, inner_takers, middle_row, middle_takers, outer_rows, takers_of}

@@ -6,7 +6,7 @@ use Rattle.stage_parts.specs.Outlets.{AreFresh, senders}
 use Rattle.stage_parts.specs.Outlet.{Offering}
 use Rattle.pipe_ends.specs.Rows.{AreEndsOf}
 use Rattle.router_pipes.specs.Handing.{AreSpared}
-use Rattle.worker_threads.specs.Same.{AreSameEnds, IsSameEnd, IsSameWhere}
+use Rattle.stage_parts.specs.Same.{AreSameEnds, IsSameEnd, IsSameWhere}
 
 module _ {T : Type 0} where
   same_end : (s : Shape) (p : ℕ) (a b : Sender T) → IsSameEnd a b → IsEndOf s p a → IsEndOf s p b

@@ -21,9 +21,12 @@ use Rattle.router_pipes.specs.Handing.{AreMarked, AreSpared, Finishes}
 use Rattle.pipe_ends.specs.Rows.{AreFor, Row, rows_of}
 use Rattle.pipe_ends.specs.Settled.{AreBundles, AreFinished, AreOfPipe, AreTaken, HasTaken, IsFinal}
 use Rattle.pipe_ends.specs.Shutting.{AreMarking, AreShutters, EachEnds, Shutting, ShuttersFinish, shutter_ends}
-use Rattle.worker_threads.specs.Back.{AreBack}
-use Rattle.worker_threads.specs.Same.{AreSameEnds, IsSameTaker}
-use Rattle.worker_threads.specs.Workers.{IsSameReceiver, ReceiverEnded, IsSameProcessor, ProcessorEnded, IsSameSlowPath, SlowPathEnded, IsSameForwarder, ForwarderEnded}
+use Rattle.stage_parts.specs.Back.{AreBack}
+use Rattle.stage_parts.specs.Same.{AreSameEnds, IsSameTaker}
+use Rattle.router_stages.specs.SameReceiver.{IsSameReceiver, ReceiverEnded}
+use Rattle.router_stages.specs.SameProcessor.{IsSameProcessor, ProcessorEnded}
+use Rattle.router_stages.specs.SameSlowPath.{IsSameSlowPath, SlowPathEnded}
+use Rattle.router_stages.specs.SameForwarder.{IsSameForwarder, ForwarderEnded}
 use Rattle.run_laws.specs.Crew.{IsReceivingAt, AreWorking, AreAnswering, IsForwardingAt, AreForwarding}
 use Rattle.router_pipes.specs.Piping.{Piping, IsTakerOf, are_used}
 use Rattle.wired_workers.specs.Kits.{IsWorkingAt, IsAnsweringAt}

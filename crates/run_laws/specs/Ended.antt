@@ -17,8 +17,11 @@ use Rattle.router_pipes.specs.Handing.{AreMarked}
 use Rattle.pipe_ends.specs.Rows.{Row, rows_of}
 use Rattle.pipe_ends.specs.Settled.{HaveEnded, IsEnded}
 use Rattle.pipe_ends.specs.Shutting.{AreMarking, EachEnds, shutter_ends}
-use Rattle.worker_threads.specs.Back.{AreBack}
-use Rattle.worker_threads.specs.Workers.{IsSameReceiver, ReceiverEnded, IsSameProcessor, ProcessorEnded, IsSameSlowPath, SlowPathEnded, IsSameForwarder, ForwarderEnded}
+use Rattle.stage_parts.specs.Back.{AreBack}
+use Rattle.router_stages.specs.SameReceiver.{IsSameReceiver, ReceiverEnded}
+use Rattle.router_stages.specs.SameProcessor.{IsSameProcessor, ProcessorEnded}
+use Rattle.router_stages.specs.SameSlowPath.{IsSameSlowPath, SlowPathEnded}
+use Rattle.router_stages.specs.SameForwarder.{IsSameForwarder, ForwarderEnded}
 use Rattle.run_laws.specs.Crew.{Crew, IsCrew}
 use Rattle.router_pipes.specs.Piping.{Piping}
 

@@ -4,10 +4,9 @@ ghost use Rattle.std.specs.Prelude.{◌≡◌, ◌≤◌, false};
 
 use crossbeam_utils::sync::EventCount;
 use packet_ledger::{Blank, Book, Router, Share};
-use router_stages::Turn;
 use ruled_pipe::Load;
 use sample_stages::{ends_of, next_producer};
-use stage_parts::{Event, Inlet, Outlet};
+use stage_parts::{Event, Inlet, Outlet, Stage, Turn, Turns};
 use std::alloc::Global;
 use std::marker::Brand;
 use std::process::Abort;
@@ -17,7 +16,7 @@ use std::test::*;
 use std::thread::Threads;
 use std::time::Clock;
 use worker_threads::{
-    Both, HOLD, Orders, Started, Team, ThreadFault, Work, Worker, join_all, start_both, start_four,
+    Both, HOLD, Orders, Started, Team, ThreadFault, join_all, start_both, start_four,
 };
 
 // It counts a number of datagrams as received, one in a turn, is quiet for a number of turns, and has ended.
@@ -28,7 +27,7 @@ struct Countdown<N: Router> {
     share: Share<N>,
 }
 
-impl<N: Router> Worker for Countdown<N> {
+impl<N: Router> Stage for Countdown<N> {
     ghost use Rattle.std.specs.Prelude.{◌≡◌};
 
     ghost same = { λ a b. Unit {0} };
@@ -36,23 +35,29 @@ impl<N: Router> Worker for Countdown<N> {
     ghost has_ended = { λ a. a.left ≡ 0 };
 }
 
-impl<N: Router> Work<N> for Countdown<N> {
-    ghost use Rattle.std.specs.Prelude.{◌≡◌};
+impl<N: Router> Turns<N> for Countdown<N> {
+    ghost use Rattle.std.specs.Prelude.{◌≡◌, refl};
+    ghost use Rattle.std.proofs.Common.{◌∙◌};
     ghost use Rattle.packet_ledger.specs.Share.{HasRoom};
+    ghost use Rattle.stage_parts.specs.declared.turn.Turn.TheVariants.{Ended};
 
     ghost may_turn = { λ a. HasRoom a.share.counts };
 
-    ghost turned = { λ turn a b. Unit {0} };
+    ghost has_turned = { λ turn a b. turn ≡ Ended → b.left ≡ 0 };
 
-    ghost is_posted = { λ a. Unit {0} };
+    ghost awaits = { λ a. ⊥ };
 
-    ghost waits = { λ a said. said ≡ false };
+    ghost has_waited = { λ waited a b. waited ≡ false };
+
+    ghost has_posted = { λ a b. b.left ≡ a.left };
+
+    ghost is_drained = { λ a. Unit {0} };
 
     fn has_room(&self) -> bool {
         self.share.has_room()
     }
 
-    fn make_turn<R: Wait>(&mut self, rt: &R) -> Turn {
+    fn turn<R: Wait>(&mut self, rt: &R) -> Turn {
         let _ = rt;
         if self.left > 0 {
             self.left -= 1;
@@ -81,10 +86,22 @@ impl<N: Router> Work<N> for Countdown<N> {
     ghost same_self = { λ x. tt };
 
     ghost same_then = { λ x y z p q. tt };
+
+    ghost turn_same = { λ turn x y is. tt };
+
+    ghost turn_ended = { λ x y is. is refl };
+
+    ghost wait_same = { λ waited x y is. tt };
+
+    ghost post_same = { λ x y is. tt };
+
+    ghost post_ended = { λ x y is ended. is ∙ ended };
+
+    ghost post_drains = { λ x y is. tt };
 }
 
 // Workers and their orders, with room for the handles of their threads.
-fn team_of<N: Router, W: Worker + Drop, R: Abort>(
+fn team_of<N: Router, W: Stage + Drop, R: Abort>(
     rt: &R,
     alloc: Global,
     workers: Vec<W>,
@@ -279,26 +296,30 @@ impl Feeder {
     }
 }
 
-impl Worker for Feeder {
+impl Stage for Feeder {
     ghost same = { λ a b. Unit {0} };
 
     ghost has_ended = { λ a. Unit {0} };
 }
 
-impl<N: Router> Work<N> for Feeder {
+impl<N: Router> Turns<N> for Feeder {
     ghost may_turn = { λ a. Unit {0} };
 
-    ghost turned = { λ turn a b. Unit {0} };
+    ghost has_turned = { λ turn a b. Unit {0} };
 
-    ghost is_posted = { λ a. Unit {0} };
+    ghost awaits = { λ a. ⊥ };
 
-    ghost waits = { λ a said. said ≡ false };
+    ghost has_waited = { λ waited a b. waited ≡ false };
+
+    ghost has_posted = { λ a b. Unit {0} };
+
+    ghost is_drained = { λ a. Unit {0} };
 
     fn has_room(&self) -> bool {
         true
     }
 
-    fn make_turn<R: Wait>(&mut self, rt: &R) -> Turn {
+    fn turn<R: Wait>(&mut self, rt: &R) -> Turn {
         self.turns = self.turns.wrapping_add(1);
         if self.turns % 8 != 0 {
             return Turn::Quiet;
@@ -322,6 +343,18 @@ impl<N: Router> Work<N> for Feeder {
     ghost same_self = { λ x. tt };
 
     ghost same_then = { λ x y z p q. tt };
+
+    ghost turn_same = { λ turn x y is. tt };
+
+    ghost turn_ended = { λ x y is. tt };
+
+    ghost wait_same = { λ waited x y is. tt };
+
+    ghost post_same = { λ x y is. tt };
+
+    ghost post_ended = { λ x y is ended. tt };
+
+    ghost post_drains = { λ x y is. tt };
 }
 
 // It adds up the numbers that it takes, and sleeps while there are none.
@@ -331,26 +364,33 @@ struct Drain {
     sum: u64,
 }
 
-impl Worker for Drain {
+impl Stage for Drain {
     ghost same = { λ a b. Unit {0} };
 
     ghost has_ended = { λ a. Unit {0} };
 }
 
-impl<N: Router> Work<N> for Drain {
+impl<N: Router> Turns<N> for Drain {
+    ghost use Rattle.std.specs.Prelude.{◌≡◌, ◌<◌, false};
+    ghost use Rattle.ruled_pipe.specs.Gathered.{ends_in};
+
     ghost may_turn = { λ a. Unit {0} };
 
-    ghost turned = { λ turn a b. Unit {0} };
+    ghost has_turned = { λ turn a b. Unit {0} };
 
-    ghost is_posted = { λ a. Unit {0} };
+    ghost awaits = { λ a. ends_in a.from.taken < a.from.producers };
 
-    ghost waits = { λ a said. said ≡ false };
+    ghost has_waited = { λ waited a b. waited ≡ false };
+
+    ghost has_posted = { λ a b. Unit {0} };
+
+    ghost is_drained = { λ a. Unit {0} };
 
     fn has_room(&self) -> bool {
         true
     }
 
-    fn make_turn<R: Wait>(&mut self, rt: &R) -> Turn {
+    fn turn<R: Wait>(&mut self, rt: &R) -> Turn {
         if self.from.is_done() {
             return Turn::Ended;
         }
@@ -380,10 +420,22 @@ impl<N: Router> Work<N> for Drain {
     ghost same_self = { λ x. tt };
 
     ghost same_then = { λ x y z p q. tt };
+
+    ghost turn_same = { λ turn x y is. tt };
+
+    ghost turn_ended = { λ x y is. tt };
+
+    ghost wait_same = { λ waited x y is. tt };
+
+    ghost post_same = { λ x y is. tt };
+
+    ghost post_ended = { λ x y is ended. tt };
+
+    ghost post_drains = { λ x y is. tt };
 }
 
 // One worker, and room for its handle.
-fn alone<N: Router, W: Worker + Drop, R: Abort>(
+fn alone<N: Router, W: Stage + Drop, R: Abort>(
     rt: &R,
     alloc: Global,
     worker: W,

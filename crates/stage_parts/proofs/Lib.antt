@@ -5,3 +5,4 @@ pub mod EndLemmas
 pub mod RoomLemmas
 pub mod BackLemmas
 pub mod UsedLemmas
+pub mod SameLemmas

@@ -8,3 +8,5 @@ pub mod Replying
 pub mod Outlets
 pub mod GivingBack
 pub mod Turn
+pub mod Same
+pub mod Back

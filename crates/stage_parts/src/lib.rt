@@ -18,6 +18,8 @@ mod request;
 mod results;
 mod sink;
 mod source;
+mod stage;
+mod stop;
 mod turn;
 
 pub use buffer::{BUFFER_LEN, Buffer};
@@ -37,4 +39,6 @@ pub use request::{SlowPathRequest, Withheld};
 pub use results::both;
 pub use sink::{Sink, SinkFault};
 pub use source::{NextLen, Source};
+pub use stage::{Stage, Turns};
+pub use stop::STOP;
 pub use turn::Turn;

@@ -12,7 +12,7 @@ use router_rules::Shared;
 use router_stages::{Forwarder, Processor, Receiver, SlowPath};
 use ruled_pipe::{Mark, Producer};
 use sample_stages::Open;
-use stage_parts::{EgressPacket, ListSink, ListSource, Next, Router, Sink, Source};
+use stage_parts::{EgressPacket, ListSink, ListSource, Next, Router, Sink, Source, Turns};
 use std::alloc::Global;
 use std::marker::Brand;
 use std::process::Abort;

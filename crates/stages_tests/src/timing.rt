@@ -14,7 +14,7 @@ use process_packet::Bands;
 use router_rules::Shared;
 use router_stages::Forwarder;
 use sample_stages::router;
-use stage_parts::Router;
+use stage_parts::{Router, Turns};
 use std::alloc::Global;
 use std::marker::Brand;
 use std::process::Abort;

@@ -1,5 +1,1 @@
-pub mod SameLemmas
-pub mod ReceiverLemmas
-pub mod ExitLemmas
-pub mod ForwarderLemmas
 pub mod BackLemmas

@@ -1,4 +1,1 @@
-pub mod Same
-pub mod Workers
-pub mod Back
 pub mod Teams

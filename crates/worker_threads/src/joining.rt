@@ -1,10 +1,10 @@
 //! Workers that come back from their threads.
 
-ghost use Rattle.worker_threads.specs.Back.{AreBack};
+ghost use Rattle.stage_parts.specs.Back.{AreBack};
 
 use crate::starting::Started;
 use crate::thread::Handle;
-use crate::work::Worker;
+use stage_parts::Stage;
 use std::sync::Wait;
 use std::thread;
 use std::thread::Threads;
@@ -13,7 +13,7 @@ use std::time::{Clock, Duration};
 // Joins a worker that was told to run. One that gave up never comes.
 fn join_worker<W, R>(rt: &R, handle: Handle<W>) -> W
 where
-    W: Worker,
+    W: Stage,
     R: Threads + Wait + Clock,
     ensures { W.same handle.promise.0.value result × W.has_ended result }
 {
@@ -30,7 +30,7 @@ where
 /// Each has ended, and is the same as when its thread was made.
 pub fn join_all<W, R>(rt: &R, started: Started<W>) -> Vec<W>
 where
-    W: Worker,
+    W: Stage,
     R: Threads + Wait + Clock,
     ensures { AreBack (λ a b. W.same a b × W.has_ended b) started result.items }
 {

@@ -4,8 +4,7 @@ ghost use Rattle.std.specs.Prelude.{◌≡◌, IfOk, false, is_some, true};
 ghost use Rattle.std.specs.Arc.{arc_value};
 
 use packet_ledger::{Book, Router};
-use router_stages::STOP;
-use stage_parts::Event;
+use stage_parts::{Event, STOP};
 use std::alloc::{AllocError, Global};
 use std::sync::Arc;
 use std::sync::atomic::{AtomicU64, Ordering};

@@ -4,8 +4,8 @@ ghost use Rattle.std.specs.Prelude.{◌≡◌, IfOk};
 
 use crate::orders::Orders;
 use crate::thread::{Handle, ThreadFault, start_worker};
-use crate::work::{Work, Worker};
 use packet_ledger::Router;
+use stage_parts::{Stage, Turns};
 use std::marker::Model;
 use std::sync::Wait;
 use std::thread::Threads;
@@ -14,13 +14,13 @@ use std::time::Clock;
 /// Workers of one kind, orders for the thread of each, in order, and room for the threads' handles, of which
 /// none is there. Contracts see the workers, and for how many of them and of their handles there is room.
 #[derive(Drop)]
-pub struct Team<N: Router, W: Worker> {
+pub struct Team<N: Router, W: Stage> {
     pub workers: Vec<W>,
     pub orders: Vec<Orders<N>>,
     pub room: Vec<Handle<W>>,
 }
 
-impl<N: Router, W: Worker> Model for Team<N, W> {
+impl<N: Router, W: Stage> Model for Team<N, W> {
     ghost use Rattle.std.specs.Prelude.{◌≡◌, ◌≤◌, [], length, vec_capacity};
     ghost use Rattle.worker_threads.specs.Teams.{Seated};
 
@@ -34,12 +34,12 @@ impl<N: Router, W: Worker> Model for Team<N, W> {
 /// Workers of one kind in threads of their own, and their list, which is empty now: the room that they come
 /// back into. Contracts see the workers as they were when their threads were made.
 #[derive(Drop)]
-pub struct Started<W: Worker> {
+pub struct Started<W: Stage> {
     pub(crate) handles: Vec<Handle<W>>,
     pub(crate) room: Vec<W>,
 }
 
-impl<W: Worker> Model for Started<W> {
+impl<W: Stage> Model for Started<W> {
     ghost use Rattle.std.specs.Prelude.{◌≡◌, ◌≤◌, List, [], length, map, vec_capacity};
 
     ghost Value = { List W };
@@ -53,7 +53,7 @@ impl<W: Worker> Model for Started<W> {
 fn start_each<N, W, R>(rt: R, team: Team<N, W>) -> Result<Started<W>, Vec<Handle<W>>>
 where
     N: Router + Send + Sync + 'static,
-    W: Work<N> + Send + Drop + 'static,
+    W: Turns<N> + Send + Drop + 'static,
     R: Threads + Wait + Clock + Copy + Send + 'static,
     ensures { IfOk result (λ s. s ≡ team.workers) }
 {
@@ -87,7 +87,7 @@ where
 fn give_up<N, W, R>(rt: &R, orders: &Orders<N>, handles: Vec<Handle<W>>)
 where
     N: Router,
-    W: Worker + Drop,
+    W: Stage + Drop,
     R: Threads + Wait,
 {
     orders.give_up();
@@ -106,7 +106,7 @@ pub fn start_all<N, W, R>(
 ) -> Result<Started<W>, ThreadFault>
 where
     N: Router + Send + Sync + 'static,
-    W: Work<N> + Send + Drop + 'static,
+    W: Turns<N> + Send + Drop + 'static,
     R: Threads + Wait + Clock + Copy + Send + 'static,
     ensures { IfOk result (λ s. s ≡ team.workers) }
 {
@@ -121,7 +121,7 @@ where
 
 /// The threads of two kinds of workers.
 #[derive(Drop)]
-pub struct Both<V: Worker, W: Worker> {
+pub struct Both<V: Stage, W: Stage> {
     pub first: Started<V>,
     pub second: Started<W>,
 }
@@ -135,8 +135,8 @@ pub fn start_both<N, V, W, R>(
 ) -> Result<Both<V, W>, ThreadFault>
 where
     N: Router + Send + Sync + 'static,
-    V: Work<N> + Send + Drop + 'static,
-    W: Work<N> + Send + Drop + 'static,
+    V: Turns<N> + Send + Drop + 'static,
+    W: Turns<N> + Send + Drop + 'static,
     R: Threads + Wait + Clock + Copy + Send + 'static,
     ensures first { IfOk result (λ b. b.first ≡ first.workers) }
     ensures second { IfOk result (λ b. b.second ≡ second.workers) }
@@ -160,10 +160,10 @@ pub fn start_four<N, A, B, C, D, R>(
 ) -> Result<(Both<A, B>, Both<C, D>), ThreadFault>
 where
     N: Router + Send + Sync + 'static,
-    A: Work<N> + Send + Drop + 'static,
-    B: Work<N> + Send + Drop + 'static,
-    C: Work<N> + Send + Drop + 'static,
-    D: Work<N> + Send + Drop + 'static,
+    A: Turns<N> + Send + Drop + 'static,
+    B: Turns<N> + Send + Drop + 'static,
+    C: Turns<N> + Send + Drop + 'static,
+    D: Turns<N> + Send + Drop + 'static,
     R: Threads + Wait + Clock + Copy + Send + 'static,
     ensures one { IfOk result (λ r. r.0.first ≡ one.0.workers) }
     ensures two { IfOk result (λ r. r.0.second ≡ one.1.workers) }

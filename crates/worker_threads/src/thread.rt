@@ -4,10 +4,8 @@ ghost use Rattle.std.specs.Prelude.{◌≡◌, IfOk, IfSome, true};
 
 use crate::idle::{Idle, nap};
 use crate::orders::{GIVE_UP, HOLD, Orders};
-use crate::work::{Work, Worker};
 use packet_ledger::{Book, Router};
-use router_stages::Turn;
-use stage_parts::Event;
+use stage_parts::{Event, Stage, Turn, Turns};
 use std::snapshot::Snapshot;
 use std::sync::Wait;
 use std::sync::atomic::{AtomicU64, Ordering};
@@ -25,7 +23,7 @@ const TURNS: u32 = 1023;
 #[derive(Drop)]
 pub struct WillEnd<W>(pub Snapshot<W>);
 
-impl<W: Worker> Promise<Option<W>> for WillEnd<W> {
+impl<W: Stage> Promise<Option<W>> for WillEnd<W> {
     ghost use Rattle.std.specs.Prelude.{IfSome};
 
     ghost kept_by = { λ p r. IfSome r (λ w. W.same p.0.value w × W.has_ended w) };
@@ -94,7 +92,7 @@ impl Pace {
 }
 
 // Posts where it is time to.
-fn post_if<N: Router, W: Work<N>, R: Wait>(rt: &R, worker: &mut W, book: &Book<N>, due: bool)
+fn post_if<N: Router, W: Turns<N>, R: Wait>(rt: &R, worker: &mut W, book: &Book<N>, due: bool)
     ensures same { W.same worker.old worker.new }
     ensures ended { W.has_ended worker.old → W.has_ended worker.new }
 {
@@ -104,20 +102,20 @@ fn post_if<N: Router, W: Work<N>, R: Wait>(rt: &R, worker: &mut W, book: &Book<N
 }
 
 // One turn, where each count can still be raised, and what is posted for it.
-fn attempt<N: Router, W: Work<N>, R: Wait>(
+fn attempt<N: Router, W: Turns<N>, R: Wait>(
     rt: &R,
     worker: &mut W,
     book: &Book<N>,
     pace: &mut Pace,
 ) -> Turn
     ensures same { W.same worker.old worker.new }
-    ensures ended { result ≡ Turn.Ended → W.has_ended worker.new × W.is_posted worker.new }
+    ensures ended { result ≡ Turn.Ended → W.has_ended worker.new × W.is_drained worker.new }
 {
     if !worker.has_room() {
         worker.post(rt, book);
         return Turn::Quiet;
     }
-    match worker.make_turn(rt) {
+    match worker.turn(rt) {
         Turn::Did => {
             post_if(rt, worker, book, pace.did());
             Turn::Did
@@ -133,7 +131,7 @@ fn attempt<N: Router, W: Work<N>, R: Wait>(
 // Sleeps until there is a push. Since one may have come before the sleep was announced, there is a turn
 // between, and only where a push is still what ends its quiet it sleeps: the turn may have taken what a
 // gate holds back. Whether the worker has ended.
-fn sleep_on<N: Router, W: Work<N>, R: Wait>(
+fn sleep_on<N: Router, W: Turns<N>, R: Wait>(
     rt: &R,
     worker: &mut W,
     book: &Book<N>,
@@ -141,7 +139,7 @@ fn sleep_on<N: Router, W: Work<N>, R: Wait>(
     event: &Event,
 ) -> bool
     ensures same { W.same worker.old worker.new }
-    ensures ended { result ≡ true → W.has_ended worker.new × W.is_posted worker.new }
+    ensures ended { result ≡ true → W.has_ended worker.new × W.is_drained worker.new }
 {
     let key = event.prepare_wait();
     match attempt(rt, worker, book, pace) {
@@ -157,14 +155,14 @@ fn sleep_on<N: Router, W: Work<N>, R: Wait>(
 }
 
 // There was nothing to do. Whether the worker has ended.
-fn pause<N: Router, W: Work<N>, R: Wait + Clock>(
+fn pause<N: Router, W: Turns<N>, R: Wait + Clock>(
     rt: &R,
     worker: &mut W,
     orders: &Orders<N>,
     pace: &mut Pace,
 ) -> bool
     ensures same { W.same worker.old worker.new }
-    ensures ended { result ≡ true → W.has_ended worker.new × W.is_posted worker.new }
+    ensures ended { result ≡ true → W.has_ended worker.new × W.is_drained worker.new }
 {
     if pace.gathers() {
         nap(rt);
@@ -182,14 +180,14 @@ fn pause<N: Router, W: Work<N>, R: Wait + Clock>(
 }
 
 // One turn, and what it asks for. Whether the worker has ended.
-fn advance<N: Router, W: Work<N>, R: Wait + Clock>(
+fn advance<N: Router, W: Turns<N>, R: Wait + Clock>(
     rt: &R,
     worker: &mut W,
     orders: &Orders<N>,
     pace: &mut Pace,
 ) -> bool
     ensures same { W.same worker.old worker.new }
-    ensures ended { result ≡ true → W.has_ended worker.new × W.is_posted worker.new }
+    ensures ended { result ≡ true → W.has_ended worker.new × W.is_drained worker.new }
 {
     match attempt(rt, worker, &orders.book, pace) {
         Turn::Did => {
@@ -204,10 +202,10 @@ fn advance<N: Router, W: Work<N>, R: Wait + Clock>(
 }
 
 /// Makes turns to the worker's end, and posts what it counted.
-pub fn work_on<N: Router, W: Work<N>, R: Wait + Clock>(rt: &R, orders: &Orders<N>, worker: W) -> W
+pub fn work_on<N: Router, W: Turns<N>, R: Wait + Clock>(rt: &R, orders: &Orders<N>, worker: W) -> W
     ensures same { W.same worker result }
     ensures ended { W.has_ended result }
-    ensures posted { W.is_posted result }
+    ensures posted { W.is_drained result }
 {
     let mut worker = worker;
     let mut pace = Pace::new();
@@ -236,7 +234,7 @@ fn may_begin<R: Wait + Clock>(rt: &R, word: &AtomicU64) -> bool {
     unreachable!()
 }
 
-fn work_once_told<N: Router, W: Work<N> + Drop, R: Wait + Clock>(
+fn work_once_told<N: Router, W: Turns<N> + Drop, R: Wait + Clock>(
     rt: &R,
     orders: &Orders<N>,
     worker: W,
@@ -261,7 +259,7 @@ pub struct ThreadFault;
 pub fn start_worker<N, W, R>(rt: R, orders: Orders<N>, worker: W) -> Result<Handle<W>, ThreadFault>
 where
     N: Router + Send + Sync + 'static,
-    W: Work<N> + Send + Drop + 'static,
+    W: Turns<N> + Send + Drop + 'static,
     R: Threads + Wait + Clock + Copy + Send + 'static,
     ensures { IfOk result (λ h. h.promise.0.value ≡ worker) }
 {

@@ -2,7 +2,9 @@ use Rattle.std.proofs.Common.{sym, true≢false}
 use Rattle.worker_threads.proofs.thread.advance.Goals as goal
 
 pub returns-then-waits_at_once-clause-same : goal.returns-then-waits_at_once-clause-same
-returns-then-waits_at_once-clause-same g c = g.met.W.Work.same_then c.args.worker.now c.attempt.new.worker c.wait.new.self c.attempt.ensures.same c.wait.ensures.same
+returns-then-waits_at_once-clause-same g c =
+    let waited = g.met.W.Turns.wait_same c.wait.result c.attempt.new.worker c.wait.new.self c.wait.ensures in
+    g.met.W.Turns.same_then c.args.worker.now c.attempt.new.worker c.wait.new.self c.attempt.ensures.same waited
 
 pub returns-then-waits_at_once-clause-ended : goal.returns-then-waits_at_once-clause-ended
 returns-then-waits_at_once-clause-ended g c = λ e. absurd (true≢false (sym e))
@@ -14,7 +16,7 @@ pub returns-else-is_none-clause-ended : goal.returns-else-is_none-clause-ended
 returns-else-is_none-clause-ended g c = λ e. absurd (true≢false (sym e))
 
 pub returns-in-Quiet-clause-same : goal.returns-in-Quiet-clause-same
-returns-in-Quiet-clause-same g c = g.met.W.Work.same_then c.args.worker.now c.attempt.new.worker c.pause.new.worker c.attempt.ensures.same c.pause.ensures.same
+returns-in-Quiet-clause-same g c = g.met.W.Turns.same_then c.args.worker.now c.attempt.new.worker c.pause.new.worker c.attempt.ensures.same c.pause.ensures.same
 
 pub returns-in-Quiet-clause-ended : goal.returns-in-Quiet-clause-ended
 returns-in-Quiet-clause-ended g c = c.pause.ensures.ended

@@ -2,10 +2,10 @@ use Rattle.std.proofs.Common.{rules}
 use Rattle.worker_threads.proofs.thread.work_on.Goals as goal
 
 pub loop-init : goal.loop-init
-loop-init g c = g.met.W.Work.same_self c.args.worker
+loop-init g c = g.met.W.Turns.same_self c.args.worker
 
 pub returns-then-has_ended-clause-same : goal.returns-then-has_ended-clause-same
-returns-then-has_ended-clause-same g c = g.met.W.Work.same_then c.args.worker c.loop.worker c.advance-has_ended.new.worker c.loop.invariant c.advance-has_ended.ensures.same
+returns-then-has_ended-clause-same g c = g.met.W.Turns.same_then c.args.worker c.loop.worker c.advance-has_ended.new.worker c.loop.invariant c.advance-has_ended.ensures.same
 
 pub returns-then-has_ended-clause-ended : goal.returns-then-has_ended-clause-ended
 returns-then-has_ended-clause-ended g c = search rules
@@ -14,4 +14,4 @@ pub returns-then-has_ended-clause-posted : goal.returns-then-has_ended-clause-po
 returns-then-has_ended-clause-posted g c = search rules
 
 pub loop-preserved : goal.loop-preserved
-loop-preserved g c = g.met.W.Work.same_then c.args.worker c.loop.worker c.advance-has_ended.new.worker c.loop.invariant c.advance-has_ended.ensures.same
+loop-preserved g c = g.met.W.Turns.same_then c.args.worker c.loop.worker c.advance-has_ended.new.worker c.loop.invariant c.advance-has_ended.ensures.same

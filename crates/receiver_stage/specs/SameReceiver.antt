@@ -1,0 +1,30 @@
+-- What stays the same of a receiver from its first turn to its last, and what is known at its end.
+use Rattle.std.specs.Prelude.{◌≡◌, true}
+use Rattle.std.proofs.Common.{refl, ◌∙◌}
+use Rattle.stage_parts.specs.Outlets.{HaveEnded}
+use Rattle.stage_parts.specs.Same.{AreSameEnds, ends_self, ends_then}
+use Rattle.receiver_stage.specs.Receiving.{Receiving}
+
+-- its configuration and link, and its ends of the processors' pipes
+pub record IsSameReceiver {S : Type 0} (old new : Receiving S) : Type 0 where
+  pub config : new.side.config ≡ old.side.config
+  pub link : new.side.link ≡ old.side.link
+  pub interface : new.side.interface ≡ old.side.interface
+  pub processors : AreSameEnds (λ j. true) old.side.processors new.side.processors
+
+module _ {S : Type 0} where
+  pub receiver_self : (r : Receiving S) → IsSameReceiver r r
+  receiver_self r = record { config = refl; link = refl; interface = refl; processors = ends_self (λ j. true) r.side.processors }
+
+  pub receiver_then : (a b c : Receiving S) → IsSameReceiver a b → IsSameReceiver b c → IsSameReceiver a c
+  receiver_then a b c p q = record {
+    config = q.config ∙ p.config;
+    link = q.link ∙ p.link;
+    interface = q.interface ∙ p.interface;
+    processors = ends_then (λ j. true) a.side.processors b.side.processors c.side.processors p.processors q.processors;
+  }
+
+-- all its end marks are there
+pub record ReceiverEnded {S : Type 0} (r : Receiving S) : Type 0 where
+  pub ended : r.ended ≡ true
+  pub processors : HaveEnded (λ j. true) r.side.processors
