@@ -17,15 +17,10 @@ use Rattle.router_pipes.specs.Piping.{IsTakerOf, Piping}
 use Rattle.wired_workers.specs.Kits.{Entry, Exit, forwardings, IsEnteringAt, IsLeavingAt, IsWorkingAt, IsWorkingThere, receivings}
 use Rattle.router_run.specs.WorkerParts.{AreWorkerParts}
 use Rattle.router_run.specs.Run.{Run}
-use Rattle.worker_threads.specs.Teams.{IsFor, Seated}
 use Rattle.run_report.specs.Parting.{crew_of}
 use Rattle.router_run.specs.Starting.{Begins, GivesBack}
 use Rattle.router_run.specs.declared.fault.StartFault.{StartFault}
 use Rattle.router_run.specs.declared.fault.StartFault.TheVariants.{Thread}
-
--- the same number by another name
-pub for_as : {W : Type 0} (n m : ℕ) (t : Seated W) → IsFor n t → m ≡ n → IsFor m t
-for_as n m t is e = (is.0, is.1 ∙ sym e, is.2 ∙ sym e)
 
 some_same : {X : Type 0} (x y : X) → Some x ≡ Some y → x ≡ y
 some_same x y e = cc

@@ -12,13 +12,15 @@ use stage_parts::{EgressPacket, Gate, Router, Sink, Source};
 use std::rt::Clock;
 use std::sync::Wait;
 use std::thread::Threads;
-use worker_threads::{Both, Orders, join_all};
+use worker_threads::{Orders, StartedTeams, join_all};
 
-/// The threads: the receivers' and processors', then the slow path's and the forwarders'.
-pub type Threaded<N, S, K, G> = (
-    Both<Receiver<N, S>, Processor<N, G>>,
-    Both<SlowPath<N>, Forwarder<N, K>>,
-);
+/// The threads of a router's workers.
+pub type Threaded<N, S, K, G> = StartedTeams<
+    Receiver<N, S>,
+    Processor<N, G>,
+    SlowPath<N>,
+    Forwarder<N, K>,
+>;
 
 // Marks the ends of the controller's pipes, and wakes the forwarders.
 fn marked<N: Router, R: Wait>(rt: &R, controller: Controller<N>) -> Vec<Shutter<EgressPacket<N>>>
@@ -49,15 +51,20 @@ where
     G: Gate,
     R: Threads + Wait + Clock,
     requires unmarked { AreOpen controller.shutters.items }
-    ensures { IsBack (crew_of threads.0.first threads.0.second threads.1.first threads.1.second controller.shutters.items) result }
+    ensures { IsBack (crew_of threads.receivers threads.processors threads.slow threads.forwarders controller.shutters.items) result }
 {
-    let (front, rear) = threads;
+    let StartedTeams {
+        receivers,
+        processors,
+        slow,
+        forwarders,
+    } = threads;
     orders.stop();
-    let receivers = join_all(rt, front.first);
-    let processors = join_all(rt, front.second);
-    let slow = join_all(rt, rear.first);
+    let receivers = join_all(rt, receivers);
+    let processors = join_all(rt, processors);
+    let slow = join_all(rt, slow);
     let shutters = marked(rt, controller);
-    let forwarders = join_all(rt, rear.second);
+    let forwarders = join_all(rt, forwarders);
     Joined {
         receivers,
         processors,

@@ -1,27 +1,27 @@
 //! All that a run takes memory for, before its first thread.
 
-ghost use Rattle.std.specs.Prelude.{◌≡◌, ◌+◌, ◌*◌, ◌≤◌, IfOk, Ok, Some};
+ghost use Rattle.std.specs.Prelude.{◌≡◌, ◌+◌, ◌*◌, ◌≤◌, IfOk, Some};
 ghost use Rattle.std.specs.Arc.{arc_value};
 ghost use Rattle.router_rules.specs.Links.{link_count};
 ghost use Rattle.router_pipes.specs.Dealing.{piping};
 ghost use Rattle.wired_workers.specs.Shares.{AreNewShares};
-ghost use Rattle.worker_threads.specs.Teams.{IsFor};
+ghost use Rattle.worker_threads.specs.Teams.{AreTeamsFor};
 ghost use Rattle.run_report.specs.Room.{HaveSpace};
 ghost use Rattle.router_run.specs.WorkerParts.{AreWorkerParts};
 
-use crate::teams::{Teams, teams_for};
+use crate::teams::teams_for;
 use crate::worker_parts::{WorkerParts, make_all};
 use packet_ledger::{Blank, Book, Share};
 use process_packet::Config;
 use router_pipes::events_for;
 use router_rules::{Shared, link_count};
 use run_report::{Space, space_for};
-use stage_parts::{Gate, Router, Stage};
+use stage_parts::{Gate, Router, Stage, all_three};
 use std::alloc::{AllocError, Global};
 use std::sync::atomic::AtomicU64;
 use std::sync::{Arc, Wait};
 use wired_workers::Common;
-use worker_threads::{HOLD, Orders};
+use worker_threads::{HOLD, Orders, Teams};
 
 /// What a run stands on: what its workers share, and the orders of their threads, with the book.
 #[derive(Drop)]
@@ -102,17 +102,6 @@ fn base_for<N: Router>(
     Ok((Base { common, orders }, shares))
 }
 
-// All three values, or an error in place of any.
-fn all_three<X: Drop, Y: Drop, Z: Drop>(
-    x: Result<X, AllocError>,
-    y: Result<Y, AllocError>,
-    z: Result<Z, AllocError>,
-) -> Result<(X, Y, Z), AllocError>
-    ensures { IfOk result (λ r. (x ≡ Ok r.0) × (y ≡ Ok r.1) × (z ≡ Ok r.2)) }
-{
-    Ok((x?, y?, z?))
-}
-
 /// All that is ready, for workers of any four kinds over sources `S` and sinks `K`.
 #[derive(Drop)]
 pub struct Prepared<N, G, A, B, C, D, S, K>
@@ -153,8 +142,7 @@ where
     requires workers { N.workers ≡ 2 * link_count config + config.processors + 1 }
     ensures shared { IfOk result (λ p. (arc_value p.base.common.shared).config ≡ config) }
     ensures worker_parts { IfOk result (λ p. AreWorkerParts config (piping p.worker_parts.pipes.inner.items p.worker_parts.pipes.middle p.worker_parts.pipes.outer.items) p.worker_parts.pipes.inner_rooms.items p.worker_parts.pipes.outer_rooms.items p.worker_parts.receivers.items p.worker_parts.processors.items p.worker_parts.slow p.worker_parts.forwarders.items p.worker_parts.shutters.items) }
-    ensures front { IfOk result (λ p. IsFor (link_count config) p.teams.front.0 × IsFor config.processors p.teams.front.1) }
-    ensures rear { IfOk result (λ p. IsFor 1 p.teams.rear.0 × IsFor (link_count config) p.teams.rear.1) }
+    ensures teams { IfOk result (λ p. AreTeamsFor (link_count config) config.processors p.teams.receivers p.teams.processors p.teams.slow p.teams.forwarders) }
     ensures space { IfOk result (λ p. HaveSpace (link_count config) config.processors p.space) }
 {
     let links = link_count(&config);

@@ -10,7 +10,7 @@ ghost use Rattle.router_run.specs.Run.{HasRun, IsSameRun};
 ghost use Rattle.router_pipes.specs.Dealing.{piping};
 ghost use Rattle.wired_workers.specs.Kits.{forwardings, receivings};
 ghost use Rattle.router_run.specs.WorkerParts.{AreWorkerParts};
-ghost use Rattle.worker_threads.specs.Teams.{IsFor};
+ghost use Rattle.worker_threads.specs.Teams.{AreTeamsFor, IsFor};
 ghost use Rattle.run_report.specs.Room.{HaveSpace};
 ghost use Rattle.router_run.specs.Starting.{Begins, GivesBack, IsOneALink};
 
@@ -32,7 +32,7 @@ use std::rt::Clock;
 use std::sync::Wait;
 use std::thread::Threads;
 use wired_workers::{Common, Entering, Leaving, forwarders_of, receivers_of};
-use worker_threads::{Orders, Team, start_four};
+use worker_threads::{Orders, Team, Teams, start_teams};
 
 /// A running router. It has no `Drop`: it can only be finished. Contracts see its configuration, its pipes,
 /// and its workers and the controller's ends as they began.
@@ -70,9 +70,9 @@ where
 
     ghost Value = { Run S G K };
 
-    ghost view = { λ r. record { config = (arc_value r.controller.shared).config; pipes = piping r.pipes.inner.items r.pipes.middle r.pipes.outer.items; crew = crew_of r.threads.0.first r.threads.0.second r.threads.1.first r.threads.1.second r.controller.shutters.items } };
+    ghost view = { λ r. record { config = (arc_value r.controller.shared).config; pipes = piping r.pipes.inner.items r.pipes.middle r.pipes.outer.items; crew = crew_of r.threads.receivers r.threads.processors r.threads.slow r.threads.forwarders r.controller.shutters.items } };
 
-    ghost invariant = { λ r. (N.workers ≡ 2 * link_count (arc_value r.controller.shared).config + (arc_value r.controller.shared).config.processors + 1) × IsCrew (arc_value r.controller.shared).config (piping r.pipes.inner.items r.pipes.middle r.pipes.outer.items) (crew_of r.threads.0.first r.threads.0.second r.threads.1.first r.threads.1.second r.controller.shutters.items) × HaveLeft (link_count (arc_value r.controller.shared).config) 0 r.pipes.inner.items r.pipes.inner_rooms.items × HaveLeft ((arc_value r.controller.shared).config.processors + 2) 0 r.pipes.outer.items r.pipes.outer_rooms.items × HaveSpace (link_count (arc_value r.controller.shared).config) (arc_value r.controller.shared).config.processors r.space };
+    ghost invariant = { λ r. (N.workers ≡ 2 * link_count (arc_value r.controller.shared).config + (arc_value r.controller.shared).config.processors + 1) × IsCrew (arc_value r.controller.shared).config (piping r.pipes.inner.items r.pipes.middle r.pipes.outer.items) (crew_of r.threads.receivers r.threads.processors r.threads.slow r.threads.forwarders r.controller.shutters.items) × HaveLeft (link_count (arc_value r.controller.shared).config) 0 r.pipes.inner.items r.pipes.inner_rooms.items × HaveLeft ((arc_value r.controller.shared).config.processors + 2) 0 r.pipes.outer.items r.pipes.outer_rooms.items × HaveSpace (link_count (arc_value r.controller.shared).config) (arc_value r.controller.shared).config.processors r.space };
 }
 
 // Whether there is one source and one sink a link.
@@ -126,7 +126,8 @@ fn front_of<N, S, G>(
     receivers: Vec<Entering<N>>,
     processors: Vec<Processor<N, G>>,
     sources: Vec<S>,
-    teams: (Team<N, Receiver<N, S>>, Team<N, Processor<N, G>>),
+    receiving: Team<N, Receiver<N, S>>,
+    working: Team<N, Processor<N, G>>,
 ) -> (Team<N, Receiver<N, S>>, Team<N, Processor<N, G>>)
 where
     N: Router,
@@ -134,12 +135,11 @@ where
     G: Gate + Drop,
     requires count { length sources.items ≡ length receivers.items }
     requires untold { Each (λ s. ToldNothing (S.told s)) sources.items }
-    requires first { IsFor (length receivers.items) teams.0 }
-    requires second { IsFor (length processors.items) teams.1 }
+    requires receiving { IsFor (length receivers.items) receiving }
+    requires working { IsFor (length processors.items) working }
     ensures receivers { result.0.workers ≡ receivings receivers.items sources.items }
     ensures processors { result.1.workers ≡ processors.items }
 {
-    let (receiving, working) = teams;
     working.workers.destroy_empty();
     let receivers = receivers_of(receivers, sources, receiving.workers);
     (
@@ -161,19 +161,19 @@ fn rear_of<N, K>(
     slow: SlowPath<N>,
     forwarders: Vec<Leaving<N>>,
     sinks: Vec<K>,
-    teams: (Team<N, SlowPath<N>>, Team<N, Forwarder<N, K>>),
+    answering: Team<N, SlowPath<N>>,
+    forwarding: Team<N, Forwarder<N, K>>,
 ) -> (Team<N, SlowPath<N>>, Team<N, Forwarder<N, K>>)
 where
     N: Router,
     K: Sink,
     requires count { length sinks.items ≡ length forwarders.items }
     requires untold { Each (λ k. ToldNothing (K.told k)) sinks.items }
-    requires first { IsFor 1 teams.0 }
-    requires second { IsFor (length forwarders.items) teams.1 }
+    requires answering { IsFor 1 answering }
+    requires forwarding { IsFor (length forwarders.items) forwarding }
     ensures slow { result.0.workers ≡ slow ∷ [] }
     ensures forwarders { result.1.workers ≡ forwardings K.failed forwarders.items sinks.items }
 {
-    let (answering, forwarding) = teams;
     let mut answerers = answering.workers;
     answerers.push_reserved(slow);
     let forwarders = forwarders_of(forwarders, sinks, forwarding.workers);
@@ -205,8 +205,7 @@ where
     G: Gate + Send + Sync + Drop + 'static,
     R: Threads + Wait + Clock + Copy + Send + 'static,
     requires worker_parts { AreWorkerParts (arc_value prepared.base.common.shared).config (piping prepared.worker_parts.pipes.inner.items prepared.worker_parts.pipes.middle prepared.worker_parts.pipes.outer.items) prepared.worker_parts.pipes.inner_rooms.items prepared.worker_parts.pipes.outer_rooms.items prepared.worker_parts.receivers.items prepared.worker_parts.processors.items prepared.worker_parts.slow prepared.worker_parts.forwarders.items prepared.worker_parts.shutters.items }
-    requires front { IsFor (link_count (arc_value prepared.base.common.shared).config) prepared.teams.front.0 × IsFor (arc_value prepared.base.common.shared).config.processors prepared.teams.front.1 }
-    requires rear { IsFor 1 prepared.teams.rear.0 × IsFor (link_count (arc_value prepared.base.common.shared).config) prepared.teams.rear.1 }
+    requires teams { AreTeamsFor (link_count (arc_value prepared.base.common.shared).config) (arc_value prepared.base.common.shared).config.processors prepared.teams.receivers prepared.teams.processors prepared.teams.slow prepared.teams.forwarders }
     requires space { HaveSpace (link_count (arc_value prepared.base.common.shared).config) (arc_value prepared.base.common.shared).config.processors prepared.space }
     requires workers { N.workers ≡ 2 * link_count (arc_value prepared.base.common.shared).config + (arc_value prepared.base.common.shared).config.processors + 1 }
     requires sources { Each (λ s. ToldNothing (S.told s)) sources.items × (length sources.items ≡ link_count (arc_value prepared.base.common.shared).config) }
@@ -238,9 +237,21 @@ where
         shutters,
         forwarder_events: of_forwarders(events),
     };
-    let front = front_of(receivers, processors, sources, teams.front);
-    let rear = rear_of(slow, forwarders, sinks, teams.rear);
-    match start_four(rt, &orders, front, rear) {
+    let (receivers, processors) = front_of(
+        receivers,
+        processors,
+        sources,
+        teams.receivers,
+        teams.processors,
+    );
+    let (slow, forwarders) = rear_of(slow, forwarders, sinks, teams.slow, teams.forwarders);
+    let teams = Teams {
+        receivers,
+        processors,
+        slow,
+        forwarders,
+    };
+    match start_teams(rt, &orders, teams) {
         Ok(threads) => Ok(Running {
             rt,
             controller,

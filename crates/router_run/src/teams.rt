@@ -1,13 +1,13 @@
 //! The teams that get the threads, before their workers are there.
 
 ghost use Rattle.std.specs.Prelude.{IfOk};
-ghost use Rattle.worker_threads.specs.Teams.{IsFor};
+ghost use Rattle.worker_threads.specs.Teams.{AreTeamsFor, IsFor};
 
 use router_pipes::Events;
 use stage_parts::{Event, Router, Stage, both};
 use std::alloc::{AllocError, Global};
 use std::slice;
-use worker_threads::{Handle, Orders, Team};
+use worker_threads::{Handle, Orders, Team, Teams};
 
 // Orders for the threads of so many workers, each with its worker's event if it has one.
 fn orders_for<N: Router>(
@@ -63,21 +63,6 @@ fn two_teams_for<N: Router, V: Stage + Drop, W: Stage + Drop>(
     Ok(teams)
 }
 
-/// The teams of workers of any four kinds, in pairs: those at the router's front, the receivers and
-/// processors, and those at its rear, the slow path and the forwarders.
-#[derive(Drop)]
-pub struct Teams<N, A, B, C, D>
-where
-    N: Router,
-    A: Stage,
-    B: Stage,
-    C: Stage,
-    D: Stage,
-{
-    pub front: (Team<N, A>, Team<N, B>),
-    pub rear: (Team<N, C>, Team<N, D>),
-}
-
 /// The teams of a router with these numbers of links and processors, with room for the workers, none of
 /// whom is there yet.
 pub fn teams_for<N, A, B, C, D>(
@@ -93,8 +78,7 @@ where
     B: Stage + Drop,
     C: Stage + Drop,
     D: Stage + Drop,
-    ensures front { IfOk result (λ t. IsFor links t.front.0 × IsFor processors t.front.1) }
-    ensures rear { IfOk result (λ t. IsFor 1 t.rear.0 × IsFor links t.rear.1) }
+    ensures { IfOk result (λ t. AreTeamsFor links processors t.receivers t.processors t.slow t.forwarders) }
 {
     let front = two_teams_for(
         alloc,
@@ -113,5 +97,12 @@ where
         links,
     );
     let (front, rear) = both(front, rear)?;
-    Ok(Teams { front, rear })
+    let (receivers, processors) = front;
+    let (slow, forwarders) = rear;
+    Ok(Teams {
+        receivers,
+        processors,
+        slow,
+        forwarders,
+    })
 }

@@ -13,10 +13,11 @@ use std::process::Abort;
 use std::sync::atomic::AtomicU64;
 use std::sync::{Arc, Wait};
 use std::test::*;
+use std::thread;
 use std::thread::Threads;
-use std::time::Clock;
+use std::time::{Clock, Duration};
 use worker_threads::{
-    Both, HOLD, Orders, Started, Team, ThreadFault, join_all, start_both, start_four,
+    HOLD, Orders, Started, StartedTeams, Team, Teams, ThreadFault, join_all, start_all, start_teams,
 };
 
 // It counts a number of datagrams as received, one in a turn, is quiet for a number of turns, and has ended.
@@ -199,7 +200,7 @@ fn orders_for<N: Router, R: Abort>(
     (Orders::new(word, book), shares)
 }
 
-type Countdowns<N> = Both<Countdown<N>, Countdown<N>>;
+type Countdowns<N> = StartedTeams<Countdown<N>, Countdown<N>, Countdown<N>, Countdown<N>>;
 
 // Four teams of these sizes, in threads.
 fn started<N, R>(
@@ -207,7 +208,7 @@ fn started<N, R>(
     alloc: Global,
     blank: Blank,
     sizes: [Size; 4],
-) -> Result<(Countdowns<N>, Countdowns<N>), ThreadFault>
+) -> Result<Countdowns<N>, ThreadFault>
 where
     N: Router + Send + Sync + 'static,
     R: Abort + Threads + Wait + Clock + Copy + Send + 'static,
@@ -216,22 +217,13 @@ where
 {
     let (orders, mut shares) = orders_for::<N, R>(&rt, alloc, blank, 6);
     let [one, two, three, four] = sizes;
-    let one = team(&rt, alloc, &orders, &mut shares, one);
-    let two = team(&rt, alloc, &orders, &mut shares, two);
-    let three = team(&rt, alloc, &orders, &mut shares, three);
-    let four = team(&rt, alloc, &orders, &mut shares, four);
-    start_four(rt, &orders, (one, two), (three, four))
-}
-
-// How many came back of each of two teams.
-fn both_joined<N, R>(rt: &R, both: Countdowns<N>) -> (usize, usize)
-where
-    N: Router,
-    R: Threads + Wait + Clock,
-{
-    let Both { first, second } = both;
-    let first = joined(rt, first);
-    (first, joined(rt, second))
+    let teams = Teams {
+        receivers: team(&rt, alloc, &orders, &mut shares, one),
+        processors: team(&rt, alloc, &orders, &mut shares, two),
+        slow: team(&rt, alloc, &orders, &mut shares, three),
+        forwarders: team(&rt, alloc, &orders, &mut shares, four),
+    };
+    start_teams(rt, &orders, teams)
 }
 
 // How many came back of each of four teams; none where a thread was refused.
@@ -243,11 +235,12 @@ where
     requires six { N.workers ≡ 6 }
 {
     match started::<N, R>(rt, alloc, blank, sizes) {
-        Ok((front, back)) => {
-            let (one, two) = both_joined(&rt, front);
-            let (three, four) = both_joined(&rt, back);
-            Some([one, two, three, four])
-        }
+        Ok(started) => Some([
+            joined(&rt, started.receivers),
+            joined(&rt, started.processors),
+            joined(&rt, started.slow),
+            joined(&rt, started.forwarders),
+        ]),
         Err(_) => None,
     }
 }
@@ -265,96 +258,6 @@ fn a_refused_thread_ends_all(rt: HostRuntime) {
     let blank = Blank::new(rt.alloc()).expect(&rt, "memory");
     let back = four_teams::<Brand, _>(rt, rt.alloc(), blank, [(3, 3), (1, 1), (2, 1), (0, 0)]);
     assert!(rt; back.is_none());
-}
-
-// It offers the numbers below a bound, one in eight turns, and then its end mark.
-#[derive(Drop)]
-struct Feeder {
-    to: Outlet<u64>,
-    left: u64,
-    turns: u8,
-}
-
-impl Feeder {
-    // Offers a number, or tries the end mark.
-    fn feed<R: Wait>(&mut self, rt: &R) -> Turn {
-        if self.left == 0 {
-            return if self.to.end(rt) {
-                Turn::Ended
-            } else {
-                Turn::Quiet
-            };
-        }
-        if self.to.has_ended() {
-            return Turn::Quiet;
-        }
-        if self.to.offer(rt, self.left).is_err() {
-            return Turn::Quiet;
-        }
-        self.left -= 1;
-        Turn::Did
-    }
-}
-
-impl Stage for Feeder {
-    ghost same = { λ a b. Unit {0} };
-
-    ghost has_ended = { λ a. Unit {0} };
-}
-
-impl<N: Router> Turns<N> for Feeder {
-    ghost may_turn = { λ a. Unit {0} };
-
-    ghost has_turned = { λ turn a b. Unit {0} };
-
-    ghost awaits = { λ a. ⊥ };
-
-    ghost has_waited = { λ waited a b. waited ≡ false };
-
-    ghost has_posted = { λ a b. Unit {0} };
-
-    ghost is_drained = { λ a. Unit {0} };
-
-    fn has_room(&self) -> bool {
-        true
-    }
-
-    fn turn<R: Wait>(&mut self, rt: &R) -> Turn {
-        self.turns = self.turns.wrapping_add(1);
-        if self.turns % 8 != 0 {
-            return Turn::Quiet;
-        }
-        self.feed(rt)
-    }
-
-    fn awaits_push(&self) -> bool {
-        false
-    }
-
-    fn wait(&mut self) -> bool {
-        false
-    }
-
-    fn post<R: Wait>(&mut self, rt: &R, book: &Book<N>) {
-        let _ = rt;
-        let _ = book;
-    }
-
-    ghost same_self = { λ x. tt };
-
-    ghost same_then = { λ x y z p q. tt };
-
-    ghost turn_same = { λ turn x y is. tt };
-
-    ghost turn_ended = { λ x y is. tt };
-
-    ghost wait_same = { λ waited x y is. tt };
-
-    ghost post_same = { λ x y is. tt };
-
-    ghost post_ended = { λ x y is ended. tt };
-
-    ghost post_drains = { λ x y is. tt };
 }
 
 // It adds up the numbers that it takes, and sleeps while there are none.
@@ -448,48 +351,30 @@ fn alone<N: Router, W: Stage + Drop, R: Abort>(
     team_of(rt, alloc, workers, each)
 }
 
-// Two workers at the ends of a pipe. The one that offers notifies the event.
-fn at_both_ends<R: Abort>(rt: &R, alloc: Global, event: Event) -> (Feeder, Drain) {
-    let made = ends_of::<u64>(alloc, 4, 1);
+// The end that offers into a pipe with room for 64 entries, and a worker at the other one. The first notifies the event.
+fn at_both_ends<R: Abort>(rt: &R, alloc: Global, event: Event) -> (Outlet<u64>, Drain) {
+    let made = ends_of::<u64>(alloc, 64, 1);
     let (mut ends, consumer) = made.expect(rt, "memory");
     let to = Outlet::of(next_producer(&mut ends), Some(event));
-    let feeder = Feeder {
-        to,
-        left: 40,
-        turns: 0,
-    };
     let drain = Drain {
         from: Inlet::of(consumer, 1),
         sum: 0,
     };
-    (feeder, drain)
+    (to, drain)
 }
 
-// Both workers in threads. The second one sleeps until the first one's event.
-fn feeding<N, R>(rt: R, alloc: Global, orders: &Orders<N>) -> Both<Feeder, Drain>
-where
-    N: Router + Send + Sync + 'static,
-    R: Abort + Threads + Wait + Clock + Copy + Send + 'static,
-{
-    let event = Arc::new(alloc, EventCount::new()).expect(&rt, "memory");
-    let woken = orders.another_with(&event).expect(&rt, "memory");
-    let plain = orders.another().expect(&rt, "memory");
-    let (feeder, drain) = at_both_ends(&rt, alloc, event);
-    let first = alone(&rt, alloc, feeder, plain);
-    let second = alone(&rt, alloc, drain, woken);
-    let both = start_both(rt, orders, first, second).ok();
-    both.expect(&rt, "threads")
+// Offers the numbers from 1 to 40, each after a pause in which the other end falls asleep, and then the end mark.
+fn feed<R: Wait + Clock>(rt: &R, to: &mut Outlet<u64>) -> bool {
+    for number in 1..41 {
+        thread::sleep(rt, Duration::from_micros(200));
+        if to.has_ended() || to.offer(rt, number).is_err() {
+            return false;
+        }
+    }
+    to.end(rt)
 }
 
-// Joins both: what the second one took, in sum.
-fn taken_by<R: Abort + Threads + Wait + Clock>(rt: &R, both: Both<Feeder, Drain>) -> u64 {
-    let Both { first, second } = both;
-    drop(join_all(rt, first));
-    let mut back = join_all(rt, second);
-    back.pop().expect(rt, "worker").sum
-}
-
-// What a worker that sleeps takes of a pipe into which another pushes now and then: the sum.
+// What a worker that sleeps takes of a pipe into which there is a push now and then: the sum.
 fn fed<N, R>(rt: R, alloc: Global, blank: Blank) -> u64
 where
     N: Router + Send + Sync + 'static,
@@ -498,9 +383,17 @@ where
     requires none { N.workers ≡ 0 }
 {
     let (orders, _) = orders_for::<N, R>(&rt, alloc, blank, 0);
-    let both = feeding(rt, alloc, &orders);
+    let event = Arc::new(alloc, EventCount::new()).expect(&rt, "memory");
+    let woken = orders.another_with(&event).expect(&rt, "memory");
+    let (mut to, drain) = at_both_ends(&rt, alloc, event);
+    let team = alone(&rt, alloc, drain, woken);
+    let started = start_all(rt, &orders, team).ok().expect(&rt, "thread");
     orders.run();
-    taken_by(&rt, both)
+    if !feed(&rt, &mut to) {
+        return 0;
+    }
+    let mut back = join_all(&rt, started);
+    back.pop().expect(&rt, "worker").sum
 }
 
 #[test]

@@ -36,7 +36,7 @@ pub use packet::Packet;
 pub use packet_ledger::Router;
 pub use read_buffer::ReadBuffer;
 pub use request::{SlowPathRequest, Withheld};
-pub use results::both;
+pub use results::{all_three, both};
 pub use sink::{Sink, SinkFault};
 pub use source::{NextLen, Source};
 pub use stage::{Stage, Turns};

@@ -13,3 +13,14 @@ pub fn both<A: Drop, B: Drop>(
 {
     Ok((a?, b?))
 }
+
+/// All three values, or an error in place of any.
+pub fn all_three<A: Drop, B: Drop, C: Drop>(
+    a: Result<A, AllocError>,
+    b: Result<B, AllocError>,
+    c: Result<C, AllocError>,
+) -> Result<(A, B, C), AllocError>
+    ensures { IfOk result (λ r. (a ≡ Ok r.0) × (b ≡ Ok r.1) × (c ≡ Ok r.2)) }
+{
+    Ok((a?, b?, c?))
+}

@@ -1,1 +1,2 @@
 pub mod BackLemmas
+pub mod TeamLemmas

@@ -84,7 +84,7 @@ where
 }
 
 // Tells the threads to give up, and joins them.
-fn give_up<N, W, R>(rt: &R, orders: &Orders<N>, handles: Vec<Handle<W>>)
+pub(crate) fn give_up<N, W, R>(rt: &R, orders: &Orders<N>, handles: Vec<Handle<W>>)
 where
     N: Router,
     W: Stage + Drop,
@@ -115,72 +115,6 @@ where
         Err(some) => {
             give_up(&rt, orders, some);
             Err(ThreadFault)
-        }
-    }
-}
-
-/// The threads of two kinds of workers.
-#[derive(Drop)]
-pub struct Both<V: Stage, W: Stage> {
-    pub first: Started<V>,
-    pub second: Started<W>,
-}
-
-/// Threads for the workers of two teams, or none.
-pub fn start_both<N, V, W, R>(
-    rt: R,
-    orders: &Orders<N>,
-    first: Team<N, V>,
-    second: Team<N, W>,
-) -> Result<Both<V, W>, ThreadFault>
-where
-    N: Router + Send + Sync + 'static,
-    V: Turns<N> + Send + Drop + 'static,
-    W: Turns<N> + Send + Drop + 'static,
-    R: Threads + Wait + Clock + Copy + Send + 'static,
-    ensures first { IfOk result (λ b. b.first ≡ first.workers) }
-    ensures second { IfOk result (λ b. b.second ≡ second.workers) }
-{
-    let first = start_all(rt, orders, first)?;
-    match start_all(rt, orders, second) {
-        Ok(second) => Ok(Both { first, second }),
-        Err(fault) => {
-            give_up(&rt, orders, first.handles);
-            Err(fault)
-        }
-    }
-}
-
-/// Threads for the workers of four teams, or none. Where all are there they are told to run.
-pub fn start_four<N, A, B, C, D, R>(
-    rt: R,
-    orders: &Orders<N>,
-    one: (Team<N, A>, Team<N, B>),
-    other: (Team<N, C>, Team<N, D>),
-) -> Result<(Both<A, B>, Both<C, D>), ThreadFault>
-where
-    N: Router + Send + Sync + 'static,
-    A: Turns<N> + Send + Drop + 'static,
-    B: Turns<N> + Send + Drop + 'static,
-    C: Turns<N> + Send + Drop + 'static,
-    D: Turns<N> + Send + Drop + 'static,
-    R: Threads + Wait + Clock + Copy + Send + 'static,
-    ensures one { IfOk result (λ r. r.0.first ≡ one.0.workers) }
-    ensures two { IfOk result (λ r. r.0.second ≡ one.1.workers) }
-    ensures three { IfOk result (λ r. r.1.first ≡ other.0.workers) }
-    ensures four { IfOk result (λ r. r.1.second ≡ other.1.workers) }
-{
-    let front = start_both(rt, orders, one.0, one.1)?;
-    match start_both(rt, orders, other.0, other.1) {
-        Ok(back) => {
-            orders.run();
-            Ok((front, back))
-        }
-        Err(fault) => {
-            let Both { first, second } = front;
-            give_up(&rt, orders, first.handles);
-            give_up(&rt, orders, second.handles);
-            Err(fault)
         }
     }
 }

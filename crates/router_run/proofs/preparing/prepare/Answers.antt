@@ -4,18 +4,11 @@ use Rattle.router_pipes.specs.Dealing.{piping}
 use Rattle.run_report.specs.Room.{HaveSpace}
 use Rattle.router_run.specs.WorkerParts.{AreWorkerParts}
 use Rattle.router_pipes.proofs.OkLemmas.{of_ok}
-use Rattle.router_run.proofs.Begin.{for_as}
+use Rattle.worker_threads.proofs.TeamLemmas.{teams_as}
 use Rattle.router_run.proofs.preparing.prepare.Goals as goal
 
-pub returns-clause-front : goal.returns-clause-front
-returns-clause-front g c =
-    let teams = of_ok _ _ _ c.in_ok-worker_parts.ensures.1 c.teams_for-teams.ensures.front in
-    (for_as _ _ _ teams.0 (sym c.link_count-links.ensures.count), for_as _ _ _ teams.1 (sym c.from-processors.ensures))
-
-pub returns-clause-rear : goal.returns-clause-rear
-returns-clause-rear g c =
-    let teams = of_ok _ _ _ c.in_ok-worker_parts.ensures.1 c.teams_for-teams.ensures.rear in
-    (teams.0, for_as _ _ _ teams.1 (sym c.link_count-links.ensures.count))
+pub returns-clause-teams : goal.returns-clause-teams
+returns-clause-teams g c = teams_as _ _ _ _ _ _ _ _ (of_ok _ _ _ c.in_ok-worker_parts.ensures.1 c.teams_for-teams.ensures) (sym c.link_count-links.ensures.count) (sym c.from-processors.ensures)
 
 pub returns-clause-space : goal.returns-clause-space
 returns-clause-space g c =

@@ -7,5 +7,5 @@ pub invariant_of-result : goal.invariant_of-result
 invariant_of-result g c =
     let long = ap length c.receivers_of-receivers.ensures ∙ receivings_long c.args.receivers.items c.args.sources.items c.requires.count in
     let room = ap (λ (t : Seated _). t.handles) c.receiving.view_is in
-    let fits = c.requires.first.2 in
+    let fits = c.requires.receiving.2 in
     (c.receiving.invariant.0, omega arith)

@@ -1,7 +1,8 @@
 use Rattle.std.proofs.Common.{◌+◌, ◌*◌, refl, sym, ◌∙◌, ap}
 use Rattle.process_packet.specs.declared.config.Config.{Config}
 use Rattle.router_rules.specs.Links.{link_count}
-use Rattle.router_run.proofs.Begin.{for_as, parts_as, starts}
+use Rattle.worker_threads.proofs.TeamLemmas.{teams_as}
+use Rattle.router_run.proofs.Begin.{parts_as, starts}
 use Rattle.router_run.proofs.Finish.{space_as}
 use Rattle.router_run.proofs.running.start.Goals as goal
 
@@ -17,14 +18,8 @@ prepare-requires-clause-workers g c = c.requires.workers
 pub run-requires-clause-worker_parts : goal.run-requires-clause-worker_parts
 run-requires-clause-worker_parts g c κs within = parts_as _ _ _ _ _ _ _ _ _ _ c.in-Ok.ensures.shared c.in-Ok.ensures.worker_parts
 
-pub run-requires-clause-front : goal.run-requires-clause-front
-run-requires-clause-front g c κs within =
-    let same = c.in-Ok.ensures.shared in
-    let front = c.in-Ok.ensures.front in
-    (for_as _ _ _ front.0 (ap link_count same), for_as _ _ _ front.1 (ap (λ (k : Config). k.processors) same))
-
-pub run-requires-clause-rear : goal.run-requires-clause-rear
-run-requires-clause-rear g c κs within = let rear = c.in-Ok.ensures.rear in (rear.0, for_as _ _ _ rear.1 (ap link_count c.in-Ok.ensures.shared))
+pub run-requires-clause-teams : goal.run-requires-clause-teams
+run-requires-clause-teams g c κs within = let same = c.in-Ok.ensures.shared in teams_as _ _ _ _ _ _ _ _ c.in-Ok.ensures.teams (ap link_count same) (ap (λ (k : Config). k.processors) same)
 
 pub run-requires-clause-space : goal.run-requires-clause-space
 run-requires-clause-space g c κs within = space_as _ _ _ c.in-Ok.ensures.shared c.in-Ok.ensures.space
