@@ -1,5 +1,6 @@
 -- The controller's ends.
 use Rattle.std.proofs.Common.{◌≡◌, ℕ, zero, suc, ◌+◌, ◌<◌, ◌≤◌, Bool, true, false, ◌||◌, List, [], ◌∷◌, ◌++◌, length, Result, Ok, Err, slice_index_or, slice_set, refl, sym, ap, subst, ◌∙◌, arith, length-append}
+use Rattle.std.proofs.Math.Bool.{or-true}
 use Rattle.std.proofs.lemmas.List.{map-append}
 use Rattle.pipeline_laws.specs.Deeds.{closes, has_mark, payload_of, payloads}
 use Rattle.ruled_pipe.specs.declared.entry.Entry.{Entry}
@@ -15,14 +16,6 @@ use Rattle.pipe_ends.specs.Settled.{IsFinal, AreFinished}
 use Rattle.pipe_ends.specs.Shutting.{AreMarking, AreNew, AreOpen, AreShutters, Closes, ClosesAt, EachEnds, Ends, EndsUpTo, IsSameShutter, IsShutting, IsStill, PushMarks, Shutting, ShuttersFinish, shutter_ends, shutting}
 use Rattle.pipe_ends.specs.declared.shutter.CloseFault.{CloseFault}
 use Rattle.pipe_ends.specs.declared.shutter.CloseFault.TheVariants.{Full, AlreadyClosed}
-
-or_true : (b : Bool) → (b || true) ≡ true
-or_true true = refl
-or_true false = refl
-
-or_false : (b : Bool) → (b || false) ≡ b
-or_false true = refl
-or_false false = refl
 
 module _ {T : Type 0} where
   ends_more : (es : List (Entry T)) (e : Entry T) → ends_in (es ++ e ∷ []) ≡ ends_in es + end_of e.load
@@ -40,7 +33,7 @@ module _ {T : Type 0} where
 
   close_more : (es : List (Entry T)) (n : ℕ) → has_mark (pushes (es ++ entry n (Marked Close) ∷ [])) ≡ true
   close_more [] n = refl
-  close_more (e ∷ es) n = rw (close_more es n) (or_true (closes (load_in e.load)))
+  close_more (e ∷ es) n = rw (close_more es n) (or-true (closes (load_in e.load)))
 
   end_more : (es : List (Entry T)) (n : ℕ) → has_mark (pushes (es ++ entry n (Marked End) ∷ [])) ≡ has_mark (pushes es)
   end_more [] n = refl

@@ -1,5 +1,6 @@
 -- The expected list after one more fate.
 use Rattle.std.proofs.Common.{◌≡◌, ◌≢◌, ◌⊎◌, inl, inr, ℕ, Bool, true, false, not, ◌&&◌, ◌||◌, ◌≤◌, List, [], ◌∷◌, ◌++◌, length, refl, sym, ◌∙◌, ap, arith, eqb}
+use Rattle.std.proofs.Math.Bool.{and-true, or-false}
 use Rattle.std.specs.List.{filter}
 use Rattle.std.proofs.lemmas.List.Elements.{filter_agree}
 use Rattle.std.proofs.lemmas.List.Folds.{list_any-append}
@@ -18,13 +19,9 @@ module _ {K : Kinds} where
     dropped_more m true e = list_any-append (is_drop_of a m) F (fate ∷ []) ∙ rw e refl
     dropped_more m false e = list_any-append (is_drop_of a m) F (fate ∷ []) ∙ rw e refl
 
-    or_false : (b : Bool) → (b || false) ≡ b
-    or_false true = refl
-    or_false false = refl
-
     -- a fate of another link, or a late one
     less_same : ((m : ℕ) → is_drop_of a m fate ≡ false) → less (F ++ fate ∷ []) a E ≡ less F a E
-    less_same h = filter_agree _ _ (λ x. ap not (dropped_more x.number false (h x.number) ∙ or_false _)) E
+    less_same h = filter_agree _ _ (λ x. ap not (dropped_more x.number false (h x.number) ∙ or-false _)) E
 
     pub less_other : k ≢ a → less (F ++ fate ∷ []) a E ≡ less F a E
     less_other h = less_same (λ m. rw (ne_eqb k a h) refl)
@@ -41,13 +38,9 @@ module _ {K : Kinds} where
     not_or true y = refl
     not_or false y = refl
 
-    and_true : (b : Bool) → (b && true) ≡ b
-    and_true true = refl
-    and_true false = refl
-
     less_early : k ≡ a → is_early c ≡ true → less (F ++ fate ∷ []) a E ≡ filter (λ x. not (eqb n x.number)) (less F a E)
     less_early h e =
-        filter_agree _ _ (λ x. ap not (dropped_more x.number (eqb n x.number) (rw (eq-eqb k a h, e) (and_true (eqb n x.number)))) ∙ not_or _ _) E
+        filter_agree _ _ (λ x. ap not (dropped_more x.number (eqb n x.number) (rw (eq-eqb k a h, e) (and-true (eqb n x.number)))) ∙ not_or _ _) E
         ∙ sym (filter-filter (λ x. not (eqb n x.number)) (λ x. not (is_dropped F a x.number)) E)
 
     -- what is cut out of the line is what the fate takes from the expected list

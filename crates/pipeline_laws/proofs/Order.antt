@@ -1,5 +1,6 @@
 -- The order of packets, after any list of steps.
-use Rattle.std.proofs.Common.{◌≡◌, ◌≢◌, ◌⊎◌, inl, inr, ℕ, Bool, true, false, not, ◌&&◌, ◌||◌, ◌+◌, ◌*◌, ◌<◌, ◌≤◌, List, [], ◌∷◌, ◌++◌, length, refl, sym, subst, ◌∙◌, ap, ap₂, arith, eqb, append_assoc, length-append, le_refl}
+use Rattle.std.proofs.Common.{◌≡◌, ◌≢◌, ◌⊎◌, inl, inr, ℕ, Bool, true, false, not, ◌&&◌, ◌+◌, ◌*◌, ◌<◌, ◌≤◌, List, [], ◌∷◌, ◌++◌, length, refl, sym, subst, ◌∙◌, ap, ap₂, arith, eqb, append_assoc, length-append, le_refl}
+use Rattle.std.proofs.Math.Bool.{or-false}
 use Rattle.std.specs.List.{flat_map, filter, All, Contains}
 use Rattle.std.proofs.lemmas.List.Elements.{All-contains_itself, All-nil, All-cons, All-head, All-tail, All-take, filter-append}
 use Rattle.std.proofs.lemmas.Bool.{and_parts, eq-eqb, ne_eqb, cases_Bool, cases_eq, cases_lt}
@@ -70,17 +71,13 @@ module _ {K : Kinds} where
         rw (filter-append, length-append) (omega (arith, t, o))
     no_count n m (_ ∷ xs) h i = absurd h
 
-    or_false : (b : Bool) → (b || false) ≡ b
-    or_false true = refl
-    or_false false = refl
-
     told : (n : ℕ) (xs : List (Item K)) → Numbered a n xs → (wanted : ℕ → Bool) → ((m : ℕ) → n ≤ m → wanted m ≡ numbers_of mine xs m) → (E : List (Departure K)) → ((m : ℕ) → n ≤ m → count m E ≤ count m (expected R mine l xs)) → Told wanted E xs
     unfolding Told count one
     told n [] h wanted p E q = tt
     told n (Arrived x ∷ xs) h wanted p E q =
         let x_is : x.number ≡ n = h.1 in
         let here : wanted x.number ≡ mine x =
-        p x.number (omega arith) ∙ rw (eq-eqb x.number x.number refl, no_flow (n + 1) x.number xs h.2 (omega arith)) (or_false (mine x)) in
+        p x.number (omega arith) ∙ rw (eq-eqb x.number x.number refl, no_flow (n + 1) x.number xs h.2 (omega arith)) (or-false (mine x)) in
         let none = no_count (n + 1) x.number xs h.2 (omega arith) in
         let some : count x.number E ≤ length (one x) =
         omega (arith, (simp (filter-append, length-append) at (q x.number (omega arith))), none, filter_le (λ (o : Departure K). eqb x.number o.number) (one x)) in (

@@ -1,23 +1,12 @@
 -- The end marks of the links' pipes, link by link.
 use Rattle.std.proofs.Common.{◌≡◌, ◌⊎◌, inl, inr, ℕ, ◌+◌, ◌*◌, ◌<◌, Bool, true, false, eqb, nat_lt, ◌||◌, ◌&&◌, List, length, refl, sym, ap, subst, ◌∙◌, arith}
+use Rattle.std.proofs.Math.Bool.{and_assoc, or-false, or-true}
 use Rattle.std.proofs.lemmas.Bool.{cases_eq, ne_eqb, eq-eqb, lt-ltb, le-ltb}
 use Rattle.stage_parts.specs.Outlet.{Offering}
 use Rattle.stage_parts.specs.Outlets.{Trying, is_used}
 use Rattle.stage_parts.proofs.EndLemmas.{trying_as, trying_next}
 use Rattle.stage_parts.proofs.UsedLemmas.{used_high, used_low}
 use Rattle.router_stages.specs.Exits.{TriedLink}
-
-or_true : (b : Bool) → (b || true) ≡ true
-or_true true = refl
-or_true false = refl
-
-or_false : (b : Bool) → (b || false) ≡ b
-or_false true = refl
-or_false false = refl
-
-and_then : (a b c : Bool) → ((a && b) && c) ≡ (a && (b && c))
-and_then true b c = refl
-and_then false b c = refl
 
 -- the pipes that are used of the first links
 abbrev pub used_to : (ℕ → Bool) → ℕ → ℕ → Bool
@@ -33,10 +22,10 @@ and_false true b e = absurd cc
 and_false false b e = refl
 
 or_here : (a b : Bool) → b ≡ true → (a || b) ≡ true
-or_here a b e = ap (λ (x : Bool). a || x) e ∙ or_true a
+or_here a b e = ap (λ (x : Bool). a || x) e ∙ or-true a
 
 or_same : (a b : Bool) → b ≡ false → (a || b) ≡ a
-or_same a b e = ap (λ (x : Bool). a || x) e ∙ or_false a
+or_same a b e = ap (λ (x : Bool). a || x) e ∙ or-false a
 
 module _ (two : ℕ → Bool) (l : ℕ) where
   fresh_low : used_to two l (2 * l) ≡ false
@@ -91,4 +80,4 @@ module _ (two : ℕ → Bool) (l : ℕ) where
         let here : 2 * l < length mid = let a = so_far.tried.0 in let b = first.tried.0 in omega arith in
         let both = trying_next (λ j. used_to two l j || eqb j (2 * l + 1)) (2 * l) old mid new (all && high) low fresh here first tried.4 in
         let named = trying_as (λ j. (used_to two l j || eqb j (2 * l + 1)) || eqb j (2 * l)) (used_to two (l + 1)) old new ((all && high) && low) (λ j lt. two_more (sym is) j) both in
-        subst (λ (b : Bool). Trying (used_to two (l + 1)) old new b) (and_then all high low ∙ ap (λ (b : Bool). all && b) (sym tried.5)) named
+        subst (λ (b : Bool). Trying (used_to two (l + 1)) old new b) (and_assoc all high low ∙ ap (λ (b : Bool). all && b) (sym tried.5)) named
