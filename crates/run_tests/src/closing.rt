@@ -44,10 +44,10 @@ fn close_while_full(rt: HostRuntime) {
     const ORDERS: [Order; 6] = [
         Order::Asked(4),
         Order::Close(2, Err(CloseFault::Full)),
-        Order::Stage(1),
+        Order::Phase(1),
         Order::CloseAtLast(2),
         Order::Close(2, Err(CloseFault::AlreadyClosed)),
-        Order::Stage(2),
+        Order::Phase(2),
     ];
     let played = run(rt, Setup::cued(rt, CAPACITY_2, &CUES, &ORDERS));
     assert!(rt; came_to(played, totals(4, 3, CLOSED, 1), &[1, 2, 3]));
@@ -61,7 +61,7 @@ fn close_while_one_band_is_full(rt: HostRuntime) {
     const ORDERS: [Order; 5] = [
         Order::Asked(4),
         Order::Close(2, Err(CloseFault::Full)),
-        Order::Stage(1),
+        Order::Phase(1),
         Order::CloseAtLast(2),
         Order::Close(2, Err(CloseFault::AlreadyClosed)),
     ];
@@ -80,7 +80,7 @@ fn a_closed_link_sends_nothing(rt: HostRuntime) {
         Order::Close(2, Ok(())),
         Order::Close(2, Err(CloseFault::AlreadyClosed)),
         Order::Close(9, Err(CloseFault::Unknown)),
-        Order::Stage(1),
+        Order::Phase(1),
     ];
     let played = run(rt, Setup::cued(rt, CAPACITY_64, &CUES, &ORDERS));
     assert!(rt; came_to(played, totals(3, 0, CLOSED, 3), &[]));
@@ -98,7 +98,7 @@ fn the_high_band_goes_first(rt: HostRuntime) {
         High(3, 1, 0),
         Low(4, 1, 0),
     ];
-    const ORDERS: [Order; 2] = [Order::Asked(5), Order::Stage(1)];
+    const ORDERS: [Order; 2] = [Order::Asked(5), Order::Phase(1)];
     let played = run(rt, Setup::cued(rt, TWO_BANDS_64, &CUES, &ORDERS));
     assert!(rt; came_to(played, totals(5, 5, CLOSED, 0), &[1, 4, 2, 3, 5]));
 }
@@ -116,7 +116,7 @@ fn full_pipes_are_emptied_at_the_end(rt: HostRuntime) {
         Low(4, 4, 1),
         Low(4, 0, 0),
     ];
-    const ORDERS: [Order; 2] = [Order::Passed(7), Order::Stage(1)];
+    const ORDERS: [Order; 2] = [Order::Passed(7), Order::Phase(1)];
     let played = run(rt, Setup::cued(rt, CAPACITY_2, &CUES, &ORDERS));
     assert!(rt; came_to(played, totals(7, 6, FULL_PROCESSOR, 1), &[1, 2, 3, 4, 5, 6]));
 }

@@ -25,7 +25,7 @@ pub struct Words {
     /// How many packets the sinks were handed, one that is held among them.
     pub handed: AtomicU64,
     /// How far the controller has come.
-    pub stage: AtomicU64,
+    pub phase: AtomicU64,
     /// Whether processor 0 asked at a meeting, and whether another one did.
     pub zero: AtomicU64,
     pub other: AtomicU64,
@@ -41,7 +41,7 @@ impl Words {
             asked: AtomicU64::new(0),
             tried: AtomicU64::new(0),
             handed: AtomicU64::new(0),
-            stage: AtomicU64::new(0),
+            phase: AtomicU64::new(0),
             zero: AtomicU64::new(0),
             other: AtomicU64::new(0),
             met: AtomicU64::new(0),
@@ -75,9 +75,9 @@ impl Words {
         false
     }
 
-    /// Waits until a little after the controller has come to stage 1; false at the limit.
+    /// Waits until a little after the controller has come to phase 1; false at the limit.
     pub fn releases(&self) -> bool {
-        let released = self.comes(&self.stage, 1);
+        let released = self.comes(&self.phase, 1);
         thread::sleep(&self.rt, Duration::from_millis(20));
         released
     }
@@ -85,7 +85,7 @@ impl Words {
 
 /// When a packet of link 1 is given and admitted, of the low band or urgent: the source gives it once the gate
 /// was asked for the packet of a number, and the gate admits it once the sink was handed a number of them and the
-/// controller has come to a stage.
+/// controller has come to a phase.
 #[derive(Clone, Copy)]
 pub enum Cue {
     Low(u64, u64, u64),
@@ -103,8 +103,8 @@ impl Cue {
     // The three numbers.
     fn numbers(&self) -> (u64, u64, u64) {
         match *self {
-            Cue::Low(asked, handed, stage) => (asked, handed, stage),
-            Cue::High(asked, handed, stage) => (asked, handed, stage),
+            Cue::Low(asked, handed, phase) => (asked, handed, phase),
+            Cue::High(asked, handed, phase) => (asked, handed, phase),
         }
     }
 
@@ -115,8 +115,8 @@ impl Cue {
 
     /// Whether the gate admits it.
     pub fn is_admitted(&self, words: &Words) -> bool {
-        let (_, handed, stage) = self.numbers();
-        words.handed.load(Ordering::SeqCst) >= handed && words.stage.load(Ordering::SeqCst) >= stage
+        let (_, handed, phase) = self.numbers();
+        words.handed.load(Ordering::SeqCst) >= handed && words.phase.load(Ordering::SeqCst) >= phase
     }
 }
 
@@ -129,8 +129,8 @@ pub enum Order {
     Asked(u64),
     /// Waits until the sink was handed this number of packets.
     Handed(u64),
-    /// Comes to a stage.
-    Stage(u64),
+    /// Comes to a phase.
+    Phase(u64),
     /// Closes the link with an interface, and is answered so.
     Close(u16, Result<(), CloseFault>),
     /// Closes it again and again, until its marks are there.

@@ -92,8 +92,8 @@ fn obey<C: Closing>(running: &mut C, words: &Words, order: Order) -> bool {
         Order::Passed(count) => words.comes(&words.passed, count),
         Order::Asked(number) => words.comes(&words.asked, number),
         Order::Handed(count) => words.comes(&words.handed, count),
-        Order::Stage(stage) => {
-            words.stage.store(stage, Ordering::SeqCst);
+        Order::Phase(phase) => {
+            words.phase.store(phase, Ordering::SeqCst);
             true
         }
         Order::Close(link, wanted) => running.close(link) == wanted,

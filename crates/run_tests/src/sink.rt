@@ -18,7 +18,7 @@ pub enum Taking {
     Counts,
     /// Keeps it, and fails at so many of its first calls.
     Keeps(u64),
-    /// Keeps it, and holds the first one until a little after the controller has come to stage 1.
+    /// Keeps it, and holds the first one until a little after the controller has come to phase 1.
     Holds,
 }
 
