@@ -1,5 +1,5 @@
 //! The parts of the router's workers: items that own their buffer, the ends of pipes, the devices at
-//! the edge, and devices over lists for tests.
+//! the edge, devices over lists for tests, and what a thread asks of a worker.
 #![tactic(auto)]
 
 mod buffer;
