@@ -136,7 +136,7 @@ impl<N: Router, K: Sink> Stage for Forwarder<N, K> {
 }
 
 impl<N: Router, K: Sink> Turns<N> for Forwarder<N, K> {
-    ghost use Rattle.std.specs.Prelude.{◌≡◌, false};
+    ghost use Rattle.std.specs.Prelude.{◌≡◌, false, MatchBool};
     ghost use Rattle.packet_ledger.specs.Share.{HasRoom, IsDrained, IsPosted};
     ghost use Rattle.forwarder_stage.specs.Forwarding.{AwaitsPush, Forwarded, posted};
     ghost use Rattle.forwarder_stage.specs.SameForwarder.{forwarder_self, forwarder_then};
@@ -147,7 +147,7 @@ impl<N: Router, K: Sink> Turns<N> for Forwarder<N, K> {
 
     ghost has_turned = { λ turn a b. Forwarded K.told K.failed turn a b };
 
-    ghost awaits = { λ f. AwaitsPush K.failed f };
+    ghost awaits = { λ f said. MatchBool said (AwaitsPush K.failed f) (AwaitsPush K.failed f → ⊥) };
 
     ghost has_waited = { λ waited a b. (waited ≡ false) × (b ≡ a) };
 

@@ -135,7 +135,7 @@ impl<N: Router, S: Source> Turns<N> for Receiver<N, S> {
 
     ghost has_turned = { λ turn a b. Received S.told S.failed turn a b };
 
-    ghost awaits = { λ r. ⊥ };
+    ghost awaits = { λ r said. said ≡ false };
 
     ghost has_waited = { λ waited a b. Waited S.told S.failed a b × MatchBool a.ended (waited ≡ false) (S.waits a.source waited) };
 

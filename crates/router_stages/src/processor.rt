@@ -161,7 +161,7 @@ impl<N: Router, G: Gate> Stage for Processor<N, G> {
 }
 
 impl<N: Router, G: Gate + Drop> Turns<N> for Processor<N, G> {
-    ghost use Rattle.std.specs.Prelude.{◌≡◌, false};
+    ghost use Rattle.std.specs.Prelude.{◌≡◌, false, MatchBool};
     ghost use Rattle.packet_ledger.specs.Share.{HasRoom, IsDrained, IsPosted};
     ghost use Rattle.packet_ledger.proofs.Posting.{posted_drains};
     ghost use Rattle.router_stages.specs.Working.{AwaitsPush, Worked, posted};
@@ -172,7 +172,7 @@ impl<N: Router, G: Gate + Drop> Turns<N> for Processor<N, G> {
 
     ghost has_turned = { λ turn a b. Worked G.answers turn a b };
 
-    ghost awaits = { λ w. AwaitsPush w };
+    ghost awaits = { λ w said. MatchBool said (AwaitsPush w) (AwaitsPush w → ⊥) };
 
     ghost has_waited = { λ waited a b. (waited ≡ false) × (b ≡ a) };
 

@@ -125,11 +125,11 @@ impl<N: Router> Stage for SlowPath<N> {
 }
 
 impl<N: Router> Turns<N> for SlowPath<N> {
-    ghost use Rattle.std.specs.Prelude.{◌≡◌, ◌<◌, false};
+    ghost use Rattle.std.specs.Prelude.{◌≡◌, ◌<◌, false, MatchBool};
     ghost use Rattle.packet_ledger.specs.Share.{HasRoom, IsDrained, IsPosted};
     ghost use Rattle.packet_ledger.proofs.Posting.{posted_drains};
     ghost use Rattle.ruled_pipe.specs.Gathered.{ends_in};
-    ghost use Rattle.router_stages.specs.Answering.{Answered, posted};
+    ghost use Rattle.router_stages.specs.Answering.{Answered, IsDone, posted};
     ghost use Rattle.router_stages.specs.SameSlowPath.{slow_self, slow_then};
     ghost use Rattle.router_stages.specs.ExitLaws.{answered_ended, answered_same, slow_as, slow_posted, slow_still};
 
@@ -137,7 +137,7 @@ impl<N: Router> Turns<N> for SlowPath<N> {
 
     ghost has_turned = { λ turn a b. Answered turn a b };
 
-    ghost awaits = { λ a. ends_in a.taker.taken < a.taker.producers };
+    ghost awaits = { λ a said. MatchBool said (ends_in a.taker.taken < a.taker.producers) (IsDone a) };
 
     ghost has_waited = { λ waited a b. (waited ≡ false) × (b ≡ a) };
 

@@ -46,7 +46,7 @@ impl<N: Router> Turns<N> for Countdown<N> {
 
     ghost has_turned = { λ turn a b. turn ≡ Ended → b.left ≡ 0 };
 
-    ghost awaits = { λ a. ⊥ };
+    ghost awaits = { λ a said. said ≡ false };
 
     ghost has_waited = { λ waited a b. waited ≡ false };
 
@@ -274,14 +274,11 @@ impl Stage for Drain {
 }
 
 impl<N: Router> Turns<N> for Drain {
-    ghost use Rattle.std.specs.Prelude.{◌≡◌, ◌<◌, false};
-    ghost use Rattle.ruled_pipe.specs.Gathered.{ends_in};
-
     ghost may_turn = { λ a. Unit {0} };
 
     ghost has_turned = { λ turn a b. Unit {0} };
 
-    ghost awaits = { λ a. ends_in a.from.taken < a.from.producers };
+    ghost awaits = { λ a said. Unit {0} };
 
     ghost has_waited = { λ waited a b. waited ≡ false };
 

@@ -27,8 +27,8 @@ pub trait Turns<N: Router>: Stage {
     /// What one turn changes, and what it answers.
     ghost has_turned: { Turn → Self → Self → Type 0 };
 
-    /// Only a push into a pipe of its own can end its quiet.
-    ghost awaits: { Self → Type 0 };
+    /// What it answers to whether only a push into a pipe of its own can end its quiet.
+    ghost awaits: { Self → Bool → Type 0 };
 
     /// What a wait changes, and whether it waited in a way of its own.
     ghost has_waited: { Bool → Self → Self → Type 0 };
@@ -50,7 +50,7 @@ pub trait Turns<N: Router>: Stage {
 
     /// Whether only a push into a pipe of its own can end its quiet. Then it may sleep until there is one.
     fn awaits_push(&self) -> bool
-        ensures { MatchBool result (awaits self.now) (awaits self.now → ⊥) };
+        ensures { awaits self.now result };
 
     /// Waits until there may be something to do, in a way of its own, and says whether it did. It may
     /// return at any moment.
