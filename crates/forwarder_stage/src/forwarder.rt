@@ -135,12 +135,14 @@ impl<N: Router, K: Sink> Stage for Forwarder<N, K> {
     ghost has_ended = { λ f. ForwarderEnded f };
 }
 
-impl<N: Router, K: Sink> Turns<N> for Forwarder<N, K> {
+impl<N: Router, K: Sink> Turns<Book<N>> for Forwarder<N, K> {
     ghost use Rattle.std.specs.Prelude.{◌≡◌, false, MatchBool};
     ghost use Rattle.packet_ledger.specs.Share.{HasRoom, IsDrained, IsPosted};
     ghost use Rattle.forwarder_stage.specs.Forwarding.{AwaitsPush, Forwarded, posted};
     ghost use Rattle.forwarder_stage.specs.SameForwarder.{forwarder_self, forwarder_then};
     ghost use Rattle.packet_ledger.proofs.Posting.{posted_drains};
+    ghost use Rattle.stage_parts.specs.declared.turn.Turn.{Turn};
+    ghost use Rattle.std.proofs.Common.{subst};
     ghost use Rattle.forwarder_stage.specs.ForwarderLaws.{forwarded_ended, forwarded_same, forwarder_as, forwarder_posted, forwarder_still};
 
     ghost may_turn = { λ f. HasRoom f.side.share.counts };
@@ -203,15 +205,9 @@ impl<N: Router, K: Sink> Turns<N> for Forwarder<N, K> {
 
     ghost same_then = { λ x y z p q. forwarder_then x y z p q };
 
-    ghost turn_same = { λ turn x y is. forwarded_same K.told K.failed x y turn is };
+    ghost turn_keeps = { λ turn x y is. (forwarded_same K.told K.failed x y turn is, λ e. forwarded_ended K.told K.failed x y (subst (λ (t : Turn). Forwarded K.told K.failed t x y) e is)) };
 
-    ghost turn_ended = { λ x y is. forwarded_ended K.told K.failed x y is };
+    ghost wait_keeps = { λ waited x y is. forwarder_as x y is.1 };
 
-    ghost wait_same = { λ waited x y is. forwarder_as x y is.1 };
-
-    ghost post_same = { λ x y is. forwarder_posted x y is.1 };
-
-    ghost post_ended = { λ x y is ended. forwarder_still x y is.1 ended };
-
-    ghost post_drains = { λ x y is. posted_drains x.side.share y.side.share is.0 };
+    ghost post_keeps = { λ x y is. (forwarder_posted x y is.1, λ ended. forwarder_still x y is.1 ended, posted_drains x.side.share y.side.share is.0) };
 }

@@ -123,10 +123,12 @@ impl<N: Router, S: Source> Stage for Receiver<N, S> {
     ghost has_ended = { λ r. ReceiverEnded r };
 }
 
-impl<N: Router, S: Source> Turns<N> for Receiver<N, S> {
+impl<N: Router, S: Source> Turns<Book<N>> for Receiver<N, S> {
     ghost use Rattle.std.specs.Prelude.{◌≡◌, false, MatchBool};
     ghost use Rattle.packet_ledger.specs.Share.{HasRoom, IsDrained, IsPosted};
     ghost use Rattle.packet_ledger.proofs.Posting.{posted_drains};
+    ghost use Rattle.stage_parts.specs.declared.turn.Turn.{Turn};
+    ghost use Rattle.std.proofs.Common.{subst};
     ghost use Rattle.receiver_stage.specs.Receiving.{Received, Waited, posted};
     ghost use Rattle.receiver_stage.specs.SameReceiver.{receiver_self, receiver_then};
     ghost use Rattle.receiver_stage.specs.ReceiverLaws.{received_ended, received_same, receiver_posted, receiver_still, waited_same};
@@ -204,15 +206,9 @@ impl<N: Router, S: Source> Turns<N> for Receiver<N, S> {
 
     ghost same_then = { λ x y z p q. receiver_then x y z p q };
 
-    ghost turn_same = { λ turn x y is. received_same S.told S.failed x y turn is };
+    ghost turn_keeps = { λ turn x y is. (received_same S.told S.failed x y turn is, λ e. received_ended S.told S.failed x y (subst (λ (t : Turn). Received S.told S.failed t x y) e is)) };
 
-    ghost turn_ended = { λ x y is. received_ended S.told S.failed x y is };
+    ghost wait_keeps = { λ waited x y is. waited_same S.told S.failed x y is.0 };
 
-    ghost wait_same = { λ waited x y is. waited_same S.told S.failed x y is.0 };
-
-    ghost post_same = { λ x y is. receiver_posted x y is.1 };
-
-    ghost post_ended = { λ x y is ended. receiver_still x y is.1 ended };
-
-    ghost post_drains = { λ x y is. posted_drains x.side.share y.side.share is.0 };
+    ghost post_keeps = { λ x y is. (receiver_posted x y is.1, λ ended. receiver_still x y is.1 ended, posted_drains x.side.share y.side.share is.0) };
 }

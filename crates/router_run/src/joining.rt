@@ -4,6 +4,7 @@ ghost use Rattle.pipe_ends.specs.Shutting.{AreOpen, EachEnds};
 ghost use Rattle.run_laws.specs.Ended.{IsBack};
 ghost use Rattle.run_report.specs.Parting.{crew_of};
 
+use packet_ledger::Book;
 use pipe_ends::{Shutter, mark_all};
 use router_pipes::{Controller, notify_all};
 use router_stages::{Forwarder, Processor, Receiver, SlowPath};
@@ -40,7 +41,7 @@ fn marked<N: Router, R: Wait>(rt: &R, controller: Controller<N>) -> Vec<Shutter<
 /// Stops the workers and joins them.
 pub fn join_workers<N, S, K, G, R>(
     rt: &R,
-    orders: &Orders<N>,
+    orders: &Orders<Book<N>>,
     controller: Controller<N>,
     threads: Threaded<N, S, K, G>,
 ) -> Joined<N, S, K, G>

@@ -27,7 +27,7 @@ use worker_threads::{HOLD, Orders, Teams};
 #[derive(Drop)]
 pub struct Base<N: Router> {
     pub common: Common,
-    pub orders: Orders<N>,
+    pub orders: Orders<Book<N>>,
 }
 
 fn book_for<N: Router>(
@@ -51,7 +51,7 @@ fn orders_for<N: Router>(
     blank: Blank,
     links: usize,
     processors: usize,
-) -> Result<(Orders<N>, Vec<Share<N>>), AllocError>
+) -> Result<(Orders<Book<N>>, Vec<Share<N>>), AllocError>
     requires name { blank.table ≡ N.table }
     requires few { (links ≤ 33) × (processors ≤ 16) }
     requires workers { N.workers ≡ 2 * links + processors + 1 }
@@ -115,7 +115,7 @@ where
 {
     pub base: Base<N>,
     pub worker_parts: WorkerParts<N, G>,
-    pub teams: Teams<N, A, B, C, D>,
+    pub teams: Teams<Book<N>, A, B, C, D>,
     pub space: Space<N, S, K>,
 }
 

@@ -18,7 +18,7 @@ use crate::fault::StartFault;
 use crate::joining::{Threaded, join_workers};
 use crate::preparing::{Base, Prepared, prepare};
 use crate::worker_parts::WorkerParts;
-use packet_ledger::Blank;
+use packet_ledger::{Blank, Book};
 use process_packet::Config;
 use router_pipes::{CloseFault, Controller, Events, Pipes};
 use router_rules::{causes_are_apart, link_count, links_stand_in_order, rules_are_lawful};
@@ -45,7 +45,7 @@ where
 {
     rt: R,
     controller: Controller<N>,
-    orders: Orders<N>,
+    orders: Orders<Book<N>>,
     threads: Threaded<N, S, K, G>,
     pipes: Pipes<N>,
     space: Space<N, S, K>,
@@ -126,9 +126,12 @@ fn front_of<N, S, G>(
     receivers: Vec<Entering<N>>,
     processors: Vec<Processor<N, G>>,
     sources: Vec<S>,
-    receiving: Team<N, Receiver<N, S>>,
-    working: Team<N, Processor<N, G>>,
-) -> (Team<N, Receiver<N, S>>, Team<N, Processor<N, G>>)
+    receiving: Team<Book<N>, Receiver<N, S>>,
+    working: Team<Book<N>, Processor<N, G>>,
+) -> (
+    Team<Book<N>, Receiver<N, S>>,
+    Team<Book<N>, Processor<N, G>>,
+)
 where
     N: Router,
     S: Source,
@@ -161,9 +164,9 @@ fn rear_of<N, K>(
     slow: SlowPath<N>,
     forwarders: Vec<Leaving<N>>,
     sinks: Vec<K>,
-    answering: Team<N, SlowPath<N>>,
-    forwarding: Team<N, Forwarder<N, K>>,
-) -> (Team<N, SlowPath<N>>, Team<N, Forwarder<N, K>>)
+    answering: Team<Book<N>, SlowPath<N>>,
+    forwarding: Team<Book<N>, Forwarder<N, K>>,
+) -> (Team<Book<N>, SlowPath<N>>, Team<Book<N>, Forwarder<N, K>>)
 where
     N: Router,
     K: Sink,

@@ -4,18 +4,18 @@ ghost use Rattle.std.specs.Prelude.{IfOk};
 ghost use Rattle.worker_threads.specs.Teams.{AreTeamsFor, IsFor};
 
 use router_pipes::Events;
-use stage_parts::{Event, Router, Stage, both};
+use stage_parts::{Event, Stage, both};
 use std::alloc::{AllocError, Global};
 use std::slice;
 use worker_threads::{Handle, Orders, Team, Teams};
 
 // Orders for the threads of so many workers, each with its worker's event if it has one.
-fn orders_for<N: Router>(
+fn orders_for<B: Drop>(
     alloc: Global,
-    orders: &Orders<N>,
+    orders: &Orders<B>,
     events: &[Event],
     count: usize,
-) -> Result<Vec<Orders<N>>, AllocError> {
+) -> Result<Vec<Orders<B>>, AllocError> {
     let mut each = Vec::new(alloc);
     for k in 0..count {
         let next = match events.get(k) {
@@ -28,12 +28,12 @@ fn orders_for<N: Router>(
 }
 
 // A team of so many workers, none of whom is there yet.
-fn team_for<N: Router, W: Stage + Drop>(
+fn team_for<B: Drop, W: Stage + Drop>(
     alloc: Global,
-    orders: &Orders<N>,
+    orders: &Orders<B>,
     events: &[Event],
     count: usize,
-) -> Result<Team<N, W>, AllocError>
+) -> Result<Team<B, W>, AllocError>
     ensures { IfOk result (λ t. IsFor count t) }
 {
     let orders = orders_for(alloc, orders, events, count)?;
@@ -47,14 +47,14 @@ fn team_for<N: Router, W: Stage + Drop>(
 }
 
 // Two such teams, of workers that have these events.
-fn two_teams_for<N: Router, V: Stage + Drop, W: Stage + Drop>(
+fn two_teams_for<B: Drop, V: Stage + Drop, W: Stage + Drop>(
     alloc: Global,
-    orders: &Orders<N>,
+    orders: &Orders<B>,
     first_events: &[Event],
     first: usize,
     second_events: &[Event],
     second: usize,
-) -> Result<(Team<N, V>, Team<N, W>), AllocError>
+) -> Result<(Team<B, V>, Team<B, W>), AllocError>
     ensures { IfOk result (λ r. IsFor first r.0 × IsFor second r.1) }
 {
     let one = team_for(alloc, orders, first_events, first);
@@ -65,19 +65,19 @@ fn two_teams_for<N: Router, V: Stage + Drop, W: Stage + Drop>(
 
 /// The teams of a router with these numbers of links and processors, with room for the workers, none of
 /// whom is there yet.
-pub fn teams_for<N, A, B, C, D>(
+pub fn teams_for<B, V, W, X, Y>(
     alloc: Global,
-    orders: &Orders<N>,
+    orders: &Orders<B>,
     events: &Events,
     links: usize,
     processors: usize,
-) -> Result<Teams<N, A, B, C, D>, AllocError>
+) -> Result<Teams<B, V, W, X, Y>, AllocError>
 where
-    N: Router,
-    A: Stage + Drop,
-    B: Stage + Drop,
-    C: Stage + Drop,
-    D: Stage + Drop,
+    B: Drop,
+    V: Stage + Drop,
+    W: Stage + Drop,
+    X: Stage + Drop,
+    Y: Stage + Drop,
     ensures { IfOk result (λ t. AreTeamsFor links processors t.receivers t.processors t.slow t.forwarders) }
 {
     let front = two_teams_for(

@@ -61,7 +61,7 @@ fn both(a: bool, b: bool) -> Turn
     if a && b { Turn::Ended } else { Turn::Quiet }
 }
 
-impl<N: Router, G: Gate + Drop> Processor<N, G> {
+impl<N: Router, G: Gate> Processor<N, G> {
     /// The processor of a number, which takes from its pipe, one producer a link, and offers to two pipes
     /// a link and to the slow path's; buffers go back by one pipe a link.
     pub fn new(
@@ -98,31 +98,6 @@ impl<N: Router, G: Gate + Drop> Processor<N, G> {
         }
     }
 
-    /// Its ends of pipes and its counts, which tell what it did.
-    pub fn into_parts(
-        self,
-    ) -> (
-        Inlet<Packet<N>>,
-        Vec<Outlet<EgressPacket<N>>>,
-        Outlet<SlowPathRequest<N>>,
-        Vec<Producer<Buffer>>,
-        Share<N>,
-    )
-        ensures parts { (result.0 ≡ self.taker) × (result.1.items ≡ self.side.links) × (result.2 ≡ self.slow) × (result.3.items ≡ self.side.free) × (result.4 ≡ self.side.share) }
-        ensures law { IsWorking self.side.config self.taker self.hand (senders self.side.links) self.slow.sender self.side.share }
-    {
-        let Processor {
-            gate: _,
-            index: _,
-            from,
-            hand: _,
-            slow,
-            exits,
-        } = self;
-        let (links, free, share) = exits.into_parts();
-        (from, links, slow, free, share)
-    }
-
     // Passes on the packet in hand, where the gate admits it.
     fn work<R: Wait>(&mut self, rt: &R) -> Turn
         requires some { is_some self.old.hand ≡ true }
@@ -152,6 +127,33 @@ impl<N: Router, G: Gate + Drop> Processor<N, G> {
     }
 }
 
+impl<N: Router, G: Gate + Drop> Processor<N, G> {
+    /// Its ends of pipes and its counts, which tell what it did.
+    pub fn into_parts(
+        self,
+    ) -> (
+        Inlet<Packet<N>>,
+        Vec<Outlet<EgressPacket<N>>>,
+        Outlet<SlowPathRequest<N>>,
+        Vec<Producer<Buffer>>,
+        Share<N>,
+    )
+        ensures parts { (result.0 ≡ self.taker) × (result.1.items ≡ self.side.links) × (result.2 ≡ self.slow) × (result.3.items ≡ self.side.free) × (result.4 ≡ self.side.share) }
+        ensures law { IsWorking self.side.config self.taker self.hand (senders self.side.links) self.slow.sender self.side.share }
+    {
+        let Processor {
+            gate: _,
+            index: _,
+            from,
+            hand: _,
+            slow,
+            exits,
+        } = self;
+        let (links, free, share) = exits.into_parts();
+        (from, links, slow, free, share)
+    }
+}
+
 impl<N: Router, G: Gate> Stage for Processor<N, G> {
     ghost use Rattle.router_stages.specs.SameProcessor.{IsSameProcessor, ProcessorEnded};
 
@@ -160,10 +162,12 @@ impl<N: Router, G: Gate> Stage for Processor<N, G> {
     ghost has_ended = { λ w. ProcessorEnded w };
 }
 
-impl<N: Router, G: Gate + Drop> Turns<N> for Processor<N, G> {
+impl<N: Router, G: Gate> Turns<Book<N>> for Processor<N, G> {
     ghost use Rattle.std.specs.Prelude.{◌≡◌, false, MatchBool};
     ghost use Rattle.packet_ledger.specs.Share.{HasRoom, IsDrained, IsPosted};
     ghost use Rattle.packet_ledger.proofs.Posting.{posted_drains};
+    ghost use Rattle.stage_parts.specs.declared.turn.Turn.{Turn};
+    ghost use Rattle.std.proofs.Common.{subst};
     ghost use Rattle.router_stages.specs.Working.{AwaitsPush, Worked, posted};
     ghost use Rattle.router_stages.specs.SameProcessor.{processor_self, processor_then};
     ghost use Rattle.router_stages.specs.ExitLaws.{processor_as, processor_posted, processor_still, worked_ended, worked_same};
@@ -221,15 +225,9 @@ impl<N: Router, G: Gate + Drop> Turns<N> for Processor<N, G> {
 
     ghost same_then = { λ x y z p q. processor_then x y z p q };
 
-    ghost turn_same = { λ turn x y is. worked_same G.answers x y turn is };
+    ghost turn_keeps = { λ turn x y is. (worked_same G.answers x y turn is, λ e. worked_ended G.answers x y (subst (λ (t : Turn). Worked G.answers t x y) e is)) };
 
-    ghost turn_ended = { λ x y is. worked_ended G.answers x y is };
+    ghost wait_keeps = { λ waited x y is. processor_as x y is.1 };
 
-    ghost wait_same = { λ waited x y is. processor_as x y is.1 };
-
-    ghost post_same = { λ x y is. processor_posted x y is.1 };
-
-    ghost post_ended = { λ x y is ended. processor_still x y is.1 ended };
-
-    ghost post_drains = { λ x y is. posted_drains x.side.share y.side.share is.0 };
+    ghost post_keeps = { λ x y is. (processor_posted x y is.1, λ ended. processor_still x y is.1 ended, posted_drains x.side.share y.side.share is.0) };
 }

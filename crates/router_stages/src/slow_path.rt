@@ -124,10 +124,12 @@ impl<N: Router> Stage for SlowPath<N> {
     ghost has_ended = { λ a. SlowPathEnded a };
 }
 
-impl<N: Router> Turns<N> for SlowPath<N> {
+impl<N: Router> Turns<Book<N>> for SlowPath<N> {
     ghost use Rattle.std.specs.Prelude.{◌≡◌, ◌<◌, false, MatchBool};
     ghost use Rattle.packet_ledger.specs.Share.{HasRoom, IsDrained, IsPosted};
     ghost use Rattle.packet_ledger.proofs.Posting.{posted_drains};
+    ghost use Rattle.stage_parts.specs.declared.turn.Turn.{Turn};
+    ghost use Rattle.std.proofs.Common.{subst};
     ghost use Rattle.ruled_pipe.specs.Gathered.{ends_in};
     ghost use Rattle.router_stages.specs.Answering.{Answered, IsDone, posted};
     ghost use Rattle.router_stages.specs.SameSlowPath.{slow_self, slow_then};
@@ -183,15 +185,9 @@ impl<N: Router> Turns<N> for SlowPath<N> {
 
     ghost same_then = { λ x y z p q. slow_then x y z p q };
 
-    ghost turn_same = { λ turn x y is. answered_same turn x y is };
+    ghost turn_keeps = { λ turn x y is. (answered_same turn x y is, λ e. answered_ended x y (subst (λ (t : Turn). Answered t x y) e is)) };
 
-    ghost turn_ended = { λ x y is. answered_ended x y is };
+    ghost wait_keeps = { λ waited x y is. slow_as x y is.1 };
 
-    ghost wait_same = { λ waited x y is. slow_as x y is.1 };
-
-    ghost post_same = { λ x y is. slow_posted x y is.1 };
-
-    ghost post_ended = { λ x y is ended. slow_still x y is.1 ended };
-
-    ghost post_drains = { λ x y is. posted_drains x.side.share y.side.share is.0 };
+    ghost post_keeps = { λ x y is. (slow_posted x y is.1, λ ended. slow_still x y is.1 ended, posted_drains x.side.share y.side.share is.0) };
 }

@@ -36,7 +36,7 @@ impl<N: Router> Stage for Countdown<N> {
     ghost has_ended = { λ a. a.left ≡ 0 };
 }
 
-impl<N: Router> Turns<N> for Countdown<N> {
+impl<N: Router> Turns<Book<N>> for Countdown<N> {
     ghost use Rattle.std.specs.Prelude.{◌≡◌, refl};
     ghost use Rattle.std.proofs.Common.{◌∙◌};
     ghost use Rattle.packet_ledger.specs.Share.{HasRoom};
@@ -88,17 +88,11 @@ impl<N: Router> Turns<N> for Countdown<N> {
 
     ghost same_then = { λ x y z p q. tt };
 
-    ghost turn_same = { λ turn x y is. tt };
+    ghost turn_keeps = { λ turn x y is. (tt, is) };
 
-    ghost turn_ended = { λ x y is. is refl };
+    ghost wait_keeps = { λ waited x y is. tt };
 
-    ghost wait_same = { λ waited x y is. tt };
-
-    ghost post_same = { λ x y is. tt };
-
-    ghost post_ended = { λ x y is ended. is ∙ ended };
-
-    ghost post_drains = { λ x y is. tt };
+    ghost post_keeps = { λ x y is. (tt, λ ended. is ∙ ended, tt) };
 }
 
 // Workers and their orders, with room for the handles of their threads.
@@ -106,8 +100,8 @@ fn team_of<N: Router, W: Stage + Drop, R: Abort>(
     rt: &R,
     alloc: Global,
     workers: Vec<W>,
-    orders: Vec<Orders<N>>,
-) -> Team<N, W> {
+    orders: Vec<Orders<Book<N>>>,
+) -> Team<Book<N>, W> {
     let room = Vec::with_capacity(alloc, workers.len()).expect(rt, "memory");
     Team {
         workers,
@@ -139,9 +133,9 @@ fn countdowns<N: Router, R: Abort>(
 fn copies<N: Router, R: Abort>(
     rt: &R,
     alloc: Global,
-    orders: &Orders<N>,
+    orders: &Orders<Book<N>>,
     count: usize,
-) -> Vec<Orders<N>> {
+) -> Vec<Orders<Book<N>>> {
     let mut copies = Vec::new(alloc);
     for _ in 0..count {
         let copy = orders.another().expect(rt, "memory");
@@ -156,10 +150,10 @@ type Size = (usize, usize);
 fn team<N: Router, R: Abort>(
     rt: &R,
     alloc: Global,
-    orders: &Orders<N>,
+    orders: &Orders<Book<N>>,
     shares: &mut Vec<Share<N>>,
     size: Size,
-) -> Team<N, Countdown<N>> {
+) -> Team<Book<N>, Countdown<N>> {
     let workers = countdowns(rt, alloc, shares, size.0);
     team_of(rt, alloc, workers, copies(rt, alloc, orders, size.1))
 }
@@ -190,7 +184,7 @@ fn orders_for<N: Router, R: Abort>(
     alloc: Global,
     blank: Blank,
     workers: usize,
-) -> (Orders<N>, Vec<Share<N>>)
+) -> (Orders<Book<N>>, Vec<Share<N>>)
     requires name { blank.table ≡ N.table }
     requires workers { (workers ≡ N.workers) × (workers ≤ 65536) }
 {
@@ -273,7 +267,7 @@ impl Stage for Drain {
     ghost has_ended = { λ a. Unit {0} };
 }
 
-impl<N: Router> Turns<N> for Drain {
+impl<N: Router> Turns<Book<N>> for Drain {
     ghost may_turn = { λ a. Unit {0} };
 
     ghost has_turned = { λ turn a b. Unit {0} };
@@ -321,17 +315,11 @@ impl<N: Router> Turns<N> for Drain {
 
     ghost same_then = { λ x y z p q. tt };
 
-    ghost turn_same = { λ turn x y is. tt };
+    ghost turn_keeps = { λ turn x y is. (tt, λ e. tt) };
 
-    ghost turn_ended = { λ x y is. tt };
+    ghost wait_keeps = { λ waited x y is. tt };
 
-    ghost wait_same = { λ waited x y is. tt };
-
-    ghost post_same = { λ x y is. tt };
-
-    ghost post_ended = { λ x y is ended. tt };
-
-    ghost post_drains = { λ x y is. tt };
+    ghost post_keeps = { λ x y is. (tt, λ ended. tt, tt) };
 }
 
 // One worker, and room for its handle.
@@ -339,8 +327,8 @@ fn alone<N: Router, W: Stage + Drop, R: Abort>(
     rt: &R,
     alloc: Global,
     worker: W,
-    orders: Orders<N>,
-) -> Team<N, W> {
+    orders: Orders<Book<N>>,
+) -> Team<Book<N>, W> {
     let mut workers = Vec::new(alloc);
     workers.push(worker).expect(rt, "memory");
     let mut each = Vec::new(alloc);

@@ -3,7 +3,6 @@
 ghost use Rattle.std.specs.Prelude.{MatchBool};
 
 use crate::turn::Turn;
-use packet_ledger::{Book, Router};
 use std::sync::Wait;
 
 /// A worker that comes back from its thread once it has ended.
@@ -15,9 +14,9 @@ pub trait Stage {
     ghost has_ended: { Self → Type 0 };
 }
 
-/// A worker that makes turns to its end, and posts its counts into the book `N`.
-pub trait Turns<N: Router>: Stage {
-    ghost use Rattle.std.specs.Prelude.{Bool};
+/// A worker that makes turns to its end, and posts its counts into a book of a type.
+pub trait Turns<B>: Stage {
+    ghost use Rattle.std.specs.Prelude.{◌≡◌, Bool};
     ghost use Rattle.stage_parts.specs.declared.turn.Turn.{Turn};
     ghost use Rattle.stage_parts.specs.declared.turn.Turn.TheVariants.{Ended};
 
@@ -58,22 +57,16 @@ pub trait Turns<N: Router>: Stage {
         ensures { has_waited result self.old self.new };
 
     /// Posts its counts into the book, where there is room.
-    fn post<R: Wait>(&mut self, rt: &R, book: &Book<N>)
+    fn post<R: Wait>(&mut self, rt: &R, book: &B)
         ensures { has_posted self.old self.new };
 
     ghost same_self: { (x : Self) → Self.same x x };
 
     ghost same_then: { (x y z : Self) → Self.same x y → Self.same y z → Self.same x z };
 
-    ghost turn_same: { (turn : Turn) (x y : Self) → has_turned turn x y → Self.same x y };
+    ghost turn_keeps: { (turn : Turn) (x y : Self) → has_turned turn x y → Self.same x y × (turn ≡ Ended → Self.has_ended y) };
 
-    ghost turn_ended: { (x y : Self) → has_turned Ended x y → Self.has_ended y };
+    ghost wait_keeps: { (waited : Bool) (x y : Self) → has_waited waited x y → Self.same x y };
 
-    ghost wait_same: { (waited : Bool) (x y : Self) → has_waited waited x y → Self.same x y };
-
-    ghost post_same: { (x y : Self) → has_posted x y → Self.same x y };
-
-    ghost post_ended: { (x y : Self) → has_posted x y → Self.has_ended x → Self.has_ended y };
-
-    ghost post_drains: { (x y : Self) → has_posted x y → is_drained y };
+    ghost post_keeps: { (x y : Self) → has_posted x y → Self.same x y × (Self.has_ended x → Self.has_ended y) × is_drained y };
 }

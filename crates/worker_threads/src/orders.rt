@@ -3,7 +3,6 @@
 ghost use Rattle.std.specs.Prelude.{◌≡◌, IfOk, false, is_some, true};
 ghost use Rattle.std.specs.Arc.{arc_value};
 
-use packet_ledger::{Book, Router};
 use stage_parts::{Event, STOP};
 use std::alloc::{AllocError, Global};
 use std::sync::Arc;
@@ -19,14 +18,14 @@ pub const GIVE_UP: u64 = 3;
 
 /// The word that tells the threads what to do, which the receivers also read, the book into which
 /// workers post, and for a thread the event that is notified of pushes into its worker's pipes.
-pub struct Orders<N: Router> {
+pub struct Orders<B> {
     pub word: Arc<AtomicU64, Global>,
-    pub book: Arc<Book<N>, Global>,
+    pub book: Arc<B, Global>,
     pub event: Option<Event>,
 }
 
 // Not derived: a derived drop is proved again in each crate that drops one.
-impl<N: Router> Drop for Orders<N> {
+impl<B: Drop> Drop for Orders<B> {
     fn drop(self) {
         let Orders {
             word: _,
@@ -36,9 +35,9 @@ impl<N: Router> Drop for Orders<N> {
     }
 }
 
-impl<N: Router> Orders<N> {
+impl<B: Drop> Orders<B> {
     /// Orders by a word that says `HOLD`.
-    pub fn new(word: Arc<AtomicU64, Global>, book: Arc<Book<N>, Global>) -> Orders<N>
+    pub fn new(word: Arc<AtomicU64, Global>, book: Arc<B, Global>) -> Orders<B>
         ensures given { (result.word ≡ word) × (result.book ≡ book) }
         ensures event { is_some result.event ≡ false }
     {
@@ -51,7 +50,7 @@ impl<N: Router> Orders<N> {
 
     /// The same orders, for a thread of a worker that nobody notifies of pushes. It takes no memory; it
     /// fails where there are too many.
-    pub fn another(&self) -> Result<Orders<N>, AllocError>
+    pub fn another(&self) -> Result<Orders<B>, AllocError>
         ensures given { IfOk result (λ o. (arc_value o.word ≡ arc_value self.now.word) × (arc_value o.book ≡ arc_value self.now.book)) }
         ensures event { IfOk result (λ o. is_some o.event ≡ false) }
     {
@@ -62,7 +61,7 @@ impl<N: Router> Orders<N> {
 
     /// The same orders, for a thread of a worker of whose pipes each producer notifies the event after
     /// its pushes, marks among them. The worker sleeps on it.
-    pub fn another_with(&self, event: &Event) -> Result<Orders<N>, AllocError>
+    pub fn another_with(&self, event: &Event) -> Result<Orders<B>, AllocError>
         ensures given { IfOk result (λ o. (arc_value o.word ≡ arc_value self.now.word) × (arc_value o.book ≡ arc_value self.now.book)) }
         ensures event { IfOk result (λ o. is_some o.event ≡ true) }
     {

@@ -4,7 +4,6 @@ ghost use Rattle.std.specs.Prelude.{◌≡◌, IfOk};
 
 use crate::orders::Orders;
 use crate::thread::{Handle, ThreadFault, start_worker};
-use packet_ledger::Router;
 use stage_parts::{Stage, Turns};
 use std::marker::Model;
 use std::sync::Wait;
@@ -14,13 +13,13 @@ use std::time::Clock;
 /// Workers of one kind, orders for the thread of each, in order, and room for the threads' handles, of which
 /// none is there. Contracts see the workers, and for how many of them and of their handles there is room.
 #[derive(Drop)]
-pub struct Team<N: Router, W: Stage> {
+pub struct Team<B, W: Stage> {
     pub workers: Vec<W>,
-    pub orders: Vec<Orders<N>>,
+    pub orders: Vec<Orders<B>>,
     pub room: Vec<Handle<W>>,
 }
 
-impl<N: Router, W: Stage> Model for Team<N, W> {
+impl<B, W: Stage> Model for Team<B, W> {
     ghost use Rattle.std.specs.Prelude.{◌≡◌, ◌≤◌, [], length, vec_capacity};
     ghost use Rattle.worker_threads.specs.Teams.{Seated};
 
@@ -50,10 +49,10 @@ impl<W: Stage> Model for Started<W> {
 }
 
 // At `Err` one thread was refused, and those that were made are given.
-fn start_each<N, W, R>(rt: R, team: Team<N, W>) -> Result<Started<W>, Vec<Handle<W>>>
+fn start_each<B, W, R>(rt: R, team: Team<B, W>) -> Result<Started<W>, Vec<Handle<W>>>
 where
-    N: Router + Send + Sync + 'static,
-    W: Turns<N> + Send + Drop + 'static,
+    B: Drop + Send + Sync + 'static,
+    W: Turns<B> + Send + Drop + 'static,
     R: Threads + Wait + Clock + Copy + Send + 'static,
     ensures { IfOk result (λ s. s ≡ team.workers) }
 {
@@ -84,9 +83,9 @@ where
 }
 
 // Tells the threads to give up, and joins them.
-pub(crate) fn give_up<N, W, R>(rt: &R, orders: &Orders<N>, handles: Vec<Handle<W>>)
+pub(crate) fn give_up<B, W, R>(rt: &R, orders: &Orders<B>, handles: Vec<Handle<W>>)
 where
-    N: Router,
+    B: Drop,
     W: Stage + Drop,
     R: Threads + Wait,
 {
@@ -99,14 +98,14 @@ where
 /// A thread of its own for each worker of a team, which holds until it is told to run. At `Err` one was
 /// refused: the others gave up and were joined, and no thread is left. Under the same orders no thread
 /// of another team runs then. It takes no memory.
-pub fn start_all<N, W, R>(
+pub fn start_all<B, W, R>(
     rt: R,
-    orders: &Orders<N>,
-    team: Team<N, W>,
+    orders: &Orders<B>,
+    team: Team<B, W>,
 ) -> Result<Started<W>, ThreadFault>
 where
-    N: Router + Send + Sync + 'static,
-    W: Turns<N> + Send + Drop + 'static,
+    B: Drop + Send + Sync + 'static,
+    W: Turns<B> + Send + Drop + 'static,
     R: Threads + Wait + Clock + Copy + Send + 'static,
     ensures { IfOk result (λ s. s ≡ team.workers) }
 {

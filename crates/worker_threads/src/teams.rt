@@ -5,7 +5,6 @@ ghost use Rattle.std.specs.Prelude.{◌≡◌, IfOk};
 use crate::orders::Orders;
 use crate::starting::{Started, Team, give_up, start_all};
 use crate::thread::ThreadFault;
-use packet_ledger::Router;
 use stage_parts::{Stage, Turns};
 use std::sync::Wait;
 use std::thread::Threads;
@@ -14,40 +13,39 @@ use std::time::Clock;
 /// The teams of a router: receivers, processors, the slow path alone, and forwarders. Workers of any kinds
 /// can stand in for these.
 #[derive(Drop)]
-pub struct Teams<N, A, B, C, D>
+pub struct Teams<B, V, W, X, Y>
 where
-    N: Router,
-    A: Stage,
-    B: Stage,
-    C: Stage,
-    D: Stage,
+    V: Stage,
+    W: Stage,
+    X: Stage,
+    Y: Stage,
 {
-    pub receivers: Team<N, A>,
-    pub processors: Team<N, B>,
-    pub slow: Team<N, C>,
-    pub forwarders: Team<N, D>,
+    pub receivers: Team<B, V>,
+    pub processors: Team<B, W>,
+    pub slow: Team<B, X>,
+    pub forwarders: Team<B, Y>,
 }
 
 /// The threads of these teams.
 #[derive(Drop)]
-pub struct StartedTeams<A: Stage, B: Stage, C: Stage, D: Stage> {
-    pub receivers: Started<A>,
-    pub processors: Started<B>,
-    pub slow: Started<C>,
-    pub forwarders: Started<D>,
+pub struct StartedTeams<V: Stage, W: Stage, X: Stage, Y: Stage> {
+    pub receivers: Started<V>,
+    pub processors: Started<W>,
+    pub slow: Started<X>,
+    pub forwarders: Started<Y>,
 }
 
 // Threads for the workers of two teams, or none.
-fn start_both<N, V, W, R>(
+fn start_both<B, V, W, R>(
     rt: R,
-    orders: &Orders<N>,
-    first: Team<N, V>,
-    second: Team<N, W>,
+    orders: &Orders<B>,
+    first: Team<B, V>,
+    second: Team<B, W>,
 ) -> Result<(Started<V>, Started<W>), ThreadFault>
 where
-    N: Router + Send + Sync + 'static,
-    V: Turns<N> + Send + Drop + 'static,
-    W: Turns<N> + Send + Drop + 'static,
+    B: Drop + Send + Sync + 'static,
+    V: Turns<B> + Send + Drop + 'static,
+    W: Turns<B> + Send + Drop + 'static,
     R: Threads + Wait + Clock + Copy + Send + 'static,
     ensures { IfOk result (λ r. (r.0 ≡ first.workers) × (r.1 ≡ second.workers)) }
 {
@@ -62,17 +60,17 @@ where
 }
 
 /// Threads for the workers of all teams, or none. Where all are there they are told to run.
-pub fn start_teams<N, A, B, C, D, R>(
+pub fn start_teams<B, V, W, X, Y, R>(
     rt: R,
-    orders: &Orders<N>,
-    teams: Teams<N, A, B, C, D>,
-) -> Result<StartedTeams<A, B, C, D>, ThreadFault>
+    orders: &Orders<B>,
+    teams: Teams<B, V, W, X, Y>,
+) -> Result<StartedTeams<V, W, X, Y>, ThreadFault>
 where
-    N: Router + Send + Sync + 'static,
-    A: Turns<N> + Send + Drop + 'static,
-    B: Turns<N> + Send + Drop + 'static,
-    C: Turns<N> + Send + Drop + 'static,
-    D: Turns<N> + Send + Drop + 'static,
+    B: Drop + Send + Sync + 'static,
+    V: Turns<B> + Send + Drop + 'static,
+    W: Turns<B> + Send + Drop + 'static,
+    X: Turns<B> + Send + Drop + 'static,
+    Y: Turns<B> + Send + Drop + 'static,
     R: Threads + Wait + Clock + Copy + Send + 'static,
     ensures receivers { IfOk result (λ s. s.receivers ≡ teams.receivers.workers) }
     ensures processors { IfOk result (λ s. s.processors ≡ teams.processors.workers) }

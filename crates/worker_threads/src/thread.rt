@@ -4,7 +4,6 @@ ghost use Rattle.std.specs.Prelude.{◌≡◌, IfOk, IfSome, true};
 
 use crate::idle::{Idle, nap};
 use crate::orders::{GIVE_UP, HOLD, Orders};
-use packet_ledger::{Book, Router};
 use stage_parts::{Event, Stage, Turn, Turns};
 use std::snapshot::Snapshot;
 use std::sync::Wait;
@@ -91,10 +90,22 @@ impl Pace {
     }
 }
 
+// Whether it is time to post after such a turn: from time to time, and at the end.
+fn is_due(turn: Turn, pace: &mut Pace) -> bool
+    ensures { turn ≡ Turn.Ended → result ≡ true }
+{
+    match turn {
+        Turn::Did => pace.did(),
+        Turn::Quiet => false,
+        Turn::Ended => true,
+    }
+}
+
 // Posts where it is time to.
-fn post_if<N: Router, W: Turns<N>, R: Wait>(rt: &R, worker: &mut W, book: &Book<N>, due: bool)
+fn post_if<B, W: Turns<B>, R: Wait>(rt: &R, worker: &mut W, book: &B, due: bool)
     ensures same { W.same worker.old worker.new }
     ensures ended { W.has_ended worker.old → W.has_ended worker.new }
+    ensures drained { due ≡ true → W.is_drained worker.new }
 {
     if due {
         worker.post(rt, book);
@@ -102,12 +113,7 @@ fn post_if<N: Router, W: Turns<N>, R: Wait>(rt: &R, worker: &mut W, book: &Book<
 }
 
 // One turn, where each count can still be raised, and what is posted for it.
-fn attempt<N: Router, W: Turns<N>, R: Wait>(
-    rt: &R,
-    worker: &mut W,
-    book: &Book<N>,
-    pace: &mut Pace,
-) -> Turn
+fn attempt<B, W: Turns<B>, R: Wait>(rt: &R, worker: &mut W, book: &B, pace: &mut Pace) -> Turn
     ensures same { W.same worker.old worker.new }
     ensures ended { result ≡ Turn.Ended → W.has_ended worker.new × W.is_drained worker.new }
 {
@@ -115,26 +121,19 @@ fn attempt<N: Router, W: Turns<N>, R: Wait>(
         worker.post(rt, book);
         return Turn::Quiet;
     }
-    match worker.turn(rt) {
-        Turn::Did => {
-            post_if(rt, worker, book, pace.did());
-            Turn::Did
-        }
-        Turn::Quiet => Turn::Quiet,
-        Turn::Ended => {
-            worker.post(rt, book);
-            Turn::Ended
-        }
-    }
+    let turn = worker.turn(rt);
+    let due = is_due(turn, pace);
+    post_if(rt, worker, book, due);
+    turn
 }
 
 // Sleeps until there is a push. Since one may have come before the sleep was announced, there is a turn
 // between, and only where a push is still what ends its quiet it sleeps: the turn may have taken what a
 // gate holds back. Whether the worker has ended.
-fn sleep_on<N: Router, W: Turns<N>, R: Wait>(
+fn sleep_on<B, W: Turns<B>, R: Wait>(
     rt: &R,
     worker: &mut W,
-    book: &Book<N>,
+    book: &B,
     pace: &mut Pace,
     event: &Event,
 ) -> bool
@@ -155,10 +154,10 @@ fn sleep_on<N: Router, W: Turns<N>, R: Wait>(
 }
 
 // There was nothing to do. Whether the worker has ended.
-fn pause<N: Router, W: Turns<N>, R: Wait + Clock>(
+fn pause<B, W: Turns<B>, R: Wait + Clock>(
     rt: &R,
     worker: &mut W,
-    orders: &Orders<N>,
+    orders: &Orders<B>,
     pace: &mut Pace,
 ) -> bool
     ensures same { W.same worker.old worker.new }
@@ -180,10 +179,10 @@ fn pause<N: Router, W: Turns<N>, R: Wait + Clock>(
 }
 
 // One turn, and what it asks for. Whether the worker has ended.
-fn advance<N: Router, W: Turns<N>, R: Wait + Clock>(
+fn advance<B, W: Turns<B>, R: Wait + Clock>(
     rt: &R,
     worker: &mut W,
-    orders: &Orders<N>,
+    orders: &Orders<B>,
     pace: &mut Pace,
 ) -> bool
     ensures same { W.same worker.old worker.new }
@@ -202,7 +201,7 @@ fn advance<N: Router, W: Turns<N>, R: Wait + Clock>(
 }
 
 /// Makes turns to the worker's end, and posts what it counted.
-pub fn work_on<N: Router, W: Turns<N>, R: Wait + Clock>(rt: &R, orders: &Orders<N>, worker: W) -> W
+pub fn work_on<B, W: Turns<B>, R: Wait + Clock>(rt: &R, orders: &Orders<B>, worker: W) -> W
     ensures same { W.same worker result }
     ensures ended { W.has_ended result }
     ensures posted { W.is_drained result }
@@ -234,9 +233,9 @@ fn may_begin<R: Wait + Clock>(rt: &R, word: &AtomicU64) -> bool {
     unreachable!()
 }
 
-fn work_once_told<N: Router, W: Turns<N> + Drop, R: Wait + Clock>(
+fn work_once_told<B: Drop, W: Turns<B> + Drop, R: Wait + Clock>(
     rt: &R,
-    orders: &Orders<N>,
+    orders: &Orders<B>,
     worker: W,
 ) -> Option<W>
     ensures { IfSome result (λ w. W.same worker w × W.has_ended w) }
@@ -256,10 +255,10 @@ pub type Handle<W> = PromisedHandle<Option<W>, WillEnd<W>>;
 pub struct ThreadFault;
 
 /// A thread of the worker's own, which waits for its orders. It takes no memory of the allocator.
-pub fn start_worker<N, W, R>(rt: R, orders: Orders<N>, worker: W) -> Result<Handle<W>, ThreadFault>
+pub fn start_worker<B, W, R>(rt: R, orders: Orders<B>, worker: W) -> Result<Handle<W>, ThreadFault>
 where
-    N: Router + Send + Sync + 'static,
-    W: Turns<N> + Send + Drop + 'static,
+    B: Drop + Send + Sync + 'static,
+    W: Turns<B> + Send + Drop + 'static,
     R: Threads + Wait + Clock + Copy + Send + 'static,
     ensures { IfOk result (λ h. h.promise.0.value ≡ worker) }
 {

@@ -3,7 +3,7 @@ use Rattle.worker_threads.proofs.thread.advance.Goals as goal
 
 pub returns-then-waits_at_once-clause-same : goal.returns-then-waits_at_once-clause-same
 returns-then-waits_at_once-clause-same g c =
-    let waited = g.met.W.Turns.wait_same c.wait.result c.attempt.new.worker c.wait.new.self c.wait.ensures in
+    let waited = g.met.W.Turns.wait_keeps c.wait.result c.attempt.new.worker c.wait.new.self c.wait.ensures in
     g.met.W.Turns.same_then c.args.worker.now c.attempt.new.worker c.wait.new.self c.attempt.ensures.same waited
 
 pub returns-then-waits_at_once-clause-ended : goal.returns-then-waits_at_once-clause-ended
