@@ -1,6 +1,6 @@
 -- Lists of workers that go into threads and come back, taken from their ends.
-use Rattle.std.proofs.Common.{◌≡◌, ◌+◌, ◌<◌, List, [], ◌∷◌, ◌++◌, length, map, reverse, refl, sym, ap, subst, ◌∙◌, arith, append_assoc, append-nil, length-append}
-use Rattle.std.proofs.lemmas.List.{length-map, length-reverse, map-append, reverse-append, reverse-reverse}
+use Rattle.std.proofs.Common.{◌≡◌, ◌+◌, List, [], ◌∷◌, ◌++◌, length, map, reverse, refl, sym, ap, subst, ◌∙◌, arith, append_assoc, append-nil, length-append}
+use Rattle.std.proofs.lemmas.List.{length-reverse, reverse-append, reverse-reverse}
 use Rattle.stage_parts.specs.Back.{AreBack}
 
 module _ {X : Type 0} where
@@ -27,19 +27,8 @@ module _ {H X : Type 0} (f : H → X) where
   pub none_made : (hs : List H) (ws all : List X) → hs ≡ [] → ws ≡ reverse all → map f hs ++ reverse ws ≡ all
   none_made hs ws all none is = ap (λ (l : List H). map f l ++ reverse ws) none ∙ (ap reverse is ∙ reverse-reverse all)
 
-  pub one_made : (hs more : List H) (old new all : List X) (h : H) (x : X) → map f hs ++ reverse old ≡ all → old ≡ new ++ x ∷ [] → more ≡ hs ++ h ∷ [] → f h ≡ x → map f more ++ reverse new ≡ all
-  one_made hs more old new all h x was is pushed same =
-      ap (λ (l : List H). map f l ++ reverse new) pushed
-      ∙ (ap (λ (l : List X). l ++ reverse new) (map-append f hs (h ∷ []) ∙ ap (λ (y : X). map f hs ++ y ∷ []) same)
-      ∙ (one_later (map f hs) (reverse new) x ∙ (ap (λ (l : List X). map f hs ++ l) (sym (first_of old new x is)) ∙ was)))
-
-  pub made_long : (hs : List H) (ws all : List X) → map f hs ++ reverse ws ≡ all → length hs + length ws ≡ length all
-  made_long hs ws all was =
-      let a = ap length was in let b = length-append (map f hs) (reverse ws) in let c = length-map hs f in let d = length-reverse ws in omega arith
-
-  pub one_to_make : (hs : List H) (old new all : List X) (x : X) → map f hs ++ reverse old ≡ all → old ≡ new ++ x ∷ [] → length hs < length all
-  one_to_make hs old new all x was is =
-      let a = ap length was in let b = length-append (map f hs) (reverse old) in let c = length-map hs f in let d = length-reverse old in let e = one_popped old new x is in omega arith
+  pub more_made : (hs more : List H) (old new all : List X) → map f more ++ reverse new ≡ map f hs ++ reverse old → map f hs ++ reverse old ≡ all → map f more ++ reverse new ≡ all
+  more_made hs more old new all same was = same ∙ was
 
   pub all_made : (hs : List H) (ws all : List X) → map f hs ++ reverse ws ≡ all → ws ≡ [] → map f hs ≡ all
   all_made hs ws all was none = sym (append-nil (map f hs)) ∙ (ap (λ (l : List X). map f hs ++ reverse l) (sym none) ∙ was)

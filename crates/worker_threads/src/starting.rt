@@ -1,6 +1,6 @@
 //! Threads for all workers, or none.
 
-ghost use Rattle.std.specs.Prelude.{◌≡◌, IfOk};
+ghost use Rattle.std.specs.Prelude.{◌≡◌, ◌+◌, ◌++◌, ◌<◌, ◌≤◌, IfOk, length, map, reverse, true, vec_capacity};
 
 use crate::orders::Orders;
 use crate::thread::{Handle, ThreadFault, start_worker};
@@ -48,13 +48,52 @@ impl<W: Stage> Model for Started<W> {
     ghost invariant = { λ s. (s.room.items ≡ []) × (length s.handles.items ≤ vec_capacity s.room) };
 }
 
-// At `Err` one thread was refused, and those that were made are given.
-fn start_each<B, W, R>(rt: R, team: Team<B, W>) -> Result<Started<W>, Vec<Handle<W>>>
+// A thread for the next worker, the last of these, where all before it have one. Whether it has one too.
+fn start_next<B, W, R>(
+    rt: R,
+    so_far: bool,
+    workers: &mut Vec<W>,
+    orders: &mut Vec<Orders<B>>,
+    handles: &mut Vec<Handle<W>>,
+) -> bool
 where
     B: Drop + Send + Sync + 'static,
     W: Turns<B> + Send + Drop + 'static,
     R: Threads + Wait + Clock + Copy + Send + 'static,
-    ensures { IfOk result (λ s. s ≡ team.workers) }
+    requires some { so_far ≡ true → 0 < length workers.old.items }
+    requires room { so_far ≡ true → length handles.old.items < vec_capacity handles.old }
+    ensures so_far { result ≡ true → so_far ≡ true }
+    ensures one { result ≡ true → length workers.old.items ≡ length workers.new.items + 1 }
+    ensures same { result ≡ true → map (λ h. h.promise.0.value) handles.new.items ++ reverse workers.new.items ≡ map (λ h. h.promise.0.value) handles.old.items ++ reverse workers.old.items }
+    ensures fewer { length handles.new.items + length workers.new.items ≤ length handles.old.items + length workers.old.items }
+    ensures room { (vec_capacity workers.new ≡ vec_capacity workers.old) × (vec_capacity handles.new ≡ vec_capacity handles.old) }
+{
+    if !so_far {
+        return false;
+    }
+    let Some(own) = orders.pop() else {
+        return false;
+    };
+    let Some(worker) = workers.pop() else {
+        return false;
+    };
+    match start_worker(rt, own, worker) {
+        Ok(handle) => {
+            handles.push_reserved(handle);
+            true
+        }
+        Err(_) => false,
+    }
+}
+
+// Threads for the workers of a team, as long as all could be made, those before them too; and whether all are
+// there. Workers without a thread are gone.
+pub(crate) fn start_each<B, W, R>(rt: R, team: Team<B, W>, so_far: bool) -> (Started<W>, bool)
+where
+    B: Drop + Send + Sync + 'static,
+    W: Turns<B> + Send + Drop + 'static,
+    R: Threads + Wait + Clock + Copy + Send + 'static,
+    ensures { result.1 ≡ true → (so_far ≡ true) × (result.0 ≡ team.workers) }
 {
     let Team {
         mut workers,
@@ -64,22 +103,16 @@ where
     let count = workers.len();
     workers.reverse();
     orders.reverse();
+    let mut are_all = so_far;
     for k in 0..count {
-        let Some(own) = orders.pop() else {
-            return Err(handles);
-        };
-        let Some(worker) = workers.pop() else {
-            return Err(handles);
-        };
-        match start_worker(rt, own, worker) {
-            Ok(handle) => handles.push_reserved(handle),
-            Err(_) => return Err(handles),
-        }
+        are_all = start_next(rt, are_all, &mut workers, &mut orders, &mut handles);
     }
-    Ok(Started {
+    workers.clear();
+    let started = Started {
         handles,
         room: workers,
-    })
+    };
+    (started, are_all)
 }
 
 // Tells the threads to give up, and joins them.
@@ -109,11 +142,10 @@ where
     R: Threads + Wait + Clock + Copy + Send + 'static,
     ensures { IfOk result (λ s. s ≡ team.workers) }
 {
-    match start_each(rt, team) {
-        Ok(started) => Ok(started),
-        Err(some) => {
-            give_up(&rt, orders, some);
-            Err(ThreadFault)
-        }
+    let (started, are_all) = start_each(rt, team, true);
+    if are_all {
+        return Ok(started);
     }
+    give_up(&rt, orders, started.handles);
+    Err(ThreadFault)
 }

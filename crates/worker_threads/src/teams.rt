@@ -3,7 +3,7 @@
 ghost use Rattle.std.specs.Prelude.{◌≡◌, IfOk};
 
 use crate::orders::Orders;
-use crate::starting::{Started, Team, give_up, start_all};
+use crate::starting::{Started, Team, give_up, start_each};
 use crate::thread::ThreadFault;
 use stage_parts::{Stage, Turns};
 use std::sync::Wait;
@@ -35,31 +35,30 @@ pub struct StartedTeams<V: Stage, W: Stage, X: Stage, Y: Stage> {
     pub forwarders: Started<Y>,
 }
 
-// Threads for the workers of two teams, or none.
-fn start_both<B, V, W, R>(
-    rt: R,
-    orders: &Orders<B>,
-    first: Team<B, V>,
-    second: Team<B, W>,
-) -> Result<(Started<V>, Started<W>), ThreadFault>
+// Tells the threads of all teams to give up, and joins them.
+fn give_up_all<B, V, W, X, Y, R>(rt: &R, orders: &Orders<B>, started: StartedTeams<V, W, X, Y>)
 where
-    B: Drop + Send + Sync + 'static,
-    V: Turns<B> + Send + Drop + 'static,
-    W: Turns<B> + Send + Drop + 'static,
-    R: Threads + Wait + Clock + Copy + Send + 'static,
-    ensures { IfOk result (λ r. (r.0 ≡ first.workers) × (r.1 ≡ second.workers)) }
+    B: Drop,
+    V: Stage + Drop,
+    W: Stage + Drop,
+    X: Stage + Drop,
+    Y: Stage + Drop,
+    R: Threads + Wait,
 {
-    let first = start_all(rt, orders, first)?;
-    match start_all(rt, orders, second) {
-        Ok(second) => Ok((first, second)),
-        Err(fault) => {
-            give_up(&rt, orders, first.handles);
-            Err(fault)
-        }
-    }
+    let StartedTeams {
+        receivers,
+        processors,
+        slow,
+        forwarders,
+    } = started;
+    give_up(rt, orders, receivers.handles);
+    give_up(rt, orders, processors.handles);
+    give_up(rt, orders, slow.handles);
+    give_up(rt, orders, forwarders.handles);
 }
 
-/// Threads for the workers of all teams, or none. Where all are there they are told to run.
+/// Threads for the workers of all teams, or none: at `Err` one was refused, the others gave up and were
+/// joined, and no thread is left. Where all are there they are told to run. It takes no memory.
 pub fn start_teams<B, V, W, X, Y, R>(
     rt: R,
     orders: &Orders<B>,
@@ -77,21 +76,20 @@ where
     ensures slow { IfOk result (λ s. s.slow ≡ teams.slow.workers) }
     ensures forwarders { IfOk result (λ s. s.forwarders ≡ teams.forwarders.workers) }
 {
-    let (receivers, processors) = start_both(rt, orders, teams.receivers, teams.processors)?;
-    match start_both(rt, orders, teams.slow, teams.forwarders) {
-        Ok((slow, forwarders)) => {
-            orders.run();
-            Ok(StartedTeams {
-                receivers,
-                processors,
-                slow,
-                forwarders,
-            })
-        }
-        Err(fault) => {
-            give_up(&rt, orders, receivers.handles);
-            give_up(&rt, orders, processors.handles);
-            Err(fault)
-        }
+    let (receivers, are_all) = start_each(rt, teams.receivers, true);
+    let (processors, are_all) = start_each(rt, teams.processors, are_all);
+    let (slow, are_all) = start_each(rt, teams.slow, are_all);
+    let (forwarders, are_all) = start_each(rt, teams.forwarders, are_all);
+    let started = StartedTeams {
+        receivers,
+        processors,
+        slow,
+        forwarders,
+    };
+    if are_all {
+        orders.run();
+        return Ok(started);
     }
+    give_up_all(&rt, orders, started);
+    Err(ThreadFault)
 }
