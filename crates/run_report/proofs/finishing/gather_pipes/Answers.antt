@@ -8,3 +8,9 @@ returns-clause-middle g c = c.gather_one.ensures
 
 pub returns-clause-outer : goal.returns-clause-outer
 returns-clause-outer g c = c.gather_all-2.ensures
+
+pub gather_all-requires-clause-rooms : goal.gather_all-requires-clause-rooms
+gather_all-requires-clause-rooms g c = c.requires.inner.1
+
+pub gather_all-requires-clause-ended : goal.gather_all-requires-clause-ended
+gather_all-requires-clause-ended g c = c.requires.inner.0

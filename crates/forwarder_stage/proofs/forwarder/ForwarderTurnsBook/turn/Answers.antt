@@ -1,4 +1,4 @@
-use Rattle.std.proofs.Common.{Bool, sym, subst}
+use Rattle.std.proofs.Common.{Bool, sym, subst, rules}
 use Rattle.packet_ledger.specs.Share.{HasRoom}
 use Rattle.forwarder_stage.specs.Forwarding.{Forwarding, KeepsForwarding, PassedMet}
 use Rattle.stage_parts.proofs.RoomLemmas.{may_raise}
@@ -30,3 +30,6 @@ invariant_of-self-in-Some-take g c =
     let k : KeepsForwarding T F c.take.new.self c.take_if.new.self s.began c.pass-in-Some-take.new.self =
     took_low T F s.low c.take_if.new.self s.began s.delivery c.pass-in-Some-take.new.self looked c.in-Some-take.met c.take.new.self c.in-Some-take.ensures passed in
     k
+
+pub returns-in-None : goal.returns-in-None
+returns-in-None g c = search rules

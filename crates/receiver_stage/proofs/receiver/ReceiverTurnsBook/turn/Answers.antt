@@ -1,4 +1,4 @@
-use Rattle.std.proofs.Common.{◌≡◌, ◌+◌, ◌-◌, ◌^◌, ◌<◌, arith, inr, nat_eq, take, true, refl, sym, ap, subst, ◌∙◌}
+use Rattle.std.proofs.Common.{◌≡◌, ◌+◌, ◌-◌, ◌^◌, ◌<◌, arith, inr, nat_eq, take, true, refl, sym, ap, subst, ◌∙◌, rules}
 use Rattle.packet_ledger.specs.Share.{HasRoom}
 use Rattle.router_laws.specs.Heard.{Gave, WasQuiet, HadFailed, WasAtEnd, arrival}
 use Rattle.stage_laws.specs.Forwards.{AddsTo}
@@ -62,3 +62,6 @@ returns-in-Datagram g c =
     let few : F s.source < 2 ^ 64 - 1 = let r = c.failures.ensures in let n = c.if-failures.false in let t = c.failures.type_inv in grind arith in
     let is : Received T F Did u new = inr (inr (c.if-self.false, (Gave from now bytes, (few, failed, adds), (refl, refl, refl, passed)))) in
     subst (λ (v : Receiving g.row.S.Denot). Received T F Did v new) c.self.view_is is
+
+pub returns-then-self : goal.returns-then-self
+returns-then-self g c = search rules

@@ -19,3 +19,6 @@ invariant_of-self-in-Some-Payload g c =
 
 pub returns-in-Some-Marked : goal.returns-in-Some-Marked
 returns-in-Some-Marked g c = search rules
+
+pub returns-in-None : goal.returns-in-None
+returns-in-None g c = search rules

@@ -1,4 +1,4 @@
-use Rattle.std.proofs.Common.{◌∙◌, refl, sym, ap, subst}
+use Rattle.std.proofs.Common.{◌∙◌, refl, sym, ap, subst, rules}
 use Rattle.packet_ledger.specs.Share.{HasRoom}
 use Rattle.pipeline_laws.specs.Settled.{SlowPathRequest}
 use Rattle.router_rules.specs.Rules.{kinds}
@@ -21,3 +21,6 @@ invariant_of-self-in-Some-Payload g c =
     let kept = keeps_replied g.N.Router.config s.from s.exits c.self.invariant e.0 q c.reply.new.self (c.if-is_done.ensures.left refl) c.reply.ensures.some c.reply.ensures.replied in
     let is = e.2 ∙ ap (λ (l : Load (SlowPathRequest kinds)). took s.from (entry e.0 l)) c.in-Some-Payload.field-0-is in
     subst (λ (t : Taker (SlowPathRequest kinds)). KeepsAnswering g.N.Router.config t c.reply.new.self) (sym is) kept
+
+pub returns-in-None : goal.returns-in-None
+returns-in-None g c = search rules
