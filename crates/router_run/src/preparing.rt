@@ -104,36 +104,36 @@ fn base_for<N: Router>(
 
 /// All that is ready, for workers of any four kinds over sources `S` and sinks `K`.
 #[derive(Drop)]
-pub struct Prepared<N, G, A, B, C, D, S, K>
+pub struct Prepared<N, G, V, W, X, Y, S, K>
 where
     N: Router,
     G: Gate,
-    A: Stage,
-    B: Stage,
-    C: Stage,
-    D: Stage,
+    V: Stage,
+    W: Stage,
+    X: Stage,
+    Y: Stage,
 {
     pub base: Base<N>,
     pub worker_parts: WorkerParts<N, G>,
-    pub teams: Teams<Book<N>, A, B, C, D>,
+    pub teams: Teams<Book<N>, V, W, X, Y>,
     pub space: Space<N, S, K>,
 }
 
 /// It is given no device, so that each stays with the caller where memory runs out.
-pub fn prepare<N, G, A, B, C, D, S, K, R>(
+pub fn prepare<N, G, V, W, X, Y, S, K, R>(
     rt: &R,
     alloc: Global,
     blank: Blank,
     config: Config,
     gate: G,
-) -> Result<Prepared<N, G, A, B, C, D, S, K>, AllocError>
+) -> Result<Prepared<N, G, V, W, X, Y, S, K>, AllocError>
 where
     N: Router,
     G: Gate + Drop,
-    A: Stage + Drop,
-    B: Stage + Drop,
-    C: Stage + Drop,
-    D: Stage + Drop,
+    V: Stage + Drop,
+    W: Stage + Drop,
+    X: Stage + Drop,
+    Y: Stage + Drop,
     S: Drop,
     K: Drop,
     R: Wait,

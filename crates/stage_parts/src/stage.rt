@@ -14,7 +14,7 @@ pub trait Stage {
     ghost has_ended: { Self → Type 0 };
 }
 
-/// A worker that makes turns to its end, and posts its counts into a book of a type.
+/// A worker that makes turns to its end, and posts its counts into a book of the type `B`.
 pub trait Turns<B>: Stage {
     ghost use Rattle.std.specs.Prelude.{◌≡◌, Bool};
     ghost use Rattle.stage_parts.specs.declared.turn.Turn.{Turn};

@@ -35,7 +35,7 @@ impl<B: Drop> Drop for Orders<B> {
     }
 }
 
-impl<B: Drop> Orders<B> {
+impl<B> Orders<B> {
     /// Orders by a word that says `HOLD`.
     pub fn new(word: Arc<AtomicU64, Global>, book: Arc<B, Global>) -> Orders<B>
         ensures given { (result.word ≡ word) × (result.book ≡ book) }
@@ -48,6 +48,23 @@ impl<B: Drop> Orders<B> {
         }
     }
 
+    /// The threads begin their work.
+    pub fn run(&self) {
+        self.word.store(RUN, Ordering::SeqCst);
+    }
+
+    /// The receivers come to their ends, and with them all workers.
+    pub fn stop(&self) {
+        self.word.store(STOP, Ordering::SeqCst);
+    }
+
+    /// The threads end without a turn.
+    pub fn give_up(&self) {
+        self.word.store(GIVE_UP, Ordering::SeqCst);
+    }
+}
+
+impl<B: Drop> Orders<B> {
     /// The same orders, for a thread of a worker that nobody notifies of pushes. It takes no memory; it
     /// fails where there are too many.
     pub fn another(&self) -> Result<Orders<B>, AllocError>
@@ -68,20 +85,5 @@ impl<B: Drop> Orders<B> {
         let mut orders = self.another()?;
         orders.event = Some(Arc::try_clone(event)?);
         Ok(orders)
-    }
-
-    /// The threads begin their work.
-    pub fn run(&self) {
-        self.word.store(RUN, Ordering::SeqCst);
-    }
-
-    /// The receivers come to their ends, and with them all workers.
-    pub fn stop(&self) {
-        self.word.store(STOP, Ordering::SeqCst);
-    }
-
-    /// The threads end without a turn.
-    pub fn give_up(&self) {
-        self.word.store(GIVE_UP, Ordering::SeqCst);
     }
 }

@@ -118,7 +118,6 @@ where
 // Tells the threads to give up, and joins them.
 pub(crate) fn give_up<B, W, R>(rt: &R, orders: &Orders<B>, handles: Vec<Handle<W>>)
 where
-    B: Drop,
     W: Stage + Drop,
     R: Threads + Wait,
 {

@@ -38,7 +38,6 @@ pub struct StartedTeams<V: Stage, W: Stage, X: Stage, Y: Stage> {
 // Tells the threads of all teams to give up, and joins them.
 fn give_up_all<B, V, W, X, Y, R>(rt: &R, orders: &Orders<B>, started: StartedTeams<V, W, X, Y>)
 where
-    B: Drop,
     V: Stage + Drop,
     W: Stage + Drop,
     X: Stage + Drop,

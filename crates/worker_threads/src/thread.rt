@@ -233,7 +233,7 @@ fn may_begin<R: Wait + Clock>(rt: &R, word: &AtomicU64) -> bool {
     unreachable!()
 }
 
-fn work_once_told<B: Drop, W: Turns<B> + Drop, R: Wait + Clock>(
+fn work_once_told<B, W: Turns<B> + Drop, R: Wait + Clock>(
     rt: &R,
     orders: &Orders<B>,
     worker: W,
