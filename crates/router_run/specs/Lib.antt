@@ -1,3 +1,4 @@
 pub mod WorkerParts
 pub mod Run
 pub mod Starting
+pub mod Teams

@@ -4,24 +4,16 @@ ghost use Rattle.pipe_ends.specs.Shutting.{AreOpen, EachEnds};
 ghost use Rattle.run_laws.specs.Ended.{IsBack};
 ghost use Rattle.run_report.specs.Parting.{crew_of};
 
+use crate::threads::Threaded;
 use packet_ledger::Book;
 use pipe_ends::{Shutter, mark_all};
 use router_pipes::{Controller, notify_all};
-use router_stages::{Forwarder, Processor, Receiver, SlowPath};
 use run_report::Joined;
 use stage_parts::{EgressPacket, Gate, Router, Sink, Source};
 use std::rt::Clock;
 use std::sync::Wait;
 use std::thread::Threads;
-use worker_threads::{Orders, StartedTeams, join_all};
-
-/// The threads of a router's workers.
-pub type Threaded<N, S, K, G> = StartedTeams<
-    Receiver<N, S>,
-    Processor<N, G>,
-    SlowPath<N>,
-    Forwarder<N, K>,
->;
+use worker_threads::{Orders, join_all};
 
 // Marks the ends of the controller's pipes, and wakes the forwarders.
 fn marked<N: Router, R: Wait>(rt: &R, controller: Controller<N>) -> Vec<Shutter<EgressPacket<N>>>
@@ -54,7 +46,7 @@ where
     requires unmarked { AreOpen controller.shutters.items }
     ensures { IsBack (crew_of threads.receivers threads.processors threads.slow threads.forwarders controller.shutters.items) result }
 {
-    let StartedTeams {
+    let Threaded {
         receivers,
         processors,
         slow,

@@ -7,6 +7,7 @@ mod joining;
 mod preparing;
 mod running;
 mod teams;
+mod threads;
 mod worker_parts;
 
 pub use fault::StartFault;

@@ -5,11 +5,11 @@ ghost use Rattle.std.specs.Arc.{arc_value};
 ghost use Rattle.router_rules.specs.Links.{link_count};
 ghost use Rattle.router_pipes.specs.Dealing.{piping};
 ghost use Rattle.wired_workers.specs.Shares.{AreNewShares};
-ghost use Rattle.worker_threads.specs.Teams.{AreTeamsFor};
+ghost use Rattle.router_run.specs.Teams.{AreTeamsFor};
 ghost use Rattle.run_report.specs.Room.{HaveSpace};
 ghost use Rattle.router_run.specs.WorkerParts.{AreWorkerParts};
 
-use crate::teams::teams_for;
+use crate::teams::{Teams, teams_for};
 use crate::worker_parts::{WorkerParts, make_all};
 use packet_ledger::{Blank, Book, Share};
 use process_packet::Config;
@@ -21,7 +21,7 @@ use std::alloc::{AllocError, Global};
 use std::sync::atomic::AtomicU64;
 use std::sync::{Arc, Wait};
 use wired_workers::Common;
-use worker_threads::{HOLD, Orders, Teams};
+use worker_threads::{HOLD, Orders};
 
 /// What a run stands on: what its workers share, and the orders of their threads, with the book.
 #[derive(Drop)]

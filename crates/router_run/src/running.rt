@@ -8,15 +8,15 @@ ghost use Rattle.router_rules.specs.Links.{link_count};
 ghost use Rattle.router_pipes.specs.Closing.{Closing};
 ghost use Rattle.router_run.specs.Run.{HasRun, IsSameRun};
 ghost use Rattle.router_pipes.specs.Dealing.{piping};
-ghost use Rattle.wired_workers.specs.Kits.{forwardings, receivings};
 ghost use Rattle.router_run.specs.WorkerParts.{AreWorkerParts};
-ghost use Rattle.worker_threads.specs.Teams.{AreTeamsFor, IsFor};
+ghost use Rattle.router_run.specs.Teams.{AreTeamsFor};
 ghost use Rattle.run_report.specs.Room.{HaveSpace};
 ghost use Rattle.router_run.specs.Starting.{Begins, GivesBack, IsOneALink};
 
 use crate::fault::StartFault;
-use crate::joining::{Threaded, join_workers};
+use crate::joining::join_workers;
 use crate::preparing::{Base, Prepared, prepare};
+use crate::threads::{Threaded, give_up_all, start_front, start_rear};
 use crate::worker_parts::WorkerParts;
 use packet_ledger::{Blank, Book};
 use process_packet::Config;
@@ -31,8 +31,8 @@ use std::marker::Model;
 use std::rt::Clock;
 use std::sync::Wait;
 use std::thread::Threads;
-use wired_workers::{Common, Entering, Leaving, forwarders_of, receivers_of};
-use worker_threads::{Orders, Team, Teams, start_teams};
+use wired_workers::Common;
+use worker_threads::Orders;
 
 /// A running router. It has no `Drop`: it can only be finished. Contracts see its configuration, its pipes,
 /// and its workers and the controller's ends as they began.
@@ -121,79 +121,6 @@ fn of_forwarders(events: Events) -> Vec<Event> {
     events.forwarders
 }
 
-// The receivers over their sources, and the processors, each kind in its team.
-fn front_of<N, S, G>(
-    receivers: Vec<Entering<N>>,
-    processors: Vec<Processor<N, G>>,
-    sources: Vec<S>,
-    receiving: Team<Book<N>, Receiver<N, S>>,
-    working: Team<Book<N>, Processor<N, G>>,
-) -> (
-    Team<Book<N>, Receiver<N, S>>,
-    Team<Book<N>, Processor<N, G>>,
-)
-where
-    N: Router,
-    S: Source,
-    G: Gate + Drop,
-    requires count { length sources.items ≡ length receivers.items }
-    requires untold { Each (λ s. ToldNothing (S.told s)) sources.items }
-    requires receiving { IsFor (length receivers.items) receiving }
-    requires working { IsFor (length processors.items) working }
-    ensures receivers { result.0.workers ≡ receivings receivers.items sources.items }
-    ensures processors { result.1.workers ≡ processors.items }
-{
-    working.workers.destroy_empty();
-    let receivers = receivers_of(receivers, sources, receiving.workers);
-    (
-        Team {
-            workers: receivers,
-            orders: receiving.orders,
-            room: receiving.room,
-        },
-        Team {
-            workers: processors,
-            orders: working.orders,
-            room: working.room,
-        },
-    )
-}
-
-// The slow path, and the forwarders over their sinks, each kind in its team.
-fn rear_of<N, K>(
-    slow: SlowPath<N>,
-    forwarders: Vec<Leaving<N>>,
-    sinks: Vec<K>,
-    answering: Team<Book<N>, SlowPath<N>>,
-    forwarding: Team<Book<N>, Forwarder<N, K>>,
-) -> (Team<Book<N>, SlowPath<N>>, Team<Book<N>, Forwarder<N, K>>)
-where
-    N: Router,
-    K: Sink,
-    requires count { length sinks.items ≡ length forwarders.items }
-    requires untold { Each (λ k. ToldNothing (K.told k)) sinks.items }
-    requires answering { IsFor 1 answering }
-    requires forwarding { IsFor (length forwarders.items) forwarding }
-    ensures slow { result.0.workers ≡ slow ∷ [] }
-    ensures forwarders { result.1.workers ≡ forwardings K.failed forwarders.items sinks.items }
-{
-    let mut answerers = answering.workers;
-    answerers.push_reserved(slow);
-    let forwarders = forwarders_of(forwarders, sinks, forwarding.workers);
-    (
-        Team {
-            workers: answerers,
-            orders: answering.orders,
-            room: answering.room,
-        },
-        Team {
-            workers: forwarders,
-            orders: forwarding.orders,
-            room: forwarding.room,
-        },
-    )
-}
-
 // The workers over their devices, each in a thread of its own.
 fn run<N, S, K, G, R>(
     rt: R,
@@ -240,35 +167,44 @@ where
         shutters,
         forwarder_events: of_forwarders(events),
     };
-    let (receivers, processors) = front_of(
+    let (receivers, processors, are_all) = start_front(
+        rt,
         receivers,
         processors,
         sources,
         teams.receivers,
         teams.processors,
     );
-    let (slow, forwarders) = rear_of(slow, forwarders, sinks, teams.slow, teams.forwarders);
-    let teams = Teams {
+    let (slow, forwarders, are_all) = start_rear(
+        rt,
+        are_all,
+        slow,
+        forwarders,
+        sinks,
+        teams.slow,
+        teams.forwarders,
+    );
+    let threads = Threaded {
         receivers,
         processors,
         slow,
         forwarders,
     };
-    match start_teams(rt, &orders, teams) {
-        Ok(threads) => Ok(Running {
+    if are_all {
+        orders.run();
+        return Ok(Running {
             rt,
             controller,
             orders,
             threads,
             pipes,
             space,
-        }),
-        Err(_) => {
-            drop(pipes);
-            drop(space);
-            Err(StartFault::Thread)
-        }
+        });
     }
+    give_up_all(&rt, &orders, threads);
+    drop(pipes);
+    drop(space);
+    Err(StartFault::Thread)
 }
 
 impl<N, S, K, G, R> Running<N, S, K, G, R>

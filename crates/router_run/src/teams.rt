@@ -1,13 +1,30 @@
 //! The teams that get the threads, before their workers are there.
 
 ghost use Rattle.std.specs.Prelude.{IfOk};
-ghost use Rattle.worker_threads.specs.Teams.{AreTeamsFor, IsFor};
+ghost use Rattle.router_run.specs.Teams.{AreTeamsFor};
+ghost use Rattle.worker_threads.specs.Teams.{IsFor};
 
 use router_pipes::Events;
 use stage_parts::{Event, Stage, both};
 use std::alloc::{AllocError, Global};
 use std::slice;
-use worker_threads::{Handle, Orders, Team, Teams};
+use worker_threads::{Handle, Orders, Team};
+
+/// The teams of a router: receivers, processors, the slow path alone, and forwarders. Workers of any kinds
+/// can stand in for these.
+#[derive(Drop)]
+pub struct Teams<B, V, W, X, Y>
+where
+    V: Stage,
+    W: Stage,
+    X: Stage,
+    Y: Stage,
+{
+    pub receivers: Team<B, V>,
+    pub processors: Team<B, W>,
+    pub slow: Team<B, X>,
+    pub forwarders: Team<B, Y>,
+}
 
 // Orders for the threads of so many workers, each with its worker's event if it has one.
 fn orders_for<B: Drop>(
@@ -80,25 +97,22 @@ where
     Y: Stage + Drop,
     ensures { IfOk result (λ t. AreTeamsFor links processors t.receivers t.processors t.slow t.forwarders) }
 {
-    let front = two_teams_for(
+    let (receivers, processors) = two_teams_for(
         alloc,
         orders,
         &[],
         links,
         events.processors.as_slice(),
         processors,
-    );
-    let rear = two_teams_for(
+    )?;
+    let (slow, forwarders) = two_teams_for(
         alloc,
         orders,
         slice::from_ref(&events.slow),
         1,
         events.forwarders.as_slice(),
         links,
-    );
-    let (front, rear) = both(front, rear)?;
-    let (receivers, processors) = front;
-    let (slow, forwarders) = rear;
+    )?;
     Ok(Teams {
         receivers,
         processors,

@@ -16,9 +16,7 @@ use std::test::*;
 use std::thread;
 use std::thread::Threads;
 use std::time::{Clock, Duration};
-use worker_threads::{
-    HOLD, Orders, Started, StartedTeams, Team, Teams, ThreadFault, join_all, start_all, start_teams,
-};
+use worker_threads::{HOLD, Orders, Started, Team, give_up, join_all, start_each};
 
 // It counts a number of datagrams as received, one in a turn, is quiet for a number of turns, and has ended.
 #[derive(Drop)]
@@ -194,15 +192,34 @@ fn orders_for<N: Router, R: Abort>(
     (Orders::new(word, book), shares)
 }
 
-type Countdowns<N> = StartedTeams<Countdown<N>, Countdown<N>, Countdown<N>, Countdown<N>>;
+// The threads of teams, each with those of a team.
+type Teams<N> = Vec<Started<Countdown<N>>>;
 
-// Four teams of these sizes, in threads.
+// Teams of these sizes, in threads that hold, and whether all are there.
 fn started<N, R>(
     rt: R,
     alloc: Global,
-    blank: Blank,
+    orders: &Orders<Book<N>>,
+    shares: &mut Vec<Share<N>>,
     sizes: [Size; 4],
-) -> Result<Countdowns<N>, ThreadFault>
+) -> (Teams<N>, bool)
+where
+    N: Router + Send + Sync + 'static,
+    R: Abort + Threads + Wait + Clock + Copy + Send + 'static,
+{
+    let mut teams = Vec::new(alloc);
+    let mut are_all = true;
+    for size in sizes {
+        let team = team(&rt, alloc, orders, shares, size);
+        let (next, are_too) = start_each(rt, team, are_all);
+        are_all = are_too;
+        teams.push(next).expect(&rt, "memory");
+    }
+    (teams, are_all)
+}
+
+// How many came back of each of four teams; none where a thread was refused, and all others gave up.
+fn four_teams<N, R>(rt: R, alloc: Global, blank: Blank, sizes: [Size; 4]) -> Option<Vec<usize>>
 where
     N: Router + Send + Sync + 'static,
     R: Abort + Threads + Wait + Clock + Copy + Send + 'static,
@@ -210,40 +227,27 @@ where
     requires six { N.workers ≡ 6 }
 {
     let (orders, mut shares) = orders_for::<N, R>(&rt, alloc, blank, 6);
-    let [one, two, three, four] = sizes;
-    let teams = Teams {
-        receivers: team(&rt, alloc, &orders, &mut shares, one),
-        processors: team(&rt, alloc, &orders, &mut shares, two),
-        slow: team(&rt, alloc, &orders, &mut shares, three),
-        forwarders: team(&rt, alloc, &orders, &mut shares, four),
-    };
-    start_teams(rt, &orders, teams)
-}
-
-// How many came back of each of four teams; none where a thread was refused.
-fn four_teams<N, R>(rt: R, alloc: Global, blank: Blank, sizes: [Size; 4]) -> Option<[usize; 4]>
-where
-    N: Router + Send + Sync + 'static,
-    R: Abort + Threads + Wait + Clock + Copy + Send + 'static,
-    requires name { blank.table ≡ N.table }
-    requires six { N.workers ≡ 6 }
-{
-    match started::<N, R>(rt, alloc, blank, sizes) {
-        Ok(started) => Some([
-            joined(&rt, started.receivers),
-            joined(&rt, started.processors),
-            joined(&rt, started.slow),
-            joined(&rt, started.forwarders),
-        ]),
-        Err(_) => None,
+    let (teams, are_all) = started(rt, alloc, &orders, &mut shares, sizes);
+    if !are_all {
+        for team in teams {
+            give_up(&rt, &orders, team);
+        }
+        return None;
     }
+    orders.run();
+    let mut back = Vec::new(alloc);
+    for team in teams {
+        back.push(joined(&rt, team)).expect(&rt, "memory");
+    }
+    Some(back)
 }
 
 #[test]
 fn workers_come_back(rt: HostRuntime) {
     let blank = Blank::new(rt.alloc()).expect(&rt, "memory");
     let back = four_teams::<Brand, _>(rt, rt.alloc(), blank, [(3, 3), (2, 2), (1, 1), (0, 0)]);
-    assert!(rt; back == Some([3, 2, 1, 0]));
+    let back = back.expect(&rt, "threads");
+    assert!(rt; back.as_slice() == [3, 2, 1, 0].as_slice());
 }
 
 /// A team with orders for fewer threads than it has workers is refused, and no thread is left.
@@ -372,9 +376,9 @@ where
     let woken = orders.another_with(&event).expect(&rt, "memory");
     let (mut to, drain) = at_both_ends(&rt, alloc, event);
     let team = alone(&rt, alloc, drain, woken);
-    let started = start_all(rt, &orders, team).ok().expect(&rt, "thread");
+    let (started, is_there) = start_each(rt, team, true);
     orders.run();
-    if !feed(&rt, &mut to) {
+    if !is_there || !feed(&rt, &mut to) {
         return 0;
     }
     let mut back = join_all(&rt, started);

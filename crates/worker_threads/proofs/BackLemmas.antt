@@ -1,6 +1,6 @@
 -- Lists of workers that go into threads and come back, taken from their ends.
 use Rattle.std.proofs.Common.{◌≡◌, ◌+◌, List, [], ◌∷◌, ◌++◌, length, map, reverse, refl, sym, ap, subst, ◌∙◌, arith, append_assoc, append-nil, length-append}
-use Rattle.std.proofs.lemmas.List.{length-reverse, reverse-append, reverse-reverse}
+use Rattle.std.proofs.lemmas.List.{length-reverse, map-append, reverse-append, reverse-reverse}
 use Rattle.stage_parts.specs.Back.{AreBack}
 
 module _ {X : Type 0} where
@@ -29,6 +29,12 @@ module _ {H X : Type 0} (f : H → X) where
 
   pub more_made : (hs more : List H) (old new all : List X) → map f more ++ reverse new ≡ map f hs ++ reverse old → map f hs ++ reverse old ≡ all → map f more ++ reverse new ≡ all
   more_made hs more old new all same was = same ∙ was
+
+  -- the next of them has one
+  pub one_made : (hs more : List H) (old new : List X) (h : H) (x : X) → more ≡ hs ++ h ∷ [] → old ≡ new ++ x ∷ [] → f h ≡ x → map f more ++ reverse new ≡ map f hs ++ reverse old
+  one_made hs more old new h x pushed popped is =
+      ap (λ (l : List H). map f l ++ reverse new) pushed ∙ (ap (λ (l : List X). l ++ reverse new) (map-append f hs (h ∷ []))
+      ∙ (one_later (map f hs) (reverse new) (f h) ∙ (ap (λ (y : X). map f hs ++ y ∷ reverse new) is ∙ sym (ap (λ (l : List X). map f hs ++ l) (first_of old new x popped)))))
 
   pub all_made : (hs : List H) (ws all : List X) → map f hs ++ reverse ws ≡ all → ws ≡ [] → map f hs ≡ all
   all_made hs ws all was none = sym (append-nil (map f hs)) ∙ (ap (λ (l : List X). map f hs ++ reverse l) (sym none) ∙ was)

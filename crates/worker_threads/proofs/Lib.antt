@@ -1,2 +1,1 @@
 pub mod BackLemmas
-pub mod TeamLemmas

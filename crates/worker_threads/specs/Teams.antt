@@ -10,7 +10,3 @@ pub record Seated (W : Type 0) : Type 0 where
 -- no worker yet, and room for this number
 abbrev pub IsFor : {W : Type 0} → ℕ → Seated W → Type 0
 IsFor n t = (t.workers ≡ []) × (t.seats ≡ n) × (t.handles ≡ n)
-
--- no worker yet of a router with these numbers of links and processors, and room for all
-abbrev pub AreTeamsFor : {A B C D : Type 0} → ℕ → ℕ → Seated A → Seated B → Seated C → Seated D → Type 0
-AreTeamsFor links processors a b c d = IsFor links a × IsFor processors b × IsFor 1 c × IsFor links d

@@ -5,11 +5,9 @@ mod idle;
 mod joining;
 mod orders;
 mod starting;
-mod teams;
 mod thread;
 
 pub use joining::join_all;
 pub use orders::{GIVE_UP, HOLD, Orders, RUN};
-pub use starting::{Started, Team, start_all};
-pub use teams::{StartedTeams, Teams, start_teams};
-pub use thread::{Handle, STACK, ThreadFault, WillEnd, start_worker, work_on};
+pub use starting::{Started, Team, give_up, start_each};
+pub use thread::{Handle, STACK, WillEnd, work_on};

@@ -1,9 +1,9 @@
-//! Threads for all workers, or none.
+//! Threads for the workers of a team.
 
-ghost use Rattle.std.specs.Prelude.{◌≡◌, ◌+◌, ◌++◌, ◌<◌, ◌≤◌, IfOk, length, map, reverse, true, vec_capacity};
+ghost use Rattle.std.specs.Prelude.{◌≡◌, ◌+◌, ◌++◌, ◌<◌, ◌≤◌, length, map, reverse, true, vec_capacity};
 
 use crate::orders::Orders;
-use crate::thread::{Handle, ThreadFault, start_worker};
+use crate::thread::{Handle, start_worker};
 use stage_parts::{Stage, Turns};
 use std::marker::Model;
 use std::sync::Wait;
@@ -78,17 +78,18 @@ where
         return false;
     };
     match start_worker(rt, own, worker) {
-        Ok(handle) => {
+        Some(handle) => {
             handles.push_reserved(handle);
             true
         }
-        Err(_) => false,
+        None => false,
     }
 }
 
-// Threads for the workers of a team, as long as all could be made, those before them too; and whether all are
-// there. Workers without a thread are gone.
-pub(crate) fn start_each<B, W, R>(rt: R, team: Team<B, W>, so_far: bool) -> (Started<W>, bool)
+/// A thread of its own for each worker of a team, which holds until it is told to run: where all teams before it have
+/// theirs, as many as can be made. Whether all are there, those before them too. Workers without a thread are gone. It
+/// takes no memory.
+pub fn start_each<B, W, R>(rt: R, team: Team<B, W>, so_far: bool) -> (Started<W>, bool)
 where
     B: Drop + Send + Sync + 'static,
     W: Turns<B> + Send + Drop + 'static,
@@ -115,36 +116,14 @@ where
     (started, are_all)
 }
 
-// Tells the threads to give up, and joins them.
-pub(crate) fn give_up<B, W, R>(rt: &R, orders: &Orders<B>, handles: Vec<Handle<W>>)
+/// Tells all threads under these orders to give up, and joins those of a team.
+pub fn give_up<B, W, R>(rt: &R, orders: &Orders<B>, started: Started<W>)
 where
     W: Stage + Drop,
     R: Threads + Wait,
 {
     orders.give_up();
-    for handle in handles {
+    for handle in started.handles {
         let _ = handle.join(rt);
     }
-}
-
-/// A thread of its own for each worker of a team, which holds until it is told to run. At `Err` one was
-/// refused: the others gave up and were joined, and no thread is left. Under the same orders no thread
-/// of another team runs then. It takes no memory.
-pub fn start_all<B, W, R>(
-    rt: R,
-    orders: &Orders<B>,
-    team: Team<B, W>,
-) -> Result<Started<W>, ThreadFault>
-where
-    B: Drop + Send + Sync + 'static,
-    W: Turns<B> + Send + Drop + 'static,
-    R: Threads + Wait + Clock + Copy + Send + 'static,
-    ensures { IfOk result (λ s. s ≡ team.workers) }
-{
-    let (started, are_all) = start_each(rt, team, true);
-    if are_all {
-        return Ok(started);
-    }
-    give_up(&rt, orders, started.handles);
-    Err(ThreadFault)
 }

@@ -250,22 +250,19 @@ fn work_once_told<B, W: Turns<B> + Drop, R: Wait + Clock>(
 /// A thread of a worker, which holds until it is told to run, and what it promises.
 pub type Handle<W> = PromisedHandle<Option<W>, WillEnd<W>>;
 
-/// No thread could be made.
-#[derive(Clone, Copy, PartialEq, Eq)]
-pub struct ThreadFault;
-
-/// A thread of the worker's own, which waits for its orders. It takes no memory of the allocator.
-pub fn start_worker<B, W, R>(rt: R, orders: Orders<B>, worker: W) -> Result<Handle<W>, ThreadFault>
+// A thread of the worker's own, which waits for its orders; none where no thread could be made. It takes no memory of the
+// allocator.
+pub(crate) fn start_worker<B, W, R>(rt: R, orders: Orders<B>, worker: W) -> Option<Handle<W>>
 where
     B: Drop + Send + Sync + 'static,
     W: Turns<B> + Send + Drop + 'static,
     R: Threads + Wait + Clock + Copy + Send + 'static,
-    ensures { IfOk result (λ h. h.promise.0.value ≡ worker) }
+    ensures { IfSome result (λ h. h.promise.0.value ≡ worker) }
 {
     let promise = WillEnd(Snapshot::of(&worker));
     let builder = Builder::new().stack_size(STACK);
     match builder.spawn_with(&rt, promise, move || work_once_told(&rt, &orders, worker)) {
-        Ok(handle) => Ok(handle),
-        Err(_) => Err(ThreadFault),
+        Ok(handle) => Some(handle),
+        Err(_) => None,
     }
 }

@@ -4,7 +4,7 @@ use Rattle.router_pipes.specs.Dealing.{piping}
 use Rattle.run_report.specs.Room.{HaveSpace}
 use Rattle.router_run.specs.WorkerParts.{AreWorkerParts}
 use Rattle.router_pipes.proofs.OkLemmas.{of_ok}
-use Rattle.worker_threads.proofs.TeamLemmas.{teams_as}
+use Rattle.router_run.proofs.TeamLemmas.{teams_as}
 use Rattle.router_run.proofs.preparing.prepare.Goals as goal
 
 pub returns-clause-teams : goal.returns-clause-teams

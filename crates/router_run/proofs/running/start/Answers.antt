@@ -1,7 +1,7 @@
 use Rattle.std.proofs.Common.{◌+◌, ◌*◌, refl, sym, ◌∙◌, ap}
 use Rattle.process_packet.specs.declared.config.Config.{Config}
 use Rattle.router_rules.specs.Links.{link_count}
-use Rattle.worker_threads.proofs.TeamLemmas.{teams_as}
+use Rattle.router_run.proofs.TeamLemmas.{teams_as}
 use Rattle.router_run.proofs.Begin.{parts_as, starts}
 use Rattle.router_run.proofs.Finish.{space_as}
 use Rattle.router_run.proofs.running.start.Goals as goal

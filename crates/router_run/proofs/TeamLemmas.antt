@@ -1,6 +1,7 @@
 -- Teams for numbers by other names.
 use Rattle.std.proofs.Common.{◌≡◌, ℕ, sym, ◌∙◌}
-use Rattle.worker_threads.specs.Teams.{AreTeamsFor, IsFor, Seated}
+use Rattle.router_run.specs.Teams.{AreTeamsFor}
+use Rattle.worker_threads.specs.Teams.{IsFor, Seated}
 
 pub for_as : {W : Type 0} (n m : ℕ) (t : Seated W) → IsFor n t → m ≡ n → IsFor m t
 for_as n m t is e = (is.0, is.1 ∙ sym e, is.2 ∙ sym e)

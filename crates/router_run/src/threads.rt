@@ -1,0 +1,127 @@
+//! The workers over their devices, each in a thread of its own.
+
+ghost use Rattle.std.specs.Prelude.{◌≡◌, ◌∷◌, [], length, true};
+ghost use Rattle.pipeline_laws.specs.Deeds.{Each};
+ghost use Rattle.router_laws.specs.Heard.{ToldNothing};
+ghost use Rattle.wired_workers.specs.Kits.{forwardings, receivings};
+ghost use Rattle.worker_threads.specs.Teams.{IsFor};
+
+use packet_ledger::Book;
+use router_stages::{Forwarder, Processor, Receiver, SlowPath};
+use stage_parts::{Gate, Router, Sink, Source};
+use std::sync::Wait;
+use std::thread::Threads;
+use std::time::Clock;
+use wired_workers::{Entering, Leaving, forwarders_of, receivers_of};
+use worker_threads::{Orders, Started, Team, give_up, start_each};
+
+/// The threads of a router's workers.
+pub struct Threaded<N, S, K, G>
+where
+    N: Router,
+    S: Source,
+    K: Sink,
+    G: Gate,
+{
+    pub receivers: Started<Receiver<N, S>>,
+    pub processors: Started<Processor<N, G>>,
+    pub slow: Started<SlowPath<N>>,
+    pub forwarders: Started<Forwarder<N, K>>,
+}
+
+/// Threads for the receivers over their sources, and for the processors, and whether all are there.
+pub fn start_front<N, S, G, R>(
+    rt: R,
+    receivers: Vec<Entering<N>>,
+    processors: Vec<Processor<N, G>>,
+    sources: Vec<S>,
+    receiving: Team<Book<N>, Receiver<N, S>>,
+    working: Team<Book<N>, Processor<N, G>>,
+) -> (Started<Receiver<N, S>>, Started<Processor<N, G>>, bool)
+where
+    N: Router + Send + Sync + 'static,
+    S: Source + Send + Drop + 'static,
+    G: Gate + Send + Sync + Drop + 'static,
+    R: Threads + Wait + Clock + Copy + Send + 'static,
+    requires count { length sources.items ≡ length receivers.items }
+    requires untold { Each (λ s. ToldNothing (S.told s)) sources.items }
+    requires receiving { IsFor (length receivers.items) receiving }
+    requires working { IsFor (length processors.items) working }
+    ensures { result.2 ≡ true → (result.0 ≡ receivings receivers.items sources.items) × (result.1 ≡ processors.items) }
+{
+    working.workers.destroy_empty();
+    let receivers = receivers_of(receivers, sources, receiving.workers);
+    let receivers = Team {
+        workers: receivers,
+        orders: receiving.orders,
+        room: receiving.room,
+    };
+    let processors = Team {
+        workers: processors,
+        orders: working.orders,
+        room: working.room,
+    };
+    let (receivers, are_all) = start_each(rt, receivers, true);
+    let (processors, are_all) = start_each(rt, processors, are_all);
+    (receivers, processors, are_all)
+}
+
+/// Threads for the slow path, and for the forwarders over their sinks, where those before them are all there, and whether
+/// these are too.
+pub fn start_rear<N, K, R>(
+    rt: R,
+    so_far: bool,
+    slow: SlowPath<N>,
+    forwarders: Vec<Leaving<N>>,
+    sinks: Vec<K>,
+    answering: Team<Book<N>, SlowPath<N>>,
+    forwarding: Team<Book<N>, Forwarder<N, K>>,
+) -> (Started<SlowPath<N>>, Started<Forwarder<N, K>>, bool)
+where
+    N: Router + Send + Sync + 'static,
+    K: Sink + Send + Drop + 'static,
+    R: Threads + Wait + Clock + Copy + Send + 'static,
+    requires count { length sinks.items ≡ length forwarders.items }
+    requires untold { Each (λ k. ToldNothing (K.told k)) sinks.items }
+    requires answering { IsFor 1 answering }
+    requires forwarding { IsFor (length forwarders.items) forwarding }
+    ensures { result.2 ≡ true → (so_far ≡ true) × (result.0 ≡ slow ∷ []) × (result.1 ≡ forwardings K.failed forwarders.items sinks.items) }
+{
+    let mut answerers = answering.workers;
+    answerers.push_reserved(slow);
+    let answerers = Team {
+        workers: answerers,
+        orders: answering.orders,
+        room: answering.room,
+    };
+    let forwarders = forwarders_of(forwarders, sinks, forwarding.workers);
+    let forwarders = Team {
+        workers: forwarders,
+        orders: forwarding.orders,
+        room: forwarding.room,
+    };
+    let (slow, are_all) = start_each(rt, answerers, so_far);
+    let (forwarders, are_all) = start_each(rt, forwarders, are_all);
+    (slow, forwarders, are_all)
+}
+
+/// Tells all threads to give up, and joins those that are there.
+pub fn give_up_all<N, S, K, G, R>(rt: &R, orders: &Orders<Book<N>>, threads: Threaded<N, S, K, G>)
+where
+    N: Router,
+    S: Source + Drop,
+    K: Sink + Drop,
+    G: Gate + Drop,
+    R: Threads + Wait,
+{
+    let Threaded {
+        receivers,
+        processors,
+        slow,
+        forwarders,
+    } = threads;
+    give_up(rt, orders, receivers);
+    give_up(rt, orders, processors);
+    give_up(rt, orders, slow);
+    give_up(rt, orders, forwarders);
+}
