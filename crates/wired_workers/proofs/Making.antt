@@ -3,7 +3,7 @@ use Rattle.std.proofs.Common.{◌≡◌, ℕ, zero, suc, ◌+◌, List, [], ◌�
 use Rattle.std.specs.List.{All}
 use Rattle.packet_ledger.specs.Share.{Held, new_share}
 use Rattle.pipeline_laws.specs.Deeds.{Each}
-use Rattle.pipeline_laws.specs.Item.{Arrival, Outgoing}
+use Rattle.pipeline_laws.specs.Item.{Arrival}
 use Rattle.pipeline_laws.specs.Settled.{SlowPathRequest}
 use Rattle.process_packet.specs.declared.config.Config.{Config}
 use Rattle.ruled_pipe.specs.Producer.{Sender}
@@ -12,7 +12,6 @@ use Rattle.ruled_pipe.specs.Pipe.{Shape, IsEndOf}
 use Rattle.router_laws.specs.Returned.{AllAt}
 use Rattle.router_rules.specs.Rules.{kinds}
 use Rattle.router_stages.specs.Working.{Working}
-use Rattle.stage_parts.specs.Outlet.{Offering}
 use Rattle.stage_parts.specs.Outlets.{AreFresh, senders}
 use Rattle.pipe_ends.specs.Rows.{AreEndsOf, AreFor, Row, fresh_ends}
 use Rattle.router_pipes.specs.Dealing.{IsLong, IsNewEnd, IsTakerThere, piping}
@@ -57,10 +56,10 @@ module _ {T : Type 0} where
   bundle_long n p k pipes ends same is long = same ∙ (ap length is ∙ (fresh_long T p pipes ∙ long))
 
 module _ {G : Type 0} where
-  pub working_there : (c : Config) (inner outer : List Shape) (middle : Shape) (i : ℕ) (t : Taker (Arrival kinds)) (s : Sender (SlowPathRequest kinds)) (links : List (Offering (Outgoing kinds))) (w : Working G)
-      → IsTakerThere inner i t → IsNewEnd middle i s → AreEndsOf i outer (senders links)
-      → w.side.config ≡ c → (w.taker ≡ t) × (w.slow.sender ≡ s) × (w.side.links ≡ links) → AreFresh w.side.links → IsWorkingThere c (piping inner middle outer) i w
-  working_there c inner outer middle i t s links w there end are config same fresh =
+  pub working_there : (c : Config) (inner outer : List Shape) (middle : Shape) (i : ℕ) (t : Taker (Arrival kinds)) (s : Sender (SlowPathRequest kinds)) (w : Working G)
+      → IsTakerThere inner i t → IsNewEnd middle i s → AreEndsOf i outer (senders w.side.links)
+      → w.side.config ≡ c → (w.taker ≡ t) × (w.slow.sender ≡ s) → AreFresh w.side.links → IsWorkingThere c (piping inner middle outer) i w
+  working_there c inner outer middle i t s w there end are config same fresh =
       let is = same.0 ∙ there.fresh in
       record {
         own = there.own;
@@ -69,7 +68,7 @@ module _ {G : Type 0} where
           config = config;
           taker = (ap (λ (x : Taker (Arrival kinds)). x.pipe) is, ap (λ (x : Taker (Arrival kinds)). x.producers) is, ap (λ (x : Taker (Arrival kinds)). x.capacity) is);
           slow = subst (λ (x : Sender (SlowPathRequest kinds)). IsEndOf middle i x) (sym same.1) end.0;
-          links = subst (λ (xs : List (Offering (Outgoing kinds))). AreEndsOf i outer (senders xs)) (sym same.2) are;
+          links = are;
           fresh = fresh;
         };
       }

@@ -1,6 +1,6 @@
 -- What workers with devices are made of, but for their devices; and workers by their numbers.
 use Rattle.std.specs.Prelude.{◌≡◌, ◌+◌, ◌*◌, ℕ, List, [], ◌∷◌, Some, slice_get}
-use Rattle.pipeline_laws.specs.Item.{Arrival, Outgoing}
+use Rattle.pipeline_laws.specs.Item.{Arrival}
 use Rattle.process_packet.specs.declared.config.Config.{Config}
 use Rattle.ruled_pipe.specs.Producer.{Sender}
 use Rattle.ruled_pipe.specs.Consumer.{Taker}
@@ -81,8 +81,3 @@ pub record IsWorkingThere {G : Type 0} (c : Config) (p : Piping) (i : ℕ) (w : 
   pub own : Shape
   pub there : slice_get p.inner i ≡ Some own
   pub works : IsWorkingAt c p i own w
-
--- a worker's ends of the links' pipes and of those of free buffers
-pub record Way : Type 0 where
-  pub links : List (Offering (Outgoing kinds))
-  pub free : List (Sender (List ℕ))

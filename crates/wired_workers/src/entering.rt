@@ -22,7 +22,7 @@ use router_pipes::outlets;
 use router_rules::{Shared, link_count};
 use router_stages::Receiver;
 use ruled_pipe::{Consumer, Pipe};
-use stage_parts::{Buffer, Outlet, Packet, Router, Source};
+use stage_parts::{Buffer, Outlet, Packet, Router, Source, all_three};
 use std::alloc::{AllocError, Global};
 use std::marker::Model;
 use std::sync::Arc;
@@ -88,19 +88,6 @@ impl<N: Router> Entering<N> {
     }
 }
 
-// What the next receiver shares with others, and its first buffer.
-fn begun(
-    alloc: Global,
-    common: &Common,
-) -> Result<(Arc<Shared, Global>, Arc<AtomicU64, Global>, Buffer), AllocError>
-    ensures { IfOk result (λ r. arc_value r.0 ≡ arc_value common.now.shared) }
-{
-    let shared = Arc::try_clone(&common.shared)?;
-    let stop = Arc::try_clone(&common.stop)?;
-    let first = Buffer::new(alloc)?;
-    Ok((shared, stop, first))
-}
-
 fn entering_at<N: Router>(
     alloc: Global,
     common: &Common,
@@ -117,8 +104,10 @@ fn entering_at<N: Router>(
     ensures config { IfOk result (λ e. (e.config ≡ (arc_value common.now.shared).config) × (e.link ≡ link)) }
     ensures processors { IfOk result (λ e. (p : ℕ) (shapes : List Shape) → bundle.ends ≡ fresh_ends p shapes → AreEndsOf p shapes (senders e.processors)) }
 {
-    let processors = outlets(alloc, bundle, common.events.processors.as_slice(), 1)?;
-    let (shared, stop, first) = begun(alloc, common)?;
+    let stop = Arc::try_clone(&common.stop)?;
+    let processors = outlets(alloc, bundle, common.events.processors.as_slice(), 1);
+    let shared = Arc::try_clone(&common.shared);
+    let (processors, shared, first) = all_three(processors, shared, Buffer::new(alloc))?;
     Ok(Entering {
         shared,
         stop,

@@ -15,137 +15,58 @@ ghost use Rattle.router_pipes.specs.Rest.{IsRest};
 
 use crate::common::Common;
 use crate::remaining::{Portion, Remaining};
-use packet_ledger::Share;
 use pipe_ends::Line;
-use router_pipes::{Events, Inputs, Pipes, outlets};
-use router_rules::{Shared, link_count};
+use router_pipes::{Inputs, Pipes, outlets};
+use router_rules::link_count;
 use router_stages::{Processor, SlowPath};
 use ruled_pipe::{Consumer, Producer};
-use stage_parts::{
-    Buffer, EgressPacket, Event, Gate, Inlet, Outlet, Packet, Router, SlowPathRequest, both,
-};
+use stage_parts::{Gate, Inlet, Outlet, Packet, Router, SlowPathRequest, all_three, both};
 use std::alloc::{AllocError, Global};
-use std::marker::Model;
 use std::sync::Arc;
 
-/// A worker's ends of the links' pipes and of those of free buffers, and its share.
-#[derive(Drop)]
-pub struct Ways<N: Router> {
-    links: Vec<Outlet<EgressPacket<N>>>,
-    free: Vec<Producer<Buffer>>,
-    share: Share<N>,
-}
-
-impl<N: Router> Model for Ways<N> {
-    ghost use Rattle.std.specs.Prelude.{◌≡◌};
-    ghost use Rattle.packet_ledger.specs.Share.{new_share};
-    ghost use Rattle.stage_parts.specs.Outlets.{AreFresh};
-    ghost use Rattle.wired_workers.specs.Kits.{Way};
-
-    ghost Value = { Way };
-
-    ghost view = { λ w. record { links = w.links.items; free = w.free.items } };
-
-    ghost invariant = { λ w. AreFresh w.links.items × (w.share ≡ new_share) };
-}
-
-// A worker's ways, of its portion.
-fn ways_of<N: Router>(
-    alloc: Global,
-    portion: Portion<N>,
-    events: &Events,
-) -> Result<Ways<N>, AllocError>
-    requires bundle { IsBundle portion.links.ends }
-    requires share { portion.share ≡ new_share }
-    ensures links { IfOk result (λ w. (p : ℕ) (shapes : List Shape) → portion.links.ends ≡ fresh_ends p shapes → AreEndsOf p shapes (senders w.links)) }
-    ensures count { IfOk result (λ w. length w.links ≡ length portion.links.ends) }
-    ensures free { IfOk result (λ w. w.free ≡ portion.free.ends) }
-{
-    let Portion { links, free, share } = portion;
-    let links = outlets(alloc, links, events.forwarders.as_slice(), 2)?;
-    Ok(Ways {
-        links,
-        free: free.into_items(),
-        share,
-    })
-}
-
-// What a processor shares with others, and its ways.
-#[derive(Drop)]
-struct Own<N: Router, G: Drop> {
-    shared: Arc<Shared, Global>,
-    gate: Arc<G, Global>,
-    // The slow path's.
-    event: Event,
-    ways: Ways<N>,
-}
-
-// What the next processor shares with others, and the slow path's event.
-fn clones<G: Drop>(
-    common: &Common,
-    gate: &Arc<G, Global>,
-) -> Result<(Arc<Shared, Global>, Arc<G, Global>, Event), AllocError>
-    ensures { IfOk result (λ r. arc_value r.0 ≡ arc_value common.now.shared) }
-{
-    let shared = Arc::try_clone(&common.shared)?;
-    let gate = Arc::try_clone(gate)?;
-    let event = Arc::try_clone(&common.events.slow)?;
-    Ok((shared, gate, event))
-}
-
-// What the next processor has of its own.
-fn own_of<N: Router, G: Drop>(
+// The processor of a number, with its consumer, its end of the slow path's pipe, and its portion.
+fn processor_of<N: Router, G: Gate + Drop>(
     alloc: Global,
     common: &Common,
     gate: &Arc<G, Global>,
-    portion: Portion<N>,
-) -> Result<Own<N, G>, AllocError>
-    requires bundle { IsBundle portion.links.ends }
-    requires share { portion.share ≡ new_share }
-    ensures config { IfOk result (λ o. arc_value o.shared ≡ arc_value common.now.shared) }
-    ensures links { IfOk result (λ o. (p : ℕ) (shapes : List Shape) → portion.links.ends ≡ fresh_ends p shapes → AreEndsOf p shapes (senders o.ways.links)) }
-    ensures count { IfOk result (λ o. length o.ways.links ≡ length portion.links.ends) }
-    ensures free { IfOk result (λ o. o.ways.free ≡ portion.free.ends) }
-{
-    let ways = ways_of(alloc, portion, &common.events)?;
-    let (shared, gate, event) = clones(common, gate)?;
-    Ok(Own {
-        shared,
-        gate,
-        event,
-        ways,
-    })
-}
-
-// The processor over what it has of its own, and its ends of the pipes around it.
-fn processor_at<N: Router, G: Gate + Drop>(
-    own: Own<N, G>,
     index: u8,
-    producers: usize,
     taker: Consumer<Packet<N>>,
     asking: Producer<SlowPathRequest<N>>,
-) -> Processor<N, G>
-    requires config { N.config ≡ Some (arc_value own.shared).config }
-    requires taker { (taker.taken ≡ []) × (taker.producers ≡ producers) }
+    portion: Portion<N>,
+) -> Result<Processor<N, G>, AllocError>
+    requires config { N.config ≡ Some (arc_value common.now.shared).config }
+    requires taker { (taker.taken ≡ []) × (taker.producers ≡ link_count (arc_value common.now.shared).config) }
     requires asking { (asking.offers ≡ []) × (asking.refusals ≡ []) }
-    requires ways { (length own.ways.links ≡ 2 * link_count (arc_value own.shared).config) × (length own.ways.free ≡ link_count (arc_value own.shared).config) }
-    ensures config { result.side.config ≡ (arc_value own.shared).config }
-    ensures ends { (result.taker ≡ taker) × (result.slow.sender ≡ asking) × (result.side.links ≡ own.ways.links) }
-    ensures fresh { AreFresh result.side.links }
+    requires bundle { IsBundle portion.links.ends × (length portion.links.ends ≡ 2 * link_count (arc_value common.now.shared).config) }
+    requires free { length portion.free.ends ≡ link_count (arc_value common.now.shared).config }
+    requires share { portion.share ≡ new_share }
+    ensures config { IfOk result (λ w. w.side.config ≡ (arc_value common.now.shared).config) }
+    ensures ends { IfOk result (λ w. (w.taker ≡ taker) × (w.slow.sender ≡ asking)) }
+    ensures links { IfOk result (λ w. (p : ℕ) (shapes : List Shape) → portion.links.ends ≡ fresh_ends p shapes → AreEndsOf p shapes (senders w.side.links)) }
+    ensures fresh { IfOk result (λ w. AreFresh w.side.links) }
 {
-    let Own {
-        shared,
-        gate,
-        event,
-        ways,
-    } = own;
-    let Ways { links, free, share } = ways;
+    let Portion { links, free, share } = portion;
+    let producers = link_count(&common.shared.config);
+    let event = Arc::try_clone(&common.events.slow)?;
+    let links = outlets(alloc, links, common.events.forwarders.as_slice(), 2);
+    let shared = Arc::try_clone(&common.shared);
+    let (links, shared, gate) = all_three(links, shared, Arc::try_clone(gate))?;
     let from = Inlet::of(taker, producers);
     let slow = Outlet::of(asking, Some(event));
-    Processor::new(shared, index, gate, from, links, slow, free, share)
+    let processor = Processor::new(
+        shared,
+        index,
+        gate,
+        from,
+        links,
+        slow,
+        free.into_items(),
+        share,
+    );
+    Ok(processor)
 }
 
-// The processors, each with its consumer, its end of the slow path's pipe and its ways.
+// The processors, each with its consumer, its end of the slow path's pipe and its portion.
 fn processors_of<N: Router, G: Gate + Drop>(
     alloc: Global,
     common: &Common,
@@ -167,42 +88,23 @@ fn processors_of<N: Router, G: Gate + Drop>(
     ensures shares { IfOk result (λ _. HaveGone (arc_value common.now.shared).config.processors remaining.old.shares remaining.new.shares) }
     ensures made { IfOk result (λ v. IsRest (IsWorkingThere (arc_value common.now.shared).config (piping pipes.now.inner.items pipes.now.middle pipes.now.outer.items)) 0 (arc_value common.now.shared).config.processors v.items) }
 {
-    let producers = link_count(&common.shared.config);
     let count = usize::from(common.shared.config.processors);
     let mut made = Vec::with_capacity(alloc, count)?;
     let mut takers = Line::of(takers);
     let mut asking = Line::of(asking);
     for index in 0..count {
-        let own = own_of(alloc, common, gate, remaining.next())?;
+        let portion = remaining.next();
         let taker = takers.next();
         let slow = asking.next();
-        made.push_reserved(processor_at(own, index as u8, producers, taker, slow));
+        let processor = processor_of(alloc, common, gate, index as u8, taker, slow, portion)?;
+        made.push_reserved(processor);
     }
     let _ = pipes;
     Ok(made)
 }
 
-// The slow path over the configuration, its consumer and its ways.
+// The slow path, with its consumer and its portion.
 fn slow_path_of<N: Router>(
-    shared: Arc<Shared, Global>,
-    taker: Consumer<SlowPathRequest<N>>,
-    ways: Ways<N>,
-) -> SlowPath<N>
-    requires config { N.config ≡ Some (arc_value shared).config }
-    requires taker { (taker.taken ≡ []) × (taker.producers ≡ (arc_value shared).config.processors) }
-    requires ways { (length ways.links ≡ 2 * link_count (arc_value shared).config) × (length ways.free ≡ link_count (arc_value shared).config) }
-    ensures config { result.side.config ≡ (arc_value shared).config }
-    ensures ends { (result.taker ≡ taker) × (result.side.links ≡ ways.links) }
-    ensures fresh { AreFresh result.side.links }
-{
-    let processors = usize::from(shared.config.processors);
-    let from = Inlet::of(taker, processors);
-    let Ways { links, free, share } = ways;
-    SlowPath::new(shared, from, links, free, share)
-}
-
-// The slow path, which feeds the links' pipes by a new bundle.
-fn slow_path_with<N: Router>(
     alloc: Global,
     common: &Common,
     taker: Consumer<SlowPathRequest<N>>,
@@ -210,8 +112,7 @@ fn slow_path_with<N: Router>(
 ) -> Result<SlowPath<N>, AllocError>
     requires config { N.config ≡ Some (arc_value common.now.shared).config }
     requires taker { (taker.taken ≡ []) × (taker.producers ≡ (arc_value common.now.shared).config.processors) }
-    requires bundle { IsBundle portion.links.ends }
-    requires links { length portion.links.ends ≡ 2 * link_count (arc_value common.now.shared).config }
+    requires bundle { IsBundle portion.links.ends × (length portion.links.ends ≡ 2 * link_count (arc_value common.now.shared).config) }
     requires free { length portion.free.ends ≡ link_count (arc_value common.now.shared).config }
     requires share { portion.share ≡ new_share }
     ensures config { IfOk result (λ a. a.side.config ≡ (arc_value common.now.shared).config) }
@@ -219,9 +120,13 @@ fn slow_path_with<N: Router>(
     ensures links { IfOk result (λ a. (p : ℕ) (shapes : List Shape) → portion.links.ends ≡ fresh_ends p shapes → AreEndsOf p shapes (senders a.side.links)) }
     ensures fresh { IfOk result (λ a. AreFresh a.side.links) }
 {
-    let ways = ways_of(alloc, portion, &common.events);
-    let (ways, own) = both(ways, Arc::try_clone(&common.shared))?;
-    Ok(slow_path_of(own, taker, ways))
+    let Portion { links, free, share } = portion;
+    let processors = usize::from(common.shared.config.processors);
+    let links = outlets(alloc, links, common.events.forwarders.as_slice(), 2);
+    let (links, shared) = both(links, Arc::try_clone(&common.shared))?;
+    let from = Inlet::of(taker, processors);
+    let slow_path = SlowPath::new(shared, from, links, free.into_items(), share);
+    Ok(slow_path)
 }
 
 /// The processors and the slow path.
@@ -262,6 +167,6 @@ pub fn deciding_of<N: Router, G: Gate + Drop>(
         asked,
     } = inputs;
     let processors = processors_of(alloc, common, &gate, pipes, packets, asking, remaining)?;
-    let slow = slow_path_with(alloc, common, asked, remaining.next())?;
+    let slow = slow_path_of(alloc, common, asked, remaining.next())?;
     Ok(Deciding { processors, slow })
 }

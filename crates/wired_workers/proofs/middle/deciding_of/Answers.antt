@@ -23,28 +23,22 @@ next-requires-clause-free g c = let n = c.in_ok-processors.ensures.free.count in
 pub next-requires-clause-shares : goal.next-requires-clause-shares
 next-requires-clause-shares g c = let e = c.requires.shares.enough in let n = c.in_ok-processors.ensures.shares.count in omega arith
 
-pub slow_path_with-requires-clause-taker : goal.slow_path_with-requires-clause-taker
-slow_path_with-requires-clause-taker g c = (c.requires.asked.1, c.requires.asked.0.1 ∙ c.requires.middle)
+pub slow_path_of-requires-clause-taker : goal.slow_path_of-requires-clause-taker
+slow_path_of-requires-clause-taker g c = (c.requires.asked.1, c.requires.asked.0.1 ∙ c.requires.middle)
 
-pub slow_path_with-requires-clause-bundle : goal.slow_path_with-requires-clause-bundle
-slow_path_with-requires-clause-bundle g c =
-    let config = (arc_value c.args.common.now.shared).config in
-    let shapes = c.args.pipes.now.outer.items in
-    (config.processors, shapes, rest_first (IsBundleOf shapes) config.processors (config.processors + 2) c.processors_of.new.remaining.links c.next.new.self.links c.next.result.links c.next.ensures.links c.in_ok-processors.ensures.links)
-
-pub slow_path_with-requires-clause-share : goal.slow_path_with-requires-clause-share
-slow_path_with-requires-clause-share g c = next_new (arc_value c.args.common.now.shared).config.processors c.args.remaining.now.shares c.processors_of.new.remaining.shares c.next.new.self.shares c.next.result.share c.next.ensures.shares c.in_ok-processors.ensures.shares
-
-pub slow_path_with-requires-clause-links : goal.slow_path_with-requires-clause-links
-slow_path_with-requires-clause-links g c =
+pub slow_path_of-requires-clause-bundle : goal.slow_path_of-requires-clause-bundle
+slow_path_of-requires-clause-bundle g c =
     let config = (arc_value c.args.common.now.shared).config in
     let shapes = c.args.pipes.now.outer.items in
     let links = c.next.result.links in
     let is : links.ends ≡ fresh_ends config.processors shapes = rest_first (IsBundleOf shapes) config.processors (config.processors + 2) c.processors_of.new.remaining.links c.next.new.self.links links c.next.ensures.links c.in_ok-processors.ensures.links in
-    bundle_long (2 * link_count config) config.processors (length links.ends) shapes links.ends refl is c.requires.pipes.2
+    ((config.processors, shapes, is), bundle_long (2 * link_count config) config.processors (length links.ends) shapes links.ends refl is c.requires.pipes.2)
 
-pub slow_path_with-requires-clause-free : goal.slow_path_with-requires-clause-free
-slow_path_with-requires-clause-free g c =
+pub slow_path_of-requires-clause-share : goal.slow_path_of-requires-clause-share
+slow_path_of-requires-clause-share g c = next_new (arc_value c.args.common.now.shared).config.processors c.args.remaining.now.shares c.processors_of.new.remaining.shares c.next.new.self.shares c.next.result.share c.next.ensures.shares c.in_ok-processors.ensures.shares
+
+pub slow_path_of-requires-clause-free : goal.slow_path_of-requires-clause-free
+slow_path_of-requires-clause-free g c =
     let config = (arc_value c.args.common.now.shared).config in
     rest_first (IsLong (link_count config)) config.processors (config.processors + 1 + link_count config) c.processors_of.new.remaining.free c.next.new.self.free c.next.result.free c.next.ensures.free c.in_ok-processors.ensures.free
 

@@ -1,6 +1,7 @@
 use Rattle.std.proofs.Common.{◌≡◌, ◌+◌, ◌≤◌, length, vec_capacity}
 use Rattle.std.specs.Arc.{arc_value}
 use Rattle.router_laws.specs.Returned.{AllAt}
+use Rattle.router_rules.specs.Links.{link_count}
 use Rattle.router_pipes.specs.Dealing.{IsBundleOf, IsLong, IsNewEnd, IsTakerThere, piping}
 use Rattle.wired_workers.specs.Kits.{IsWorkingThere}
 use Rattle.wired_workers.specs.Shares.{HaveGone}
@@ -14,6 +15,6 @@ invariant-loop-index g l = record {
   takers : IsRest (IsTakerThere l.fn.pipes.inner.items) l.index l.count l.takers;
   asking : IsRest (IsNewEnd l.fn.pipes.middle) l.index l.count l.asking;
   links : IsRest (IsBundleOf l.fn.pipes.outer.items) l.index (l.count + 2) l.remaining.links;
-  free : IsRest (IsLong l.producers) l.index (l.count + 1 + l.producers) l.remaining.free;
+  free : IsRest (IsLong (link_count (arc_value l.common.shared).config)) l.index (l.count + 1 + link_count (arc_value l.common.shared).config) l.remaining.free;
   shares : HaveGone l.index l.initial.remaining.shares l.remaining.shares;
 }
