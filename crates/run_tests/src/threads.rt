@@ -192,34 +192,8 @@ fn orders_for<N: Router, R: Abort>(
     (Orders::new(word, book), shares)
 }
 
-// The threads of teams, each with those of a team.
-type Teams<N> = Vec<Started<Countdown<N>>>;
-
-// Teams of these sizes, in threads that hold, and whether all are there.
-fn started<N, R>(
-    rt: R,
-    alloc: Global,
-    orders: &Orders<Book<N>>,
-    shares: &mut Vec<Share<N>>,
-    sizes: [Size; 4],
-) -> (Teams<N>, bool)
-where
-    N: Router + Send + Sync + 'static,
-    R: Abort + Threads + Wait + Clock + Copy + Send + 'static,
-{
-    let mut teams = Vec::new(alloc);
-    let mut are_all = true;
-    for size in sizes {
-        let team = team(&rt, alloc, orders, shares, size);
-        let (next, are_too) = start_each(rt, team, are_all);
-        are_all = are_too;
-        teams.push(next).expect(&rt, "memory");
-    }
-    (teams, are_all)
-}
-
 // How many came back of each of four teams; none where a thread was refused, and all others gave up.
-fn four_teams<N, R>(rt: R, alloc: Global, blank: Blank, sizes: [Size; 4]) -> Option<Vec<usize>>
+fn four_teams<N, R>(rt: R, alloc: Global, blank: Blank, sizes: [Size; 4]) -> Option<[usize; 4]>
 where
     N: Router + Send + Sync + 'static,
     R: Abort + Threads + Wait + Clock + Copy + Send + 'static,
@@ -227,27 +201,36 @@ where
     requires six { N.workers ≡ 6 }
 {
     let (orders, mut shares) = orders_for::<N, R>(&rt, alloc, blank, 6);
-    let (teams, are_all) = started(rt, alloc, &orders, &mut shares, sizes);
-    if !are_all {
-        for team in teams {
-            give_up(&rt, &orders, team);
-        }
-        return None;
+    let [one, two, three, four] = sizes;
+    let one = team(&rt, alloc, &orders, &mut shares, one);
+    let two = team(&rt, alloc, &orders, &mut shares, two);
+    let three = team(&rt, alloc, &orders, &mut shares, three);
+    let four = team(&rt, alloc, &orders, &mut shares, four);
+    let (one, are_all) = start_each(rt, one, true);
+    let (two, are_all) = start_each(rt, two, are_all);
+    let (three, are_all) = start_each(rt, three, are_all);
+    let (four, are_all) = start_each(rt, four, are_all);
+    if are_all {
+        orders.run();
+        return Some([
+            joined(&rt, one),
+            joined(&rt, two),
+            joined(&rt, three),
+            joined(&rt, four),
+        ]);
     }
-    orders.run();
-    let mut back = Vec::new(alloc);
-    for team in teams {
-        back.push(joined(&rt, team)).expect(&rt, "memory");
-    }
-    Some(back)
+    give_up(&rt, &orders, one);
+    give_up(&rt, &orders, two);
+    give_up(&rt, &orders, three);
+    give_up(&rt, &orders, four);
+    None
 }
 
 #[test]
 fn workers_come_back(rt: HostRuntime) {
     let blank = Blank::new(rt.alloc()).expect(&rt, "memory");
     let back = four_teams::<Brand, _>(rt, rt.alloc(), blank, [(3, 3), (2, 2), (1, 1), (0, 0)]);
-    let back = back.expect(&rt, "threads");
-    assert!(rt; back.as_slice() == [3, 2, 1, 0].as_slice());
+    assert!(rt; back == Some([3, 2, 1, 0]));
 }
 
 /// A team with orders for fewer threads than it has workers is refused, and no thread is left.
@@ -352,15 +335,15 @@ fn at_both_ends<R: Abort>(rt: &R, alloc: Global, event: Event) -> (Outlet<u64>, 
     (to, drain)
 }
 
-// Offers the numbers from 1 to 40, each after a pause in which the other end falls asleep, and then the end mark.
+// Offers the numbers from 1 to 40, each after a pause in which the other end falls asleep, and then the end mark, for
+// which there is room whatever became of the numbers. Whether all were accepted.
 fn feed<R: Wait + Clock>(rt: &R, to: &mut Outlet<u64>) -> bool {
+    let mut are_all = true;
     for number in 1..41 {
         thread::sleep(rt, Duration::from_micros(200));
-        if to.has_ended() || to.offer(rt, number).is_err() {
-            return false;
-        }
+        are_all = are_all && !to.has_ended() && to.offer(rt, number).is_ok();
     }
-    to.end(rt)
+    to.end(rt) && are_all
 }
 
 // What a worker that sleeps takes of a pipe into which there is a push now and then: the sum.
@@ -377,12 +360,15 @@ where
     let (mut to, drain) = at_both_ends(&rt, alloc, event);
     let team = alone(&rt, alloc, drain, woken);
     let (started, is_there) = start_each(rt, team, true);
-    orders.run();
-    if !is_there || !feed(&rt, &mut to) {
+    if !is_there {
+        give_up(&rt, &orders, started);
         return 0;
     }
+    orders.run();
+    let is_fed = feed(&rt, &mut to);
     let mut back = join_all(&rt, started);
-    back.pop().expect(&rt, "worker").sum
+    let sum = back.pop().expect(&rt, "worker").sum;
+    if is_fed { sum } else { 0 }
 }
 
 #[test]

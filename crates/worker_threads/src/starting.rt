@@ -31,8 +31,8 @@ impl<B, W: Stage> Model for Team<B, W> {
 }
 
 /// Workers of one kind in threads of their own, and their list, which is empty now: the room that they come
-/// back into. Contracts see the workers as they were when their threads were made.
-#[derive(Drop)]
+/// back into. It has no `Drop`: its threads can only be joined, or told to give up. Contracts see the workers as they
+/// were when their threads were made.
 pub struct Started<W: Stage> {
     pub(crate) handles: Vec<Handle<W>>,
     pub(crate) room: Vec<W>,
@@ -122,8 +122,9 @@ where
     W: Stage + Drop,
     R: Threads + Wait,
 {
+    let Started { handles, room: _ } = started;
     orders.give_up();
-    for handle in started.handles {
+    for handle in handles {
         let _ = handle.join(rt);
     }
 }
