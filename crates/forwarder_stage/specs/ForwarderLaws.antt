@@ -4,7 +4,7 @@ use Rattle.pipeline_laws.specs.Item.{Outgoing}
 use Rattle.router_rules.specs.Rules.{kinds}
 use Rattle.ruled_pipe.specs.Consumer.{Taker}
 use Rattle.stage_parts.specs.Told.{Told}
-use Rattle.forwarder_stage.specs.Forwarding.{Band, Delivered, Delivery, Forwarded, Forwarding, Forwards, HasEnded, Met, PassedMet, TookOf, is_two, looks_first, posted}
+use Rattle.forwarder_stage.specs.Forwarding.{Band, Delivered, Delivery, ForwarderEnded, Forwarded, Forwarding, Forwards, Met, PassedMet, TookOf, is_two, looks_first, posted}
 use Rattle.stage_parts.specs.declared.turn.Turn.{Turn}
 use Rattle.stage_parts.specs.declared.turn.Turn.TheVariants.{Did, Quiet, Ended}
 use Rattle.stage_parts.specs.Same.{IsSameTaker, taker_self}
@@ -72,8 +72,8 @@ module _ {K : Type 0} where
       forwarded_same turn (inr (inl is)) = forwarder_as old new is.3
       forwarded_same turn (inr (inr is)) = forwards_same turn is.2
 
-      pub forwarded_ended : Forwarded told failed Ended old new → HasEnded new
-      forwarded_ended (inl is) = subst (λ (f : Forwarding K). HasEnded f) (sym is.2) is.0
+      pub forwarded_ended : Forwarded told failed Ended old new → ForwarderEnded new
+      forwarded_ended (inl is) = subst (λ (f : Forwarding K). ForwarderEnded f) (sym is.2) is.0
       forwarded_ended (inr (inl is)) = absurd (let z : Ended ≡ Quiet = is.2 in cc)
       forwarded_ended (inr (inr is)) = absurd (forwards_on is.2)
 
@@ -82,5 +82,5 @@ module _ {K : Type 0} where
       subst (λ (f : Forwarding K). IsSameForwarder old f) (sym e)
       (record { config = refl; link = refl; began = refl; low = taker_self old.low.taker; high = taker_self old.high.taker; unused = λ one. refl })
 
-  pub forwarder_still : (old new : Forwarding K) → new ≡ posted new.side.share old → HasEnded old → HasEnded new
-  forwarder_still old new e is = subst (λ (f : Forwarding K). HasEnded f) (sym e) is
+  pub forwarder_still : (old new : Forwarding K) → new ≡ posted new.side.share old → ForwarderEnded old → ForwarderEnded new
+  forwarder_still old new e is = subst (λ (f : Forwarding K). ForwarderEnded f) (sym e) is

@@ -123,13 +123,13 @@ module _ {K : Type 0} where
   abbrev pub with_bands : Band → Band → Delivery K → Forwarding K → Forwarding K
   with_bands low high side f = record { link = f.link; low = low; high = high; began = f.began; side = side }
 
-  -- the pipes that it takes from are over
-  abbrev pub HasEnded : Forwarding K → Type 0
-  HasEnded f = IsOver f.low × (is_two f ≡ true → IsOver f.high)
+  -- at least as many end marks were taken of each pipe that it uses as that has producers
+  abbrev pub ForwarderEnded : Forwarding K → Type 0
+  ForwarderEnded f = IsOver f.low × (is_two f ≡ true → IsOver f.high)
 
   -- an end mark is still to come, and the sink can be asked
   abbrev pub AwaitsPush : (K → ℕ) → Forwarding K → Type 0
-  AwaitsPush failed f = (HasEnded f → ⊥) × (failed f.side.sink < 2 ^ 64 - 1)
+  AwaitsPush failed f = (ForwarderEnded f → ⊥) × (failed f.side.sink < 2 ^ 64 - 1)
 
   abbrev pub with_share : Held → Delivery K → Delivery K
   with_share share d = record { config = d.config; sink = d.sink; free = d.free; share = share }
@@ -155,9 +155,9 @@ module _ {K : Type 0} where
     -- one turn
     abbrev pub Forwarded : Turn → Forwarding K → Forwarding K → Type 0
     Forwarded turn old new =
-        (HasEnded old × (turn ≡ Ended) × (new ≡ old))
-        ⊎ ((HasEnded old → ⊥) × (failed old.side.sink ≡ 2 ^ 64 - 1) × (turn ≡ Quiet) × (new ≡ old))
-        ⊎ ((HasEnded old → ⊥) × (failed old.side.sink < 2 ^ 64 - 1) × Forwards turn old new)
+        (ForwarderEnded old × (turn ≡ Ended) × (new ≡ old))
+        ⊎ ((ForwarderEnded old → ⊥) × (failed old.side.sink ≡ 2 ^ 64 - 1) × (turn ≡ Quiet) × (new ≡ old))
+        ⊎ ((ForwarderEnded old → ⊥) × (failed old.side.sink < 2 ^ 64 - 1) × Forwards turn old new)
 
 -- the law of a forwarder
 abbrev pub KeepsForwarding : {K : Type 0} → (K → Option (List Told)) → (K → ℕ) → Band → Band → ℕ → Delivery K → Type 0

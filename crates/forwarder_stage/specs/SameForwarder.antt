@@ -1,10 +1,10 @@
--- What stays the same of a forwarder from its first turn to its last, and what is known at its end.
+-- What stays the same of a forwarder from its first turn to its last.
 use Rattle.std.specs.Prelude.{◌≡◌, ℕ, false}
 use Rattle.std.proofs.Common.{refl, ap, ◌∙◌}
 use Rattle.process_packet.specs.declared.config.Config.{Config}
 use Rattle.router_rules.specs.Links.{has_two_bands}
 use Rattle.stage_parts.specs.Same.{IsSameTaker, taker_self, taker_then}
-use Rattle.forwarder_stage.specs.Forwarding.{Forwarding, HasEnded, is_two}
+use Rattle.forwarder_stage.specs.Forwarding.{Forwarding, is_two}
 
 -- its configuration and link, its ends of its pipes, and how often its sink had failed when it began; of a link with one
 -- band the high band's pipe is as it was
@@ -29,7 +29,3 @@ module _ {K : Type 0} where
     high = taker_then a.high.taker b.high.taker c.high.taker p.high q.high;
     unused = λ e. q.unused (ap (λ (g : Config). has_two_bands g b.link) p.config ∙ ap (λ (l : ℕ). has_two_bands a.side.config l) p.link ∙ e) ∙ p.unused e;
   }
-
--- at least as many end marks were taken of each pipe that it uses as that has producers
-abbrev pub ForwarderEnded : {K : Type 0} → Forwarding K → Type 0
-ForwarderEnded f = HasEnded f

@@ -6,7 +6,7 @@ ghost use Rattle.packet_ledger.specs.Share.{new_share};
 ghost use Rattle.router_laws.specs.Heard.{ToldNothing};
 ghost use Rattle.router_laws.specs.Keeping.{IsForwarding};
 ghost use Rattle.router_rules.specs.Links.{link_count};
-ghost use Rattle.forwarder_stage.specs.Forwarding.{HasEnded, first_delivery, first_forwarding};
+ghost use Rattle.forwarder_stage.specs.Forwarding.{ForwarderEnded, first_delivery, first_forwarding};
 ghost use Rattle.stage_parts.specs.Told.{told_of};
 
 use crate::band::Band;
@@ -115,7 +115,7 @@ impl<N: Router, K: Sink> Forwarder<N, K> {
 
     // Whether each end mark of its pipes was taken.
     fn is_over(&self) -> bool
-        ensures { MatchBool result (HasEnded self.now) (HasEnded self.now → ⊥) }
+        ensures { MatchBool result (ForwarderEnded self.now) (ForwarderEnded self.now → ⊥) }
     {
         if !self.low.is_over() {
             return false;
@@ -128,7 +128,8 @@ impl<N: Router, K: Sink> Forwarder<N, K> {
 }
 
 impl<N: Router, K: Sink> Stage for Forwarder<N, K> {
-    ghost use Rattle.forwarder_stage.specs.SameForwarder.{IsSameForwarder, ForwarderEnded};
+    ghost use Rattle.forwarder_stage.specs.Forwarding.{ForwarderEnded};
+    ghost use Rattle.forwarder_stage.specs.SameForwarder.{IsSameForwarder};
 
     ghost same = { λ a b. IsSameForwarder a b };
 

@@ -1,10 +1,9 @@
 -- The pipes of a router.
-use Rattle.std.specs.Prelude.{◌≡◌, ◌+◌, ◌*◌, ℕ, Bool, List, length}
+use Rattle.std.specs.Prelude.{◌≡◌, ◌+◌, ◌*◌, List, length}
 use Rattle.process_packet.specs.declared.config.Config.{Config}
 use Rattle.ruled_pipe.specs.Consumer.{Taker}
 use Rattle.ruled_pipe.specs.Pipe.{Shape}
-use Rattle.router_rules.specs.Links.{has_two_bands, link_count}
-use Rattle.stage_parts.specs.Outlets.{is_used}
+use Rattle.router_rules.specs.Links.{link_count}
 use Rattle.pipe_ends.specs.Rows.{AreFor}
 
 -- one pipe a processor, the slow path's, and two a link
@@ -20,10 +19,6 @@ pub record IsPiping (c : Config) (p : Piping) : Type 0 where
   pub middle : p.middle.producers ≡ c.processors
   pub outer : AreFor (c.processors + 2) p.outer
   pub links : length p.outer ≡ 2 * link_count c
-
--- the pipes of the links that are used
-abbrev pub are_used : Config → ℕ → Bool
-are_used c = is_used (has_two_bands c)
 
 -- the consumer of this pipe
 abbrev pub IsTakerOf : {T : Type 0} → Shape → Taker T → Type 0

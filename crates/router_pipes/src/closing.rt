@@ -6,7 +6,7 @@ ghost use Rattle.pipeline_laws.specs.Item.{Outgoing};
 ghost use Rattle.pipe_ends.specs.Shutting.{AreOpen, Shutting, closed_at};
 ghost use Rattle.router_rules.specs.Links.{has_two_bands, link_count};
 ghost use Rattle.router_rules.specs.Rules.{kinds};
-ghost use Rattle.stage_parts.specs.Outlets.{is_used};
+ghost use Rattle.stage_parts.specs.Outlets.{are_used};
 ghost use Rattle.router_pipes.specs.Closing.{Closing, ClosesMarks, StayEnds, TriesAt};
 
 use crate::waking::notify_one;
@@ -103,7 +103,7 @@ fn close_both<T: Drop, R: Wait>(
 ) -> Result<(), CloseFault>
     requires there { number < link_count shared.now.config }
     requires count { length shutters.old.items ≡ 2 * link_count shared.now.config }
-    requires used { (j : ℕ) (d : Shutting T) → j < length shutters.old.items → (slice_index_or shutters.old.items j d).used ≡ is_used (has_two_bands shared.now.config) j }
+    requires used { (j : ℕ) (d : Shutting T) → j < length shutters.old.items → (slice_index_or shutters.old.items j d).used ≡ are_used shared.now.config j }
     requires unended { AreOpen shutters.old.items }
     ensures closes { ClosesMarks (has_two_bands shared.now.config number) (2 * number) result shutters.old.items shutters.new.items }
     ensures stay { StayEnds shutters.old.items shutters.new.items }
@@ -128,7 +128,7 @@ impl<N: Router> Controller<N> {
     /// Closes the link with an interface, and wakes its forwarder.
     pub fn close<R: Wait>(&mut self, rt: &R, link: u16) -> Result<(), CloseFault>
         requires count { length self.old.shutters.items ≡ 2 * link_count (arc_value self.old.shared).config }
-        requires used { (j : ℕ) (d : Shutting (Outgoing kinds)) → j < length self.old.shutters.items → (slice_index_or self.old.shutters.items j d).used ≡ is_used (has_two_bands (arc_value self.old.shared).config) j }
+        requires used { (j : ℕ) (d : Shutting (Outgoing kinds)) → j < length self.old.shutters.items → (slice_index_or self.old.shutters.items j d).used ≡ are_used (arc_value self.old.shared).config j }
         requires unended { AreOpen self.old.shutters.items }
         ensures closing { Closing (arc_value self.old.shared).config link result self.old.shutters.items self.new.shutters.items }
         ensures stay { StayEnds self.old.shutters.items self.new.shutters.items }

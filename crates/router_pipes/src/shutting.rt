@@ -3,9 +3,8 @@
 ghost use Rattle.std.specs.Prelude.{◌≡◌, ◌≤◌, ◌<◌, ℕ, List, IfOk, length};
 ghost use Rattle.pipe_ends.specs.Rows.{AreEndsOf, IsBundle};
 ghost use Rattle.pipe_ends.specs.Shutting.{AreNew, AreOpen, AreShutters};
-ghost use Rattle.router_rules.specs.Links.{has_two_bands};
 ghost use Rattle.ruled_pipe.specs.Pipe.{Shape};
-ghost use Rattle.stage_parts.specs.Outlets.{is_used};
+ghost use Rattle.stage_parts.specs.Outlets.{are_used};
 
 use pipe_ends::{Ends, Shutter};
 use router_rules::Shared;
@@ -14,7 +13,7 @@ use std::alloc::{AllocError, Global};
 // Whether the pipe at this place is used: the low band's of a link, or the high band's of one with two.
 fn is_used(shared: &Shared, at: usize) -> bool
     requires { at < 66 }
-    ensures { result ≡ is_used (has_two_bands shared.now.config) at }
+    ensures { result ≡ are_used shared.now.config at }
 {
     if at % 2 == 0 {
         return true;
@@ -30,9 +29,9 @@ pub fn shutters<T: Drop>(
 ) -> Result<Vec<Shutter<T>>, AllocError>
     requires fresh { IsBundle bundle.ends }
     requires few { length bundle.ends ≤ 66 }
-    ensures new { IfOk result (λ s. AreNew (is_used (has_two_bands shared.now.config)) 0 bundle.ends s.items) }
+    ensures new { IfOk result (λ s. AreNew (are_used shared.now.config) 0 bundle.ends s.items) }
     ensures unended { IfOk result (λ s. AreOpen s.items) }
-    ensures ends { IfOk result (λ s. (p : ℕ) (shapes : List Shape) → AreEndsOf p shapes bundle.ends → AreShutters (is_used (has_two_bands shared.now.config)) 0 p shapes s.items) }
+    ensures ends { IfOk result (λ s. (p : ℕ) (shapes : List Shape) → AreEndsOf p shapes bundle.ends → AreShutters (are_used shared.now.config) 0 p shapes s.items) }
 {
     let items = bundle.into_items();
     let mut shutters = Vec::with_capacity(alloc, items.len())?;

@@ -2,16 +2,16 @@
 use Rattle.std.proofs.Common.{◌≡◌, ℕ, ◌+◌, ◌*◌, ◌<◌, List, length, slice_index_or, ◌∙◌, ap, arith}
 use Rattle.process_packet.specs.declared.config.Config.{Config}
 use Rattle.pipeline_laws.specs.Item.{Outgoing}
-use Rattle.router_rules.specs.Links.{has_two_bands, link_count}
+use Rattle.router_rules.specs.Links.{link_count}
 use Rattle.router_rules.specs.Rules.{kinds}
 use Rattle.router_stages.specs.Answering.{Answering}
 use Rattle.router_stages.specs.Forwarding.{Forwarding}
 use Rattle.router_stages.specs.Receiving.{Receiving}
 use Rattle.router_stages.specs.Working.{Working}
-use Rattle.stage_parts.specs.Outlets.{is_used}
+use Rattle.stage_parts.specs.Outlets.{are_used}
 use Rattle.pipe_ends.specs.Shutting.{Shutting}
 use Rattle.router_pipes.specs.Closing.{StayEnds}
-use Rattle.router_pipes.specs.Piping.{Piping, are_used}
+use Rattle.router_pipes.specs.Piping.{Piping}
 use Rattle.router_pipes.proofs.ClosingLemmas.{shutters_long, used_at}
 use Rattle.run_laws.specs.Crew.{IsCrew}
 use Rattle.run_report.specs.Parting.{crew_of}
@@ -20,7 +20,7 @@ module _ {S G K : Type 0} (c : Config) (p : Piping) (rs : List (Receiving S)) (w
   pub controller_long : (hs : List (Shutting (Outgoing kinds))) → IsCrew c p (crew_of rs ws ss fs hs) → length hs ≡ 2 * link_count c
   controller_long hs is = shutters_long (are_used c) 0 (c.processors + 1) p.outer hs is.shutters ∙ is.pipes.links
 
-  pub controller_used : (hs : List (Shutting (Outgoing kinds))) → IsCrew c p (crew_of rs ws ss fs hs) → (j : ℕ) (d : Shutting (Outgoing kinds)) → j < length hs → (slice_index_or hs j d).used ≡ is_used (has_two_bands c) j
+  pub controller_used : (hs : List (Shutting (Outgoing kinds))) → IsCrew c p (crew_of rs ws ss fs hs) → (j : ℕ) (d : Shutting (Outgoing kinds)) → j < length hs → (slice_index_or hs j d).used ≡ are_used c j
   controller_used hs is j d lt = let z : 0 + j ≡ j = omega arith in used_at (are_used c) 0 (c.processors + 1) p.outer hs j d is.shutters lt ∙ ap (are_used c) z
 
   -- a router of which some marks were tried

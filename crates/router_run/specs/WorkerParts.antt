@@ -8,8 +8,9 @@ use Rattle.router_stages.specs.Working.{Working}
 use Rattle.pipe_ends.specs.Rows.{HaveLeft, Row}
 use Rattle.pipe_ends.specs.Shutting.{AreOpen, AreShutters, Shutting}
 use Rattle.router_rules.specs.Links.{link_count}
+use Rattle.stage_parts.specs.Outlets.{are_used}
 use Rattle.wired_workers.specs.Kits.{Entry, Exit, IsAnsweringAt, IsEnteringAt, IsLeavingAt, IsWorkingThere}
-use Rattle.router_pipes.specs.Piping.{IsPiping, Piping, are_used}
+use Rattle.router_pipes.specs.Piping.{IsPiping, Piping}
 use Rattle.router_pipes.specs.Rest.{IsRest}
 
 pub record AreWorkerParts {G : Type 0} (c : Config) (p : Piping) (inner_rooms : List (Row (Arrival kinds))) (outer_rooms : List (Row (Outgoing kinds))) (receivers : List Entry) (processors : List (Working G)) (slow : Answering) (forwarders : List Exit) (shutters : List (Shutting (Outgoing kinds))) : Type 0 where

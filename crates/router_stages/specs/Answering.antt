@@ -10,10 +10,9 @@ use Rattle.ruled_pipe.specs.Consumer.{Taker, looked, took}
 use Rattle.ruled_pipe.specs.Gathered.{ends_in}
 use Rattle.ruled_pipe.specs.Producer.{entry}
 use Rattle.router_laws.specs.Keeping.{IsAnswering}
-use Rattle.router_rules.specs.Links.{has_two_bands}
 use Rattle.router_rules.specs.Rules.{kinds, replied}
 use Rattle.stage_laws.specs.Answers.{answer_to}
-use Rattle.stage_parts.specs.Outlets.{AreOpen, Trying, is_used, senders}
+use Rattle.stage_parts.specs.Outlets.{AreOpen, Trying, are_used, senders}
 use Rattle.router_stages.specs.Exits.{Leaving, DroppedAs, SentAs, with_links, with_share}
 use Rattle.stage_parts.specs.Turn.{ending}
 use Rattle.stage_parts.specs.declared.turn.Turn.{Turn}
@@ -53,7 +52,7 @@ RepliedTo q old new = AfterReply (replied old.config q.arrival.datagram q.proble
 -- it tries the end marks that it owes, and nothing else
 abbrev pub EndsAnswering : Turn → Answering → Answering → Type 0
 EndsAnswering turn old new =
-    (all : Bool) × Trying (is_used (has_two_bands old.side.config)) old.side.links new.side.links all × (turn ≡ ending all)
+    (all : Bool) × Trying (are_used old.side.config) old.side.links new.side.links all × (turn ≡ ending all)
     × (new ≡ with_side (with_links new.side.links old.side) old)
 
 -- before its end, one entry is taken: nothing was there, a mark, or a request, which is answered

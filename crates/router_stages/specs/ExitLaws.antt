@@ -15,7 +15,7 @@ use Rattle.ruled_pipe.specs.Gathered.{ends_in}
 use Rattle.stage_laws.specs.Answers.{answer_to}
 use Rattle.stage_parts.specs.Items.{asking}
 use Rattle.stage_parts.specs.Outlet.{Offering}
-use Rattle.stage_parts.specs.Outlets.{HaveEnded, is_used}
+use Rattle.stage_parts.specs.Outlets.{HaveEnded, are_used}
 use Rattle.router_stages.specs.Answering.{Answering, Answered, AfterReply, TakesRequest}
 use Rattle.router_stages.specs.Answering as answering
 use Rattle.router_stages.specs.Exits.{Leaving, DroppedAs, SentAs, pipe_for, with_links}
@@ -29,25 +29,22 @@ use Rattle.router_stages.specs.SameProcessor.{IsSameProcessor, ProcessorEnded, p
 use Rattle.router_stages.specs.SameSlowPath.{IsSameSlowPath, SlowPathEnded, slow_self}
 use Rattle.stage_parts.proofs.SameLemmas.{ends_as, gave_same, kept_same, mark_same, tried_same, all_there, both_there}
 
-abbrev used : Config → ℕ → Bool
-used c = is_used (has_two_bands c)
-
 -- what leaves goes into a pipe that is used
-used_pipe : (c : Config) (o : Outgoing kinds) → used c (pipe_for c o) ≡ true
+used_pipe : (c : Config) (o : Outgoing kinds) → are_used c (pipe_for c o) ≡ true
 used_pipe c o = go (has_two_bands c o.link) (is_urgent o.parcel.bytes) refl
   where
-    go : (two urgent : Bool) → has_two_bands c o.link ≡ two → used c (2 * o.link + (if two && urgent then 1 else 0)) ≡ true
+    go : (two urgent : Bool) → has_two_bands c o.link ≡ two → are_used c (2 * o.link + (if two && urgent then 1 else 0)) ≡ true
     go true true e = used_high (has_two_bands c) o.link ∙ e
-    go true false e = ap (used c) (let z : 2 * o.link + 0 ≡ 2 * o.link = omega arith in z) ∙ used_low (has_two_bands c) o.link
-    go false urgent e = ap (used c) (let z : 2 * o.link + 0 ≡ 2 * o.link = omega arith in z) ∙ used_low (has_two_bands c) o.link
+    go true false e = ap (are_used c) (let z : 2 * o.link + 0 ≡ 2 * o.link = omega arith in z) ∙ used_low (has_two_bands c) o.link
+    go false urgent e = ap (are_used c) (let z : 2 * o.link + 0 ≡ 2 * o.link = omega arith in z) ∙ used_low (has_two_bands c) o.link
 
 -- the same ends, and nothing else is asked of the buffers' pipes and counts
 record IsSameSide (old new : Leaving) : Type 0 where
   config : new.config ≡ old.config
-  links : AreSameEnds (used old.config) old.links new.links
+  links : AreSameEnds (are_used old.config) old.links new.links
 
 side_self : (s : Leaving) → IsSameSide s s
-side_self s = record { config = refl; links = ends_self (used s.config) s.links }
+side_self s = record { config = refl; links = ends_self (are_used s.config) s.links }
 
 side_as : (old new : Leaving) → new ≡ old → IsSameSide old new
 side_as old new e = subst (λ (s : Leaving). IsSameSide old s) (sym e) (side_self old)
@@ -55,25 +52,25 @@ side_as old new e = subst (λ (s : Leaving). IsSameSide old s) (sym e) (side_sel
 side_then : (a b c : Leaving) → IsSameSide a b → IsSameSide b c → IsSameSide a c
 side_then a b c p q = record {
   config = q.config ∙ p.config;
-  links = ends_then (used a.config) a.links b.links c.links p.links (subst (λ (g : Config). AreSameEnds (used g) b.links c.links) p.config q.links);
+  links = ends_then (are_used a.config) a.links b.links c.links p.links (subst (λ (g : Config). AreSameEnds (are_used g) b.links c.links) p.config q.links);
 }
 
 drop_same : (link : ℕ) (why : Cause) (old new : Leaving) → DroppedAs link why old new → IsSameSide old new
 drop_same link why old new is = record {
   config = ap (λ (s : Leaving). s.config) is.1;
-  links = ends_as (used old.config) old.links new.links (ap (λ (s : Leaving). s.links) is.1);
+  links = ends_as (are_used old.config) old.links new.links (ap (λ (s : Leaving). s.links) is.1);
 }
 
 module _ (id : TableId) where
   sent_same : (o : Outgoing kinds) (old new : Leaving) → SentAs o old new → IsSameSide old new
   sent_same o old new (inl is) = record {
     config = ap (λ (s : Leaving). s.config) is.1;
-    links = gave_same id (used old.config) (pipe_for old.config o) o old.links new.links (used_pipe old.config o) is.0;
+    links = gave_same id (are_used old.config) (pipe_for old.config o) o old.links new.links (used_pipe old.config o) is.0;
   }
   sent_same o old new (inr is) =
       let d = drop_same o.arrived cause.LinkFull (with_links new.links old) new is.1 in record {
         config = d.config;
-        links = kept_same id (used old.config) (pipe_for old.config o) o old.links new.links (used_pipe old.config o) is.0;
+        links = kept_same id (are_used old.config) (pipe_for old.config o) o old.links new.links (used_pipe old.config o) is.0;
       }
 
   asked_same : (q : SlowPathRequest kinds) (old new : Leaving) (slow slow' : Offering (SlowPathRequest kinds)) → AskedAs q old new slow slow' → IsSameSide old new × IsSameEnd slow.sender slow'.sender
@@ -97,7 +94,7 @@ module _ {G : Type 0} where
 
   -- another state of its pipe and hand
   takes_same : (t : Taker (Arrival kinds)) (hand : Option (Arrival kinds)) (w : Working G) → IsSameTaker w.taker t → IsSameProcessor w (with_taker t hand w)
-  takes_same t hand w is = record { config = refl; index = refl; taker = is; slow = end_self w.slow.sender; links = ends_self (used w.side.config) w.side.links }
+  takes_same t hand w is = record { config = refl; index = refl; taker = is; slow = end_self w.slow.sender; links = ends_self (are_used w.side.config) w.side.links }
 
   -- its own ends
   parts_same : (old new : Working G) → new.index ≡ old.index → IsSameTaker old.taker new.taker → IsSameEnd old.slow.sender new.slow.sender → IsSameSide old.side new.side → IsSameProcessor old new
@@ -132,25 +129,25 @@ module _ {G : Type 0} where
       worked_same turn (inr (inl is)) =
           let e = is.2 in let tried = e.1 in let same = e.2 in
           parts_same old new (ap (λ (w : Working G). w.index) same) (subst (λ (t : Taker (Arrival kinds)). IsSameTaker old.taker t) (sym (ap (λ (w : Working G). w.taker) same)) (taker_self old.taker)) (mark_same old.slow new.slow e.0)
-          (record { config = ap (λ (w : Working G). w.side.config) same; links = tried_same (used old.side.config) old.side.links new.side.links tried.1.tried })
+          (record { config = ap (λ (w : Working G). w.side.config) same; links = tried_same (are_used old.side.config) old.side.links new.side.links tried.1.tried })
       worked_same turn (inr (inr is)) = took_same turn old new is.2
 
       pub worked_ended : Worked answers Ended old new → ProcessorEnded new
       worked_ended (inl is) = absurd (works_on is.0 old new is.2)
       worked_ended (inr (inl is)) =
           let e = is.2 in let tried = e.1 in let same = e.2 in
-          let all = both_there new.slow.ended tried.0 (used old.side.config) new.side.links tried.2 tried.1.there in record {
+          let all = both_there new.slow.ended tried.0 (are_used old.side.config) new.side.links tried.2 tried.1.there in record {
             done = ap (λ (w : Working G). ends_in w.taker.taken) same ∙ is.1 ∙ sym (ap (λ (w : Working G). w.taker.producers) same);
             hand = ap (λ (w : Working G). w.hand) same ∙ is.0;
             slow = all.0;
-            links = subst (λ (g : Config). HaveEnded (used g) new.side.links) (sym (ap (λ (w : Working G). w.side.config) same)) all.1;
+            links = subst (λ (g : Config). HaveEnded (are_used g) new.side.links) (sym (ap (λ (w : Working G). w.side.config) same)) all.1;
           }
       worked_ended (inr (inr is)) = absurd (took_on old new is.2)
 
   pub processor_posted : (old new : Working G) → new ≡ working.posted new.side.share old → IsSameProcessor old new
   processor_posted old new e =
       subst (λ (w : Working G). IsSameProcessor old w) (sym e)
-      (record { config = refl; index = refl; taker = taker_self old.taker; slow = end_self old.slow.sender; links = ends_self (used old.side.config) old.side.links })
+      (record { config = refl; index = refl; taker = taker_self old.taker; slow = end_self old.slow.sender; links = ends_self (are_used old.side.config) old.side.links })
 
   pub processor_still : (old new : Working G) → new ≡ working.posted new.side.share old → ProcessorEnded old → ProcessorEnded new
   processor_still old new e is = subst (λ (w : Working G). ProcessorEnded w) (sym e) (record { done = is.done; hand = is.hand; slow = is.slow; links = is.links })
@@ -179,7 +176,7 @@ pub answered_same : (turn : Turn) (old new : Answering) → Answered turn old ne
 answered_same turn old new (inl is) =
     let tried = is.1.1 in let same = is.1.3 in
     slow_parts old new (subst (λ (t : Taker (SlowPathRequest kinds)). IsSameTaker old.taker t) (sym (ap (λ (a : Answering). a.taker) same)) (taker_self old.taker))
-    (record { config = ap (λ (a : Answering). a.side.config) same; links = tried_same (used old.side.config) old.side.links new.side.links tried.tried })
+    (record { config = ap (λ (a : Answering). a.side.config) same; links = tried_same (are_used old.side.config) old.side.links new.side.links tried.tried })
 answered_same turn old new (inr is) = request_same turn old new is.1
 
 pub answered_ended : (old new : Answering) → Answered Ended old new → SlowPathEnded new
@@ -187,13 +184,13 @@ answered_ended old new (inl is) =
     let e = is.1 in let same = e.3 in record {
       done = ap (λ (a : Answering). ends_in a.taker.taken) same ∙ is.0 ∙ sym (ap (λ (a : Answering). a.taker.producers) same);
       links =
-          subst (λ (g : Config). HaveEnded (used g) new.side.links) (sym (ap (λ (a : Answering). a.side.config) same))
-          (all_there e.0 (used old.side.config) new.side.links e.2 e.1.there);
+          subst (λ (g : Config). HaveEnded (are_used g) new.side.links) (sym (ap (λ (a : Answering). a.side.config) same))
+          (all_there e.0 (are_used old.side.config) new.side.links e.2 e.1.there);
     }
 answered_ended old new (inr is) = absurd (request_on old new is.1)
 
 pub slow_posted : (old new : Answering) → new ≡ answering.posted new.side.share old → IsSameSlowPath old new
-slow_posted old new e = subst (λ (a : Answering). IsSameSlowPath old a) (sym e) (record { config = refl; taker = taker_self old.taker; links = ends_self (used old.side.config) old.side.links })
+slow_posted old new e = subst (λ (a : Answering). IsSameSlowPath old a) (sym e) (record { config = refl; taker = taker_self old.taker; links = ends_self (are_used old.side.config) old.side.links })
 
 pub slow_still : (old new : Answering) → new ≡ answering.posted new.side.share old → SlowPathEnded old → SlowPathEnded new
 slow_still old new e is = subst (λ (a : Answering). SlowPathEnded a) (sym e) (record { done = is.done; links = is.links })

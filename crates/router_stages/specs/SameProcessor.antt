@@ -2,8 +2,7 @@
 use Rattle.std.specs.Prelude.{◌≡◌, true, None}
 use Rattle.std.proofs.Common.{refl, subst, ◌∙◌}
 use Rattle.process_packet.specs.declared.config.Config.{Config}
-use Rattle.router_rules.specs.Links.{has_two_bands}
-use Rattle.stage_parts.specs.Outlets.{HaveEnded, is_used}
+use Rattle.stage_parts.specs.Outlets.{HaveEnded, are_used}
 use Rattle.stage_parts.specs.Same.{AreSameEnds, IsSameEnd, IsSameTaker, end_self, end_then, ends_self, ends_then, taker_self, taker_then}
 use Rattle.router_stages.specs.Working.{Working, IsDone}
 
@@ -14,11 +13,11 @@ pub record IsSameProcessor {G : Type 0} (old new : Working G) : Type 0 where
   pub index : new.index ≡ old.index
   pub taker : IsSameTaker old.taker new.taker
   pub slow : IsSameEnd old.slow.sender new.slow.sender
-  pub links : AreSameEnds (is_used (has_two_bands old.side.config)) old.side.links new.side.links
+  pub links : AreSameEnds (are_used old.side.config) old.side.links new.side.links
 
 module _ {G : Type 0} where
   pub processor_self : (w : Working G) → IsSameProcessor w w
-  processor_self w = record { config = refl; index = refl; taker = taker_self w.taker; slow = end_self w.slow.sender; links = ends_self (is_used (has_two_bands w.side.config)) w.side.links }
+  processor_self w = record { config = refl; index = refl; taker = taker_self w.taker; slow = end_self w.slow.sender; links = ends_self (are_used w.side.config) w.side.links }
 
   pub processor_then : (a b c : Working G) → IsSameProcessor a b → IsSameProcessor b c → IsSameProcessor a c
   processor_then a b c p q = record {
@@ -26,7 +25,7 @@ module _ {G : Type 0} where
     index = q.index ∙ p.index;
     taker = taker_then a.taker b.taker c.taker p.taker q.taker;
     slow = end_then a.slow.sender b.slow.sender c.slow.sender p.slow q.slow;
-    links = ends_then (is_used (has_two_bands a.side.config)) a.side.links b.side.links c.side.links p.links (subst (λ (g : Config). AreSameEnds (is_used (has_two_bands g)) b.side.links c.side.links) p.config q.links);
+    links = ends_then (are_used a.side.config) a.side.links b.side.links c.side.links p.links (subst (λ (g : Config). AreSameEnds (are_used g) b.side.links c.side.links) p.config q.links);
   }
 
 -- each end mark of its pipe was taken, nothing is in its hand, and all its own are there
@@ -34,4 +33,4 @@ pub record ProcessorEnded {G : Type 0} (w : Working G) : Type 0 where
   pub done : IsDone w
   pub hand : w.hand ≡ None
   pub slow : w.slow.ended ≡ true
-  pub links : HaveEnded (is_used (has_two_bands w.side.config)) w.side.links
+  pub links : HaveEnded (are_used w.side.config) w.side.links

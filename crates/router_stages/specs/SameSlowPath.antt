@@ -2,8 +2,7 @@
 use Rattle.std.specs.Prelude.{◌≡◌}
 use Rattle.std.proofs.Common.{refl, subst, ◌∙◌}
 use Rattle.process_packet.specs.declared.config.Config.{Config}
-use Rattle.router_rules.specs.Links.{has_two_bands}
-use Rattle.stage_parts.specs.Outlets.{HaveEnded, is_used}
+use Rattle.stage_parts.specs.Outlets.{HaveEnded, are_used}
 use Rattle.stage_parts.specs.Same.{AreSameEnds, IsSameTaker, ends_self, ends_then, taker_self, taker_then}
 use Rattle.router_stages.specs.Answering.{Answering, IsDone}
 
@@ -12,18 +11,18 @@ use Rattle.router_stages.specs.Answering.{Answering, IsDone}
 pub record IsSameSlowPath (old new : Answering) : Type 0 where
   pub config : new.side.config ≡ old.side.config
   pub taker : IsSameTaker old.taker new.taker
-  pub links : AreSameEnds (is_used (has_two_bands old.side.config)) old.side.links new.side.links
+  pub links : AreSameEnds (are_used old.side.config) old.side.links new.side.links
 
 pub slow_self : (a : Answering) → IsSameSlowPath a a
-slow_self a = record { config = refl; taker = taker_self a.taker; links = ends_self (is_used (has_two_bands a.side.config)) a.side.links }
+slow_self a = record { config = refl; taker = taker_self a.taker; links = ends_self (are_used a.side.config) a.side.links }
 
 pub slow_then : (a b c : Answering) → IsSameSlowPath a b → IsSameSlowPath b c → IsSameSlowPath a c
 slow_then a b c p q = record {
   config = q.config ∙ p.config;
   taker = taker_then a.taker b.taker c.taker p.taker q.taker;
-  links = ends_then (is_used (has_two_bands a.side.config)) a.side.links b.side.links c.side.links p.links (subst (λ (g : Config). AreSameEnds (is_used (has_two_bands g)) b.side.links c.side.links) p.config q.links);
+  links = ends_then (are_used a.side.config) a.side.links b.side.links c.side.links p.links (subst (λ (g : Config). AreSameEnds (are_used g) b.side.links c.side.links) p.config q.links);
 }
 
 pub record SlowPathEnded (a : Answering) : Type 0 where
   pub done : IsDone a
-  pub links : HaveEnded (is_used (has_two_bands a.side.config)) a.side.links
+  pub links : HaveEnded (are_used a.side.config) a.side.links

@@ -12,13 +12,12 @@ use Rattle.ruled_pipe.specs.Consumer.{Taker, looked, took}
 use Rattle.ruled_pipe.specs.Gathered.{ends_in}
 use Rattle.ruled_pipe.specs.Producer.{Sender, entry}
 use Rattle.router_laws.specs.Keeping.{IsWorking}
-use Rattle.router_rules.specs.Links.{has_two_bands}
 use Rattle.router_rules.specs.Rules.{decided, kinds}
 use Rattle.router_rules.specs.declared.worker.Worker.{Worker}
 use Rattle.router_rules.specs.declared.worker.Worker.TheVariants as worker
 use Rattle.stage_parts.specs.Items.{asking}
 use Rattle.stage_parts.specs.Outlet.{Offering, Tried, gave, kept}
-use Rattle.stage_parts.specs.Outlets.{AreOpen, Trying, is_used, senders}
+use Rattle.stage_parts.specs.Outlets.{AreOpen, Trying, are_used, senders}
 use Rattle.router_stages.specs.Exits.{Leaving, DroppedAs, SentAs, with_links, with_share}
 use Rattle.stage_parts.specs.Turn.{ending}
 use Rattle.stage_parts.specs.declared.turn.Turn.{Turn}
@@ -79,7 +78,7 @@ module _ {G : Type 0} where
   abbrev pub EndsWorking : Turn → Working G → Working G → Type 0
   EndsWorking turn old new =
       Tried old.slow new.slow
-      × ((all : Bool) × Trying (is_used (has_two_bands old.side.config)) old.side.links new.side.links all × (turn ≡ ending (new.slow.ended && all)))
+      × ((all : Bool) × Trying (are_used old.side.config) old.side.links new.side.links all × (turn ≡ ending (new.slow.ended && all)))
       × (new ≡ with_ends new.slow (with_links new.side.links old.side) old)
 
   module _ (answers : G → Worker → ℕ → ℕ → Bool → Type 0) where

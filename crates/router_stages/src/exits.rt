@@ -2,9 +2,9 @@
 
 ghost use Rattle.std.specs.Prelude.{◌≡◌, false, ◌+◌, ◌*◌, ◌<◌, MatchBool, length, ◌&&◌};
 ghost use Rattle.packet_ledger.specs.Share.{HasRoom, IsPosted, MayRaise};
-ghost use Rattle.router_rules.specs.Links.{has_two_bands, link_count};
+ghost use Rattle.router_rules.specs.Links.{link_count};
 ghost use Rattle.router_stages.specs.Exits.{DroppedAs, SentAs, TriedLink, pipe_for, with_links, with_share};
-ghost use Rattle.stage_parts.specs.Outlets.{AreOpen, Trying, is_used};
+ghost use Rattle.stage_parts.specs.Outlets.{AreOpen, Trying, are_used};
 ghost use Rattle.router_stages.specs.Working.{AskedAs, PassedOn};
 ghost use Rattle.stage_parts.specs.Items.{StandsIn};
 
@@ -167,7 +167,7 @@ impl<N: Router> Exits<N> {
     /// Tries the end marks that are owed, of the high band's pipe of each link first, and says whether
     /// all are there.
     pub fn end<R: Wait>(&mut self, rt: &R) -> bool
-        ensures tried { Trying (is_used (has_two_bands self.old.config)) self.old.links self.new.links result }
+        ensures tried { Trying (are_used self.old.config) self.old.links self.new.links result }
         ensures same { self.new ≡ with_links self.new.links self.old }
     {
         end_links(rt, &self.shared, &mut self.links)
@@ -201,7 +201,7 @@ fn end_link<T: Drop, R: Wait>(
 // Tries the end marks that are owed of all links' pipes, and says whether they are there.
 fn end_links<T: Drop, R: Wait>(rt: &R, shared: &Shared, ends: &mut Vec<Outlet<T>>) -> bool
     requires { length ends.old.items ≡ 2 * link_count shared.now.config }
-    ensures { Trying (is_used (has_two_bands shared.now.config)) ends.old.items ends.new.items result }
+    ensures { Trying (are_used shared.now.config) ends.old.items ends.new.items result }
 {
     let mut all = true;
     for link in 0..shared.ports.count() {

@@ -21,7 +21,7 @@ use Rattle.router_stages.specs.Forwarding.{Forwarding}
 use Rattle.router_stages.specs.Receiving.{Receiving}
 use Rattle.router_stages.specs.Working.{Working}
 use Rattle.stage_parts.specs.Outlet.{Offering}
-use Rattle.stage_parts.specs.Outlets.{senders}
+use Rattle.stage_parts.specs.Outlets.{are_used, senders}
 use Rattle.stage_parts.specs.Told.{Told, told_of}
 use Rattle.router_pipes.specs.Handing.{NeverClosed}
 use Rattle.pipe_ends.specs.Settled.{ReadsColumns}
@@ -32,7 +32,7 @@ use Rattle.router_stages.specs.SameProcessor.{IsSameProcessor, ProcessorEnded}
 use Rattle.router_stages.specs.SameSlowPath.{IsSameSlowPath, SlowPathEnded}
 use Rattle.run_laws.specs.Crew.{AreAnswering, AreForwarding, AreWorking, Crew, IsCrew, IsReceivingAt}
 use Rattle.wired_workers.specs.Kits.{IsAnsweringAt, IsWorkingAt}
-use Rattle.router_pipes.specs.Piping.{Piping, are_used}
+use Rattle.router_pipes.specs.Piping.{Piping}
 use Rattle.run_laws.specs.Ended.{IsBack, inner_rows, inner_takers, middle_row, outer_rows, takers_of}
 use Rattle.run_laws.specs.Came.{CrewsReturn, HasKept, HasSettled, back_of, forwarder_back, processor_back, receiver_back}
 use Rattle.router_pipes.proofs.ClosingLemmas.{shutters_long}

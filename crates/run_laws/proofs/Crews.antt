@@ -11,14 +11,14 @@ use Rattle.router_rules.specs.Rules.{kinds}
 use Rattle.router_stages.specs.Answering.{Answering}
 use Rattle.router_stages.specs.Receiving.{Receiving}
 use Rattle.router_stages.specs.Working.{Working}
-use Rattle.stage_parts.specs.Outlets.{senders}
+use Rattle.stage_parts.specs.Outlets.{are_used, senders}
 use Rattle.router_pipes.specs.Handing.{Finishes}
 use Rattle.pipe_ends.specs.Rows.{Row, rows_of}
 use Rattle.pipe_ends.specs.Settled.{AreBundles, AreTaken, HasTaken, HaveEnded, IsEnded}
 use Rattle.pipe_ends.specs.Shutting.{ShuttersFinish, shutter_ends}
 use Rattle.stage_parts.specs.Back.{AreBack}
 use Rattle.run_laws.specs.Crew.{AreAnswering, Crew, IsCrew}
-use Rattle.router_pipes.specs.Piping.{Piping, are_used}
+use Rattle.router_pipes.specs.Piping.{Piping}
 use Rattle.run_laws.specs.Ended.{CrewsEnd, HasMarked, IsBack, inner_rows, inner_takers, middle_row, middle_takers, outer_rows, takers_of}
 use Rattle.run_laws.proofs.Rows.{A, P, R, back_long, inner_bundles, inner_taken, last_bundles, middle_ends, outer_bundles, outer_taken, slow_taken, working_long}
 

@@ -11,11 +11,11 @@ use Rattle.router_rules.specs.Links.{has_two_bands}
 use Rattle.router_rules.specs.Rules.{kinds}
 use Rattle.router_laws.specs.Returned.{AllAt}
 use Rattle.router_stages.specs.Answering.{Answering}
-use Rattle.router_stages.specs.Forwarding.{Forwarding}
+use Rattle.router_stages.specs.Forwarding.{Forwarding, ForwarderEnded}
 use Rattle.router_stages.specs.Receiving.{Receiving}
 use Rattle.router_stages.specs.Working.{Working}
 use Rattle.stage_parts.specs.Outlet.{IsMarked}
-use Rattle.stage_parts.specs.Outlets.{senders}
+use Rattle.stage_parts.specs.Outlets.{are_used, senders}
 use Rattle.stage_parts.specs.Outlets as outlets
 use Rattle.router_pipes.specs.Handing.{AreMarked, AreSpared, Finishes}
 use Rattle.pipe_ends.specs.Rows.{AreFor, Row, rows_of}
@@ -26,9 +26,9 @@ use Rattle.stage_parts.specs.Same.{AreSameEnds, IsSameTaker}
 use Rattle.router_stages.specs.SameReceiver.{IsSameReceiver, ReceiverEnded}
 use Rattle.router_stages.specs.SameProcessor.{IsSameProcessor, ProcessorEnded}
 use Rattle.router_stages.specs.SameSlowPath.{IsSameSlowPath, SlowPathEnded}
-use Rattle.router_stages.specs.SameForwarder.{IsSameForwarder, ForwarderEnded}
+use Rattle.router_stages.specs.SameForwarder.{IsSameForwarder}
 use Rattle.run_laws.specs.Crew.{IsReceivingAt, AreWorking, AreAnswering, IsForwardingAt, AreForwarding}
-use Rattle.router_pipes.specs.Piping.{Piping, IsTakerOf, are_used}
+use Rattle.router_pipes.specs.Piping.{Piping, IsTakerOf}
 use Rattle.wired_workers.specs.Kits.{IsWorkingAt, IsAnsweringAt}
 use Rattle.run_laws.specs.Ended.{takers_of}
 use Rattle.run_laws.proofs.Ends.{same_ends, spared}

@@ -1,5 +1,5 @@
 -- The workers of a router, as they begin.
-use Rattle.std.specs.Prelude.{◌≡◌, ◌+◌, ◌*◌, ℕ, List, [], ◌∷◌, length}
+use Rattle.std.specs.Prelude.{◌≡◌, ◌+◌, ℕ, List, [], ◌∷◌, length}
 use Rattle.pipeline_laws.specs.Item.{Outgoing}
 use Rattle.process_packet.specs.declared.config.Config.{Config}
 use Rattle.ruled_pipe.specs.Pipe.{Shape}
@@ -10,11 +10,11 @@ use Rattle.router_stages.specs.Answering.{Answering}
 use Rattle.router_stages.specs.Forwarding.{Forwarding}
 use Rattle.router_stages.specs.Receiving.{Receiving}
 use Rattle.router_stages.specs.Working.{Working}
-use Rattle.stage_parts.specs.Outlets.{senders}
+use Rattle.stage_parts.specs.Outlets.{are_used, senders}
 use Rattle.pipe_ends.specs.Rows.{AreEndsOf}
 use Rattle.pipe_ends.specs.Shutting.{AreOpen, AreShutters, Shutting}
 use Rattle.wired_workers.specs.Kits.{IsAnsweringAt, IsWorkingAt}
-use Rattle.router_pipes.specs.Piping.{IsPiping, IsTakerOf, Piping, are_used}
+use Rattle.router_pipes.specs.Piping.{IsPiping, IsTakerOf, Piping}
 
 -- the workers, and the controller's ends
 pub record Crew (S G K : Type 0) : Type 0 where

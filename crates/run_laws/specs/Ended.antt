@@ -8,7 +8,7 @@ use Rattle.ruled_pipe.specs.Producer.{Sender}
 use Rattle.ruled_pipe.specs.Consumer.{Taker}
 use Rattle.router_rules.specs.Rules.{kinds}
 use Rattle.router_stages.specs.Answering.{Answering}
-use Rattle.router_stages.specs.Forwarding.{Forwarding}
+use Rattle.router_stages.specs.Forwarding.{Forwarding, ForwarderEnded}
 use Rattle.router_stages.specs.Receiving.{Receiving}
 use Rattle.router_stages.specs.Working.{Working}
 use Rattle.stage_parts.specs.Outlets.{senders}
@@ -21,7 +21,7 @@ use Rattle.stage_parts.specs.Back.{AreBack}
 use Rattle.router_stages.specs.SameReceiver.{IsSameReceiver, ReceiverEnded}
 use Rattle.router_stages.specs.SameProcessor.{IsSameProcessor, ProcessorEnded}
 use Rattle.router_stages.specs.SameSlowPath.{IsSameSlowPath, SlowPathEnded}
-use Rattle.router_stages.specs.SameForwarder.{IsSameForwarder, ForwarderEnded}
+use Rattle.router_stages.specs.SameForwarder.{IsSameForwarder}
 use Rattle.run_laws.specs.Crew.{Crew, IsCrew}
 use Rattle.router_pipes.specs.Piping.{Piping}
 

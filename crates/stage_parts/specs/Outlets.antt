@@ -1,6 +1,8 @@
 -- A worker's ends of many pipes.
 use Rattle.std.specs.Prelude.{◌≡◌, ℕ, zero, suc, Bool, true, false, MatchBool, List, [], ◌∷◌, map, length, Some, slice_get, slice_index_or, slice_set}
+use Rattle.process_packet.specs.declared.config.Config.{Config}
 use Rattle.ruled_pipe.specs.Producer.{Sender}
+use Rattle.router_rules.specs.Links.{has_two_bands}
 use Rattle.stage_parts.specs.Outlet.{Offering, Tried, gave, kept}
 
 module _ {T : Type 0} where
@@ -52,3 +54,7 @@ abbrev pub is_used : (ℕ → Bool) → ℕ → Bool
 is_used two zero = true
 is_used two (suc zero) = two zero
 is_used two (suc (suc j)) = is_used (λ l. two (suc l)) j
+
+-- in a router with this configuration
+abbrev pub are_used : Config → ℕ → Bool
+are_used c = is_used (has_two_bands c)

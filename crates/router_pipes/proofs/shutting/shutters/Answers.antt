@@ -1,8 +1,7 @@
 use Rattle.std.proofs.Common.{◌≡◌, List, [], ◌∷◌, ◌++◌, length, refl, sym, ap, subst, ◌∙◌, append_assoc, append-nil, arith, length-append}
 use Rattle.std.specs.Vec.Iter.{into_iter_items}
-use Rattle.router_rules.specs.Links.{has_two_bands}
 use Rattle.ruled_pipe.specs.Producer.{Sender}
-use Rattle.stage_parts.specs.Outlets.{is_used}
+use Rattle.stage_parts.specs.Outlets.{are_used}
 use Rattle.pipe_ends.specs.Shutting.{AreNew, Shutting}
 use Rattle.router_pipes.proofs.HandingLemmas.{all_taken, fresh_one}
 use Rattle.pipe_ends.proofs.RowLemmas.{nothing_left}
@@ -13,7 +12,7 @@ pub is_used-used-requires : goal.is_used-used-requires
 is_used-used-requires g c =
     let at = c.loop-end in
     let split = ap (λ l. at.yielded ++ l) (sym c.in-Some.ensures.steps.0) ∙ at.invariant.2 ∙ at.invariant.4 in
-    let long = new_long (is_used (has_two_bands c.args.shared.now.config)) 0 at.yielded at.shutters.items at.invariant.0 in
+    let long = new_long (are_used c.args.shared.now.config) 0 at.yielded at.shutters.items at.invariant.0 in
     let all = ap length split in
     let n = length-append at.yielded (c.in-Some.end ∷ into_iter_items c.next.new.self) in
     let few = c.requires.few in
@@ -31,7 +30,7 @@ pub push_reserved-requires : goal.push_reserved-requires
 push_reserved-requires g c =
     let at = c.loop-end in
     let split = ap (λ l. at.yielded ++ l) (sym c.in-Some.ensures.steps.0) ∙ at.invariant.2 in
-    let long = new_long (is_used (has_two_bands c.args.shared.now.config)) 0 at.yielded at.shutters.items at.invariant.0 in
+    let long = new_long (are_used c.args.shared.now.config) 0 at.yielded at.shutters.items at.invariant.0 in
     let all = ap length split in
     let n = length-append at.yielded (c.in-Some.end ∷ into_iter_items c.next.new.self) in
     let cap = at.invariant.1 in
@@ -43,7 +42,7 @@ loop-end-preserved g c =
     let at = c.loop-end in
     let x = c.in-Some.end in
     let steps = c.in-Some.ensures.steps.0 in
-    let uses = is_used (has_two_bands c.args.shared.now.config) in
+    let uses = are_used c.args.shared.now.config in
     let ok = at.shutters.ok in
     let P : List (Shutting g.row.T.Denot) → Type 0 = λ l. AreNew uses 0 (at.yielded ++ x ∷ []) l in
     let here : c.len-in-loop-end.result ≡ length at.shutters.items = let e = c.len-in-loop-end.ensures in omega arith in
@@ -58,12 +57,12 @@ loop-end-preserved g c =
 pub returns-clause-unended : goal.returns-clause-unended
 returns-clause-unended g c =
     let at = c.loop-end in
-    new_open (is_used (has_two_bands c.args.shared.now.config)) 0 at.yielded at.shutters.items at.invariant.0
+    new_open (are_used c.args.shared.now.config) 0 at.yielded at.shutters.items at.invariant.0
 
 pub returns-clause-ends : goal.returns-clause-ends
 returns-clause-ends g c =
     let at = c.loop-end in
-    let uses = is_used (has_two_bands c.args.shared.now.config) in
+    let uses = are_used c.args.shared.now.config in
     let none = c.in-None.ensures.steps in
     let empty : into_iter_items at.end-iterator ≡ [] = nothing_left _ (sym at.invariant.3 ∙ none.0) in
     let all = sym (append-nil at.yielded) ∙ rw empty at at.invariant.2 ∙ at.invariant.4 in
@@ -73,7 +72,7 @@ returns-clause-ends g c =
 pub loop-end-init : goal.loop-end-init
 loop-end-init g c =
     let it = c.into_iter-end-iterator in (
-      new_none (is_used (has_two_bands c.args.shared.now.config)) c.in_ok-shutters.shutters.items c.in_ok-shutters.ensures.items,
+      new_none (are_used c.args.shared.now.config) c.in_ok-shutters.shutters.items c.in_ok-shutters.ensures.items,
       (let l = c.len.ensures in let r = c.in_ok-shutters.ensures.capacity in let o = c.into_items-items.result.ok in let n = ap length it.ensures.into_iter_gives.0 in omega arith),
       refl {a = it.result.rest.items},
       it.result.rest.ok.0,
@@ -84,4 +83,4 @@ pub returns-clause-new : goal.returns-clause-new
 returns-clause-new g c =
     let at = c.loop-end in
     let all = all_taken at.yielded at.end-iterator.rest.items c.into_iter-end-iterator.result.rest.items c.args.bundle.ends at.end-iterator.rest.len at.invariant.2 at.invariant.3 c.in-None.ensures.steps.0 at.invariant.4 in
-    subst (λ (l : List (Sender g.row.T.Denot)). AreNew (is_used (has_two_bands c.args.shared.now.config)) 0 l at.shutters.items) all at.invariant.0
+    subst (λ (l : List (Sender g.row.T.Denot)). AreNew (are_used c.args.shared.now.config) 0 l at.shutters.items) all at.invariant.0

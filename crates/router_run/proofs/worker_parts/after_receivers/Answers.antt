@@ -4,9 +4,9 @@ use Rattle.pipe_ends.specs.Rows.{fresh_ends}
 use Rattle.pipe_ends.specs.Shutting.{AreShutters}
 use Rattle.router_rules.specs.Links.{link_count}
 use Rattle.router_rules.specs.declared.shared.Shared.{Shared}
+use Rattle.stage_parts.specs.Outlets.{are_used}
 use Rattle.router_pipes.specs.Dealing.{IsBundleOf}
 use Rattle.wired_workers.specs.Kits.{IsLeavingAt}
-use Rattle.router_pipes.specs.Piping.{are_used}
 use Rattle.router_pipes.specs.Rest.{IsRest}
 use Rattle.wired_workers.proofs.Making.{bundle_long, ends_of}
 use Rattle.router_pipes.proofs.OkLemmas.{of_ok}

@@ -1,8 +1,8 @@
 use Rattle.std.proofs.Common.{◌≡◌, ◌*◌, ◌≤◌, refl, sym, ◌∙◌, ap, arith}
 use Rattle.std.specs.Arc.{arc_value}
-use Rattle.router_rules.specs.Links.{has_two_bands, link_count, link_index}
+use Rattle.router_rules.specs.Links.{link_count, link_index}
 use Rattle.router_rules.specs.declared.shared.Shared.{Shared}
-use Rattle.stage_parts.specs.Outlets.{is_used}
+use Rattle.stage_parts.specs.Outlets.{are_used}
 use Rattle.router_pipes.proofs.ClosingLemmas.{no_link}
 use Rattle.router_pipes.proofs.closing.Controller.close.Goals as goal
 
@@ -22,4 +22,4 @@ close_both-closed-requires-clause-count g c = c.requires.count ∙ ap (λ (s : S
 
 pub close_both-closed-requires-clause-used : goal.close_both-closed-requires-clause-used
 close_both-closed-requires-clause-used g c =
-    λ j d lt. c.requires.used j d lt ∙ ap (λ (s : Shared). is_used (has_two_bands s.config) j) (sym c.deref-3.ensures)
+    λ j d lt. c.requires.used j d lt ∙ ap (λ (s : Shared). are_used s.config j) (sym c.deref-3.ensures)
