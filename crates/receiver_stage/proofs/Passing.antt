@@ -1,5 +1,5 @@
 -- What a receiver does with a datagram, by what becomes of it.
-use Rattle.std.proofs.Common.{◌≡◌, ℕ, ◌+◌, ◌≤◌, ◌^◌, true, false, List, take, Some, None, refl, sym, ap, subst, ◌∙◌}
+use Rattle.std.proofs.Common.{◌≡◌, ℕ, ◌+◌, ◌≤◌, ◌^◌, List, take, Some, None, refl, sym, ap, subst, ◌∙◌}
 use Rattle.packet_ledger.specs.Share.{Held, MayRaise, counting, with_fate, with_received}
 use Rattle.pipeline_laws.specs.Item.{Arrival}
 use Rattle.pipeline_laws.specs.Deeds.{Accepted, Refused, Lacked, Counted}

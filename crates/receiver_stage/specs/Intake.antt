@@ -1,5 +1,5 @@
 -- What a receiver does with one datagram.
-use Rattle.std.specs.Prelude.{◌≡◌, ℕ, true, false, List, Some, None}
+use Rattle.std.specs.Prelude.{◌≡◌, ℕ, false, List, Some, None}
 use Rattle.flow_key.specs.Flow.{flow_at}
 use Rattle.flow_key.specs.Hash.{processor_of}
 use Rattle.packet_ledger.specs.Share.{Held}

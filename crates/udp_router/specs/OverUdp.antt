@@ -1,5 +1,5 @@
 -- A router that runs over its sockets, as the one who runs it sees it.
-use Rattle.std.specs.Prelude.{◌≡◌, ⊤, ℕ, List, None, Result, Ok, Err}
+use Rattle.std.specs.Prelude.{⊤, ℕ, List, None, Result, Ok, Err}
 use Rattle.router_lines.specs.declared.closing.Closing.{Closing}
 use Rattle.router_lines.specs.declared.closing.Closing.TheVariants as closing
 use Rattle.router_pipes.specs.Closing.{Closing as Marking}

@@ -1,5 +1,4 @@
-use Rattle.std.proofs.Common.{◌≡◌, ℕ, ◌++◌, rules, arith, ap, ◌∙◌, refl}
-use Rattle.std.specs.List.{flat_map, range_with_len}
+use Rattle.std.proofs.Common.{◌≡◌, ◌++◌, rules, refl}
 use Rattle.router_lines.specs.RunReport.{sent_line}
 use Rattle.router_lines.proofs.ReportLemmas.{one_more_line}
 use Rattle.router_lines.proofs.run_report.push_all_sent.Goals as goal

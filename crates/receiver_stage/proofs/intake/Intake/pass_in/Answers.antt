@@ -1,4 +1,4 @@
-use Rattle.std.proofs.Common.{◌≡◌, ◌<◌, ◌∙◌, ℕ, List, Some, None, length, take, sym, ap, subst, arith, true, false}
+use Rattle.std.proofs.Common.{◌≡◌, ◌<◌, ◌∙◌, ℕ, List, Some, None, length, take, sym, ap, subst, arith, false}
 use Rattle.std.specs.Arc.{arc_value}
 use Rattle.flow_key.specs.Flow.{flow_at}
 use Rattle.flow_key.specs.Hash.{processor_of}

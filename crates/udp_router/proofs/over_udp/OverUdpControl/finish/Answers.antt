@@ -1,6 +1,5 @@
 use Rattle.std.proofs.Common.{None, subst}
 use Rattle.router_run.specs.Run.{HasRun}
-use Rattle.udp_devices.specs.Devices.{Sending}
 use Rattle.udp_router.specs.OverUdp.{Router}
 use Rattle.udp_router.proofs.over_udp.OverUdpControl.finish.Goals as goal
 
