@@ -1,5 +1,6 @@
 -- Workers made of what stood ready are a crew.
 use Rattle.std.proofs.Common.{◌≡◌, ℕ, suc, ◌+◌, ◌*◌, List, [], ◌∷◌, map, length, Some, Result, Ok, Err, MatchResult, slice_get, refl, sym, ◌∙◌, ap, subst, arith}
+use Rattle.std.proofs.lemmas.List.{map-id}
 use Rattle.process_packet.specs.declared.config.Config.{Config}
 use Rattle.pipeline_laws.specs.Item.{Arrival, Outgoing}
 use Rattle.ruled_pipe.specs.Pipe.{Shape}
@@ -14,7 +15,7 @@ use Rattle.pipe_ends.specs.Rows.{Row}
 use Rattle.pipe_ends.specs.Shutting.{Shutting}
 use Rattle.run_laws.specs.Crew.{AreForwarding, AreWorking, IsCrew, IsReceivingAt}
 use Rattle.router_pipes.specs.Piping.{IsTakerOf, Piping}
-use Rattle.wired_workers.specs.Kits.{Entry, Exit, forwardings, IsEnteringAt, IsLeavingAt, IsWorkingAt, IsWorkingThere, receivings}
+use Rattle.wired_workers.specs.Kits.{Entry, Exit, IsEnteringAt, IsLeavingAt, IsWorkingAt, IsWorkingThere, forwarding_over, forwardings, paired, receiving_over, receivings}
 use Rattle.router_run.specs.WorkerParts.{AreWorkerParts}
 use Rattle.router_run.specs.Run.{Run}
 use Rattle.run_report.specs.Parting.{crew_of}
@@ -42,36 +43,20 @@ module _ {S : Type 0} (c : Config) (p : Piping) where
   receivings_at n (e ∷ es) [] all same = absurd (omega arith)
   receivings_at n (e ∷ es) (s ∷ ss) all same = ((receiving_at n e s all.0).0, receivings_at (n + 1) es ss all.1 (omega arith))
 
-module _ {S : Type 0} where
-  pub receivings_long : (es : List Entry) (ss : List S) → length ss ≡ length es → length (receivings es ss) ≡ length es
-  receivings_long [] ss same = refl
-  receivings_long (e ∷ es) [] same = absurd (omega arith)
-  receivings_long (e ∷ es) (s ∷ ss) same = let r = receivings_long es ss (omega arith) in omega arith
+module _ {X Y Z : Type 0} (make : X → Y → Z) where
+  pub paired_long : (xs : List X) (ys : List Y) → length ys ≡ length xs → length (paired make xs ys) ≡ length xs
+  paired_long [] ys same = refl
+  paired_long (x ∷ xs) [] same = absurd (omega arith)
+  paired_long (x ∷ xs) (y ∷ ys) same = let r = paired_long xs ys (omega arith) in omega arith
 
-  pub receivings_sources : (es : List Entry) (ss : List S) → length ss ≡ length es → map (λ (r : Receiving S). r.source) (receivings es ss) ≡ ss
-  receivings_sources [] [] same = refl
-  receivings_sources [] (s ∷ ss) same = absurd (omega arith)
-  receivings_sources (e ∷ es) [] same = absurd (omega arith)
-  receivings_sources (e ∷ es) (s ∷ ss) same = ap (λ (xs : List S). s ∷ xs) (receivings_sources es ss (omega arith))
+  -- what each has of its own of the second list
+  paired_has : {V : Type 0} (f : Z → V) (g : Y → V) → ((x : X) (y : Y) → f (make x y) ≡ g y) → (xs : List X) (ys : List Y) → length ys ≡ length xs → map f (paired make xs ys) ≡ map g ys
+  paired_has f g each [] [] same = refl
+  paired_has f g each [] (y ∷ ys) same = absurd (omega arith)
+  paired_has f g each (x ∷ xs) [] same = absurd (omega arith)
+  paired_has {V = V} f g each (x ∷ xs) (y ∷ ys) same = ap (λ (v : V). v ∷ map f (paired make xs ys)) (each x y) ∙ ap (λ (vs : List V). g y ∷ vs) (paired_has f g each xs ys (omega arith))
 
 module _ {K : Type 0} (failed : K → ℕ) where
-  pub forwardings_long : (es : List Exit) (ks : List K) → length ks ≡ length es → length (forwardings failed es ks) ≡ length es
-  forwardings_long [] ks same = refl
-  forwardings_long (e ∷ es) [] same = absurd (omega arith)
-  forwardings_long (e ∷ es) (k ∷ ks) same = let r = forwardings_long es ks (omega arith) in omega arith
-
-  pub forwardings_sinks : (es : List Exit) (ks : List K) → length ks ≡ length es → map (λ (f : Forwarding K). f.side.sink) (forwardings failed es ks) ≡ ks
-  forwardings_sinks [] [] same = refl
-  forwardings_sinks [] (k ∷ ks) same = absurd (omega arith)
-  forwardings_sinks (e ∷ es) [] same = absurd (omega arith)
-  forwardings_sinks (e ∷ es) (k ∷ ks) same = ap (λ (xs : List K). k ∷ xs) (forwardings_sinks es ks (omega arith))
-
-  pub forwardings_began : (es : List Exit) (ks : List K) → length ks ≡ length es → map (λ (f : Forwarding K). f.began) (forwardings failed es ks) ≡ map failed ks
-  forwardings_began [] [] same = refl
-  forwardings_began [] (k ∷ ks) same = absurd (omega arith)
-  forwardings_began (e ∷ es) [] same = absurd (omega arith)
-  forwardings_began (e ∷ es) (k ∷ ks) same = ap (λ (xs : List ℕ). failed k ∷ xs) (forwardings_began es ks (omega arith))
-
   forwarding_at : (c : Config) (outer : List Shape) (l : ℕ) (s t : Shape) (e : Exit) (k : K) → IsLeavingAt c outer l e → slice_get outer (2 * l) ≡ Some s → slice_get outer (2 * l + 1) ≡ Some t → AreForwarding c l (s ∷ t ∷ []) (forwardings failed (e ∷ []) (k ∷ []))
   forwarding_at c outer l s t e k is first second =
       let a : is.first ≡ s = some_same is.first s (sym is.first_there ∙ first) in
@@ -121,7 +106,7 @@ is_crew failed c p inner_rooms outer_rooms es ws a xs hs ss ks m sources sinks =
     record {
       pipes = m.pipes_are;
       receivers = receivings_at c p 0 es ss m.entering.each (sources ∙ sym entries);
-      receiver_count = receivings_long es ss (sources ∙ sym entries) ∙ entries;
+      receiver_count = paired_long receiving_over es ss (sources ∙ sym entries) ∙ entries;
       processors = working_at c p 0 p.inner ws m.working.each (works ∙ sym m.pipes_are.processors) (λ j s got. let z : j ≡ 0 + j = omega arith in subst (λ (i : ℕ). slice_get p.inner i ≡ Some s) z got);
       slow = m.answering;
       forwarders = forwardings_at failed c p.outer 0 p.outer xs ks m.leaving.each (let q = m.pipes_are.links in omega arith) (sinks ∙ sym exits) (λ j s got. let z : j ≡ 2 * 0 + j = omega arith in subst (λ (i : ℕ). slice_get p.outer i ≡ Some s) z got);
@@ -143,9 +128,9 @@ pub begins : {S G K : Type 0} (failed : K → ℕ) (c : Config) (r : Run S G K) 
     → r.config ≡ c → r.crew.receivers ≡ receivings es ss → r.crew.forwarders ≡ forwardings failed xs ks → length ss ≡ length es → length ks ≡ length xs → Begins failed c ss ks r
 begins {S = S} {K = K} failed c r es xs ss ks config rs fs sources sinks = record {
   config = config;
-  sources_are = ap (map (λ (w : Receiving S). w.source)) rs ∙ receivings_sources es ss sources;
-  sinks_are = ap (map (λ (f : Forwarding K). f.side.sink)) fs ∙ forwardings_sinks failed xs ks sinks;
-  began = ap (map (λ (f : Forwarding K). f.began)) fs ∙ forwardings_began failed xs ks sinks;
+  sources_are = ap (map (λ (w : Receiving S). w.source)) rs ∙ (paired_has receiving_over (λ (w : Receiving S). w.source) (λ (s : S). s) (λ _ _. refl) es ss sources ∙ map-id ss);
+  sinks_are = ap (map (λ (f : Forwarding K). f.side.sink)) fs ∙ (paired_has (forwarding_over failed) (λ (f : Forwarding K). f.side.sink) (λ (k : K). k) (λ _ _. refl) xs ks sinks ∙ map-id ks);
+  began = ap (map (λ (f : Forwarding K). f.began)) fs ∙ paired_has (forwarding_over failed) (λ (f : Forwarding K). f.began) failed (λ _ _. refl) xs ks sinks;
 }
 
 -- what a run over ready parts answers is what a start of it answers

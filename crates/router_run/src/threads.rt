@@ -12,7 +12,7 @@ use stage_parts::{Gate, Router, Sink, Source};
 use std::sync::Wait;
 use std::thread::Threads;
 use std::time::Clock;
-use wired_workers::{Entering, Leaving, forwarders_of, receivers_of};
+use wired_workers::{Entering, Leaving, over_each};
 use worker_threads::{Orders, Started, Team, give_up, start_each};
 
 /// The threads of a router's workers.
@@ -50,7 +50,7 @@ where
     ensures { result.2 ≡ true → (result.0 ≡ receivings receivers.items sources.items) × (result.1 ≡ processors.items) }
 {
     working.workers.destroy_empty();
-    let receivers = receivers_of(receivers, sources, receiving.workers);
+    let receivers = over_each(receivers, sources, receiving.workers);
     let receivers = Team {
         workers: receivers,
         orders: receiving.orders,
@@ -94,7 +94,7 @@ where
         orders: answering.orders,
         room: answering.room,
     };
-    let forwarders = forwarders_of(forwarders, sinks, forwarding.workers);
+    let forwarders = over_each(forwarders, sinks, forwarding.workers);
     let forwarders = Team {
         workers: forwarders,
         orders: forwarding.orders,

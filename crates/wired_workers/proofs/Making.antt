@@ -15,7 +15,7 @@ use Rattle.router_stages.specs.Working.{Working}
 use Rattle.stage_parts.specs.Outlets.{AreFresh, senders}
 use Rattle.pipe_ends.specs.Rows.{AreEndsOf, AreFor, Row, fresh_ends}
 use Rattle.router_pipes.specs.Dealing.{IsLong, IsNewEnd, IsTakerThere, piping}
-use Rattle.wired_workers.specs.Kits.{IsWorkingThere}
+use Rattle.wired_workers.specs.Kits.{IsWorkingThere, paired}
 use Rattle.wired_workers.specs.Shares.{AreNewShares, HaveGone}
 use Rattle.router_pipes.specs.Rest.{IsRest}
 use Rattle.router_pipes.proofs.Fresh.{fresh_are, fresh_long}
@@ -97,20 +97,20 @@ module _ {X : Type 0} where
   pub all_made : (P : ℕ → X → Type 0) (k n : ℕ) (xs : List X) → k ≡ n → length xs ≡ k → AllAt P 0 xs → IsRest P 0 n xs
   all_made P k n xs same long all = record { each = all; count = let e = long ∙ same in omega arith }
 
--- what two lists make by turns, after what was made already: at first, after one more, and once nothing is left
-module _ {X Y Z : Type 0} (f : List X → List Y → List Z) where
-  pub paired_first : (room : List Z) (xs us : List X) (ys vs : List Y) → room ≡ [] → xs ≡ us → ys ≡ vs → room ++ f xs ys ≡ f us vs
-  paired_first room xs us ys vs a b d = ap (λ (zs : List Z). zs ++ f xs ys) a ∙ (ap (λ (ws : List X). f ws ys) b ∙ ap (λ (ws : List Y). f us ws) d)
+-- what two lists make one by one, after what was made already: at first, after one more, and once nothing is left
+module _ {X Y Z : Type 0} (make : X → Y → Z) where
+  pub paired_first : (room : List Z) (xs us : List X) (ys vs : List Y) → room ≡ [] → xs ≡ us → ys ≡ vs → room ++ paired make xs ys ≡ paired make us vs
+  paired_first room xs us ys vs a b d = ap (λ (zs : List Z). zs ++ paired make xs ys) a ∙ (ap (λ (ws : List X). paired make ws ys) b ∙ ap (λ (ws : List Y). paired make us ws) d)
 
-  pub paired_next : (one : X → Y → Z) → ((x : X) (us : List X) (y : Y) (vs : List Y) → one x y ∷ f us vs ≡ f (x ∷ us) (y ∷ vs)) → (made new : List Z) (z : Z) (xs us : List X) (ys vs : List Y) (x : X) (y : Y) (all : List Z)
-      → z ≡ one x y → xs ≡ x ∷ us → ys ≡ y ∷ vs → new ≡ made ++ z ∷ [] → made ++ f xs ys ≡ all → new ++ f us vs ≡ all
-  paired_next one first made new z xs us ys vs x y all same a b pushed is =
-      let back : z ∷ f us vs ≡ f xs ys = ap (λ (w : Z). w ∷ f us vs) same ∙ (first x us y vs ∙ (ap (λ (ws : List X). f ws (y ∷ vs)) (sym a) ∙ ap (λ (ws : List Y). f xs ws) (sym b))) in
-      ap (λ (zs : List Z). zs ++ f us vs) pushed ∙ (append_assoc made (z ∷ []) (f us vs) ∙ (ap (λ (zs : List Z). made ++ zs) back ∙ is))
+  pub paired_next : (made new : List Z) (z : Z) (xs us : List X) (ys vs : List Y) (x : X) (y : Y) (all : List Z)
+      → z ≡ make x y → xs ≡ x ∷ us → ys ≡ y ∷ vs → new ≡ made ++ z ∷ [] → made ++ paired make xs ys ≡ all → new ++ paired make us vs ≡ all
+  paired_next made new z xs us ys vs x y all same a b pushed is =
+      let back : z ∷ paired make us vs ≡ paired make xs ys = ap (λ (w : Z). w ∷ paired make us vs) same ∙ (ap (λ (ws : List X). paired make ws (y ∷ vs)) (sym a) ∙ ap (λ (ws : List Y). paired make xs ws) (sym b)) in
+      ap (λ (zs : List Z). zs ++ paired make us vs) pushed ∙ (append_assoc made (z ∷ []) (paired make us vs) ∙ (ap (λ (zs : List Z). made ++ zs) back ∙ is))
 
-  pub paired_last : ((ys : List Y) → f [] ys ≡ []) → (made : List Z) (xs : List X) (ys : List Y) (all : List Z) → length xs ≡ 0 → made ++ f xs ys ≡ all → made ≡ all
-  paired_last none made [] ys all long is = sym (append-nil made) ∙ (ap (λ (zs : List Z). made ++ zs) (sym (none ys)) ∙ is)
-  paired_last none made (x ∷ xs) ys all long is = absurd (omega arith)
+  pub paired_last : (made : List Z) (xs : List X) (ys : List Y) (all : List Z) → length xs ≡ 0 → made ++ paired make xs ys ≡ all → made ≡ all
+  paired_last made [] ys all long is = sym (append-nil made) ∙ is
+  paired_last made (x ∷ xs) ys all long is = absurd (omega arith)
 
 pub long_as : (k l n a b : ℕ) (xs : List (Row (List ℕ))) → k ≡ l → a ≡ b → IsRest (IsLong l) n (b + l) xs → IsRest (IsLong k) n (a + k) xs
 long_as k l n a b xs same total r = record { each = subst (λ (j : ℕ). AllAt (IsLong j) n xs) (sym same) r.each; count = let c = r.count in omega arith }

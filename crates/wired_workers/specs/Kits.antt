@@ -1,5 +1,6 @@
 -- What workers with devices are made of, but for their devices; and workers by their numbers.
-use Rattle.std.specs.Prelude.{◌≡◌, ◌+◌, ◌*◌, ℕ, List, [], ◌∷◌, Some, slice_get}
+use Rattle.std.specs.Prelude.{◌≡◌, ◌+◌, ◌*◌, ℕ, List, Some, map, slice_get}
+use Rattle.std.specs.List.{zip}
 use Rattle.pipeline_laws.specs.Item.{Arrival}
 use Rattle.process_packet.specs.declared.config.Config.{Config}
 use Rattle.ruled_pipe.specs.Producer.{Sender}
@@ -15,6 +16,11 @@ use Rattle.stage_parts.specs.Outlets.{AreFresh, senders}
 use Rattle.pipe_ends.specs.Rows.{AreEndsOf}
 use Rattle.router_pipes.specs.Piping.{IsTakerOf, Piping}
 
+-- what each of a list makes with its own of another
+module _ {X Y Z : Type 0} (make : X → Y → Z) where
+  abbrev pub paired : List X → List Y → List Z
+  paired xs ys = map (λ (p : X × Y). make p.0 p.1) (zip xs ys)
+
 -- a receiver without its source
 pub record Entry : Type 0 where
   pub config : Config
@@ -28,11 +34,11 @@ pub record IsEnteringAt (c : Config) (inner : List Shape) (a : ℕ) (e : Entry) 
   pub processors : AreEndsOf a inner (senders e.processors)
 
 module _ {S : Type 0} where
-  -- with their sources, one by one
+  abbrev pub receiving_over : Entry → S → Receiving S
+  receiving_over e s = first_receiving e.config e.link s e.free e.processors
+
   abbrev pub receivings : List Entry → List S → List (Receiving S)
-  receivings [] sources = []
-  receivings (e ∷ es) [] = []
-  receivings (e ∷ es) (s ∷ ss) = first_receiving e.config e.link s e.free e.processors ∷ receivings es ss
+  receivings es ss = paired receiving_over es ss
 
 -- a forwarder without its sink
 pub record Exit : Type 0 where
@@ -54,11 +60,11 @@ pub record IsLeavingAt (c : Config) (outer : List Shape) (l : ℕ) (e : Exit) : 
   pub high : IsTakerOf second e.high.taker
 
 module _ {K : Type 0} (failed : K → ℕ) where
-  -- with their sinks, one by one
+  abbrev pub forwarding_over : Exit → K → Forwarding K
+  forwarding_over e k = first_forwarding e.link e.low e.high (failed k) (first_delivery e.config k e.free)
+
   abbrev pub forwardings : List Exit → List K → List (Forwarding K)
-  forwardings [] sinks = []
-  forwardings (e ∷ es) [] = []
-  forwardings (e ∷ es) (k ∷ ks) = first_forwarding e.link e.low e.high (failed k) (first_delivery e.config k e.free) ∷ forwardings es ks
+  forwardings es ks = paired forwarding_over es ks
 
 module _ {G : Type 0} where
   -- a processor takes from its pipe, and has the producers of its number

@@ -1,21 +1,19 @@
 //! What receivers are made of.
 
-ghost use Rattle.std.specs.Prelude.{◌≡◌, ◌≤◌, ◌<◌, ℕ, List, IfOk, [], Some, length, vec_capacity};
+ghost use Rattle.std.specs.Prelude.{◌≡◌, ◌<◌, ℕ, List, IfOk, [], Some, length};
 ghost use Rattle.std.specs.Arc.{arc_value};
 ghost use Rattle.packet_ledger.specs.Share.{new_share};
-ghost use Rattle.pipeline_laws.specs.Deeds.{Each};
-ghost use Rattle.router_laws.specs.Heard.{ToldNothing};
 ghost use Rattle.router_rules.specs.Links.{link_count};
-ghost use Rattle.router_stages.specs.Receiving.{first_receiving};
 ghost use Rattle.ruled_pipe.specs.Pipe.{Shape};
 ghost use Rattle.stage_parts.specs.Outlets.{senders};
 ghost use Rattle.pipe_ends.specs.Rows.{AreDealt, AreEndsOf, IsBundle, fresh_ends};
 ghost use Rattle.router_pipes.specs.Dealing.{IsUnlooked};
-ghost use Rattle.wired_workers.specs.Kits.{IsEnteringAt, receivings};
+ghost use Rattle.wired_workers.specs.Kits.{IsEnteringAt};
 ghost use Rattle.wired_workers.specs.Shares.{AreNewShares, HaveGone};
 ghost use Rattle.router_pipes.specs.Rest.{IsRest};
 
 use crate::common::Common;
+use crate::over::Over;
 use packet_ledger::Share;
 use pipe_ends::{Ends, Line};
 use router_pipes::outlets;
@@ -69,12 +67,15 @@ impl<N: Router> Drop for Entering<N> {
     }
 }
 
-impl<N: Router> Entering<N> {
-    // The receiver over a source.
-    fn over<S: Source>(self, source: S) -> Receiver<N, S>
-        requires { ToldNothing (S.told source) }
-        ensures { result ≡ first_receiving self.config self.link source self.free self.processors }
-    {
+impl<N: Router, S: Source> Over<S, Receiver<N, S>> for Entering<N> {
+    ghost use Rattle.router_laws.specs.Heard.{ToldNothing};
+    ghost use Rattle.wired_workers.specs.Kits.{receiving_over};
+
+    ghost fits = { λ s. ToldNothing (S.told s) };
+
+    ghost worker = { λ e s. receiving_over e s };
+
+    fn over(self, source: S) -> Receiver<N, S> {
         let Entering {
             shared,
             stop,
@@ -148,28 +149,4 @@ pub fn all_entering<N: Router>(
     }
     let _ = pipes;
     Ok(made)
-}
-
-/// The receivers over their sources. It takes no memory.
-pub fn receivers_of<N: Router, S: Source>(
-    entering: Vec<Entering<N>>,
-    sources: Vec<S>,
-    room: Vec<Receiver<N, S>>,
-) -> Vec<Receiver<N, S>>
-    requires count { length sources.items ≡ length entering.items }
-    requires untold { Each (λ s. ToldNothing (S.told s)) sources.items }
-    requires room { (room.items ≡ []) × (length entering.items ≤ vec_capacity room) }
-    ensures { result.items ≡ receivings entering.items sources.items }
-{
-    let count = entering.len();
-    let mut entering = Line::of(entering);
-    let mut sources = Line::of(sources);
-    let mut receivers = room;
-    for k in 0..count {
-        let source = sources.next();
-        receivers.push_reserved(entering.next().over(source));
-    }
-    entering.destroy_empty();
-    sources.destroy_empty();
-    receivers
 }

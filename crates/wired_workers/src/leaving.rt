@@ -1,19 +1,18 @@
 //! What forwarders are made of.
 
-ghost use Rattle.std.specs.Prelude.{◌≡◌, ◌+◌, ◌*◌, ◌≤◌, ◌<◌, IfOk, [], Some, length, false, vec_capacity};
+ghost use Rattle.std.specs.Prelude.{◌≡◌, ◌+◌, ◌*◌, IfOk, [], Some, length, false};
 ghost use Rattle.std.specs.Arc.{arc_value};
 ghost use Rattle.packet_ledger.specs.Share.{new_share};
-ghost use Rattle.pipeline_laws.specs.Deeds.{Each};
-ghost use Rattle.router_laws.specs.Heard.{ToldNothing};
 ghost use Rattle.router_rules.specs.Links.{link_count};
-ghost use Rattle.router_stages.specs.Forwarding.{band, first_delivery, first_forwarding};
+ghost use Rattle.router_stages.specs.Forwarding.{band};
 ghost use Rattle.pipe_ends.specs.Rows.{AreFor, new_takers};
 ghost use Rattle.router_pipes.specs.Dealing.{IsLong};
-ghost use Rattle.wired_workers.specs.Kits.{IsLeavingAt, forwardings};
+ghost use Rattle.wired_workers.specs.Kits.{IsLeavingAt};
 ghost use Rattle.wired_workers.specs.Shares.{AreNewShares};
 ghost use Rattle.router_pipes.specs.Rest.{IsRest};
 
 use crate::common::Common;
+use crate::over::Over;
 use crate::remaining::Remaining;
 use packet_ledger::Share;
 use pipe_ends::{Ends, Line};
@@ -63,12 +62,15 @@ impl<N: Router> Drop for Leaving<N> {
     }
 }
 
-impl<N: Router> Leaving<N> {
-    // The forwarder over a sink.
-    fn over<K: Sink>(self, sink: K) -> Forwarder<N, K>
-        requires { ToldNothing (K.told sink) }
-        ensures { result ≡ first_forwarding self.link self.low self.high (K.failed sink) (first_delivery self.config sink self.free) }
-    {
+impl<N: Router, K: Sink> Over<K, Forwarder<N, K>> for Leaving<N> {
+    ghost use Rattle.router_laws.specs.Heard.{ToldNothing};
+    ghost use Rattle.wired_workers.specs.Kits.{forwarding_over};
+
+    ghost fits = { λ k. ToldNothing (K.told k) };
+
+    ghost worker = { λ e k. forwarding_over K.failed e k };
+
+    fn over(self, sink: K) -> Forwarder<N, K> {
         let Leaving {
             shared,
             link,
@@ -137,28 +139,4 @@ pub fn all_leaving<N: Router>(
     }
     let _ = pipes;
     Ok(made)
-}
-
-/// The forwarders over their sinks. It takes no memory.
-pub fn forwarders_of<N: Router, K: Sink>(
-    leaving: Vec<Leaving<N>>,
-    sinks: Vec<K>,
-    room: Vec<Forwarder<N, K>>,
-) -> Vec<Forwarder<N, K>>
-    requires count { length sinks.items ≡ length leaving.items }
-    requires untold { Each (λ k. ToldNothing (K.told k)) sinks.items }
-    requires room { (room.items ≡ []) × (length leaving.items ≤ vec_capacity room) }
-    ensures { result.items ≡ forwardings K.failed leaving.items sinks.items }
-{
-    let count = leaving.len();
-    let mut leaving = Line::of(leaving);
-    let mut sinks = Line::of(sinks);
-    let mut forwarders = room;
-    for k in 0..count {
-        let sink = sinks.next();
-        forwarders.push_reserved(leaving.next().over(sink));
-    }
-    leaving.destroy_empty();
-    sinks.destroy_empty();
-    forwarders
 }

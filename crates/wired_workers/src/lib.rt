@@ -6,10 +6,12 @@ mod common;
 mod entering;
 mod leaving;
 mod middle;
+mod over;
 mod remaining;
 
 pub use common::Common;
-pub use entering::{Entering, all_entering, receivers_of};
-pub use leaving::{Leaving, all_leaving, forwarders_of};
+pub use entering::{Entering, all_entering};
+pub use leaving::{Leaving, all_leaving};
 pub use middle::{Deciding, deciding_of};
+pub use over::{Over, over_each};
 pub use remaining::Remaining;

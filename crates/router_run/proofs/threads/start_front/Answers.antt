@@ -1,11 +1,12 @@
 use Rattle.std.proofs.Common.{length, ◌∙◌, ap, arith}
 use Rattle.worker_threads.specs.Teams.{Seated}
-use Rattle.router_run.proofs.Begin.{receivings_long}
+use Rattle.wired_workers.specs.Kits.{receiving_over}
+use Rattle.router_run.proofs.Begin.{paired_long}
 use Rattle.router_run.proofs.threads.start_front.Goals as goal
 
 pub invariant_of-receivers : goal.invariant_of-receivers
 invariant_of-receivers g c =
-    let long = ap length c.receivers_of-receivers.ensures ∙ receivings_long c.args.receivers.items c.args.sources.items c.requires.count in
+    let long = ap length c.over_each-receivers.ensures ∙ paired_long receiving_over c.args.receivers.items c.args.sources.items c.requires.count in
     let room = ap (λ (t : Seated _). t.handles) c.receiving.view_is in
     let fits = c.requires.receiving.2 in
     (c.receiving.invariant.0, omega arith)
@@ -20,4 +21,4 @@ pub returns : goal.returns
 returns g c = λ all.
     let processors = c.start_each-processors.ensures all in
     let receivers = c.start_each-receivers.ensures processors.0 in
-    (receivers.1 ∙ c.receivers_of-receivers.ensures, processors.1)
+    (receivers.1 ∙ c.over_each-receivers.ensures, processors.1)

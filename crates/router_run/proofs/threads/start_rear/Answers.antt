@@ -1,6 +1,7 @@
 use Rattle.std.proofs.Common.{◌≡◌, ◌∷◌, [], ◌++◌, length, ◌∙◌, ap, arith, length-append}
 use Rattle.worker_threads.specs.Teams.{Seated}
-use Rattle.router_run.proofs.Begin.{forwardings_long}
+use Rattle.wired_workers.specs.Kits.{forwarding_over}
+use Rattle.router_run.proofs.Begin.{paired_long}
 use Rattle.router_run.proofs.threads.start_rear.Goals as goal
 
 pub invariant_of-answerers : goal.invariant_of-answerers
@@ -14,7 +15,7 @@ invariant_of-answerers g c =
 
 pub invariant_of-forwarders : goal.invariant_of-forwarders
 invariant_of-forwarders g c =
-    let long = ap length c.forwarders_of-forwarders.ensures ∙ forwardings_long g.K.Sink.failed c.args.forwarders.items c.args.sinks.items c.requires.count in
+    let long = ap length c.over_each-forwarders.ensures ∙ paired_long (forwarding_over g.K.Sink.failed) c.args.forwarders.items c.args.sinks.items c.requires.count in
     let room = ap (λ (t : Seated _). t.handles) c.forwarding.view_is in
     let fits = c.requires.forwarding.2 in
     (c.forwarding.invariant.0, omega arith)
@@ -24,4 +25,4 @@ returns g c = λ all.
     let forwarders = c.start_each-forwarders.ensures all in
     let slow = c.start_each-slow.ensures forwarders.0 in
     let one : c.push_reserved.new.self.items ≡ c.args.slow ∷ [] = c.push_reserved.ensures.items ∙ ap (λ (t : Seated _). t.workers ++ c.args.slow ∷ []) c.answering.view_is ∙ ap (λ xs. xs ++ c.args.slow ∷ []) c.requires.answering.0 in
-    (slow.0, slow.1 ∙ one, forwarders.1 ∙ c.forwarders_of-forwarders.ensures)
+    (slow.0, slow.1 ∙ one, forwarders.1 ∙ c.over_each-forwarders.ensures)
