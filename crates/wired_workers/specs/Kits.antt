@@ -34,6 +34,7 @@ pub record IsEnteringAt (c : Config) (inner : List Shape) (a : ℕ) (e : Entry) 
   pub processors : AreEndsOf a inner (senders e.processors)
 
 module _ {S : Type 0} where
+  -- the receiver over a source, and all over theirs
   abbrev pub receiving_over : Entry → S → Receiving S
   receiving_over e s = first_receiving e.config e.link s e.free e.processors
 
@@ -60,6 +61,7 @@ pub record IsLeavingAt (c : Config) (outer : List Shape) (l : ℕ) (e : Exit) : 
   pub high : IsTakerOf second e.high.taker
 
 module _ {K : Type 0} (failed : K → ℕ) where
+  -- the forwarder over a sink, and all over theirs
   abbrev pub forwarding_over : Exit → K → Forwarding K
   forwarding_over e k = first_forwarding e.link e.low e.high (failed k) (first_delivery e.config k e.free)
 
