@@ -22,7 +22,7 @@ LAYERS = [
     ("between threads", "#f8dcd3", "ruled_pipe packet_ledger"),
     ("laws of workers", "#fdeec9", "stage_laws router_laws"),
     ("workers", "#f8dcd3", "stage_parts receiver_stage forwarder_stage router_stages"),
-    ("threads, and the run", "#f8dcd3", "pipe_ends router_pipes worker_threads wired_workers run_laws run_report router_run"),
+    ("threads, and the run", "#f8dcd3", "pipe_ends router_pipes worker_threads wired_workers run_report router_run"),
     ("sockets", "#f8dcd3", "udp_devices"),
     ("text and commands", "#e6def0", "text_values router_config router_lines router_engine run_engine udp_router command_words router_faults router_program"),
 ]

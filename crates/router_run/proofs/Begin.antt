@@ -13,12 +13,12 @@ use Rattle.router_stages.specs.Receiving.{Receiving}
 use Rattle.router_stages.specs.Working.{Working}
 use Rattle.pipe_ends.specs.Rows.{Row}
 use Rattle.pipe_ends.specs.Shutting.{Shutting}
-use Rattle.run_laws.specs.Crew.{AreForwarding, AreWorking, IsCrew, IsReceivingAt}
+use Rattle.router_run.specs.Wiring.{AreForwarding, AreWorking, IsCrew, IsReceivingAt}
 use Rattle.router_pipes.specs.Piping.{IsTakerOf, Piping}
 use Rattle.wired_workers.specs.Kits.{Entry, Exit, IsEnteringAt, IsLeavingAt, IsWorkingAt, IsWorkingThere, forwarding_over, forwardings, paired, receiving_over, receivings}
 use Rattle.router_run.specs.WorkerParts.{AreWorkerParts}
 use Rattle.router_run.specs.Run.{Run}
-use Rattle.run_report.specs.Parting.{crew_of}
+use Rattle.run_report.specs.Crew.{crew_of}
 use Rattle.router_run.specs.Starting.{Begins, GivesBack}
 use Rattle.router_run.specs.declared.fault.StartFault.{StartFault}
 use Rattle.router_run.specs.declared.fault.StartFault.TheVariants.{Thread}

@@ -13,8 +13,8 @@ use Rattle.pipe_ends.specs.Shutting.{Shutting}
 use Rattle.router_pipes.specs.Closing.{StayEnds}
 use Rattle.router_pipes.specs.Piping.{Piping}
 use Rattle.router_pipes.proofs.ClosingLemmas.{shutters_long, used_at}
-use Rattle.run_laws.specs.Crew.{IsCrew}
-use Rattle.run_report.specs.Parting.{crew_of}
+use Rattle.router_run.specs.Wiring.{IsCrew}
+use Rattle.run_report.specs.Crew.{crew_of}
 
 module _ {S G K : Type 0} (c : Config) (p : Piping) (rs : List (Receiving S)) (ws : List (Working G)) (ss : List Answering) (fs : List (Forwarding K)) where
   pub controller_long : (hs : List (Shutting (Outgoing kinds))) → IsCrew c p (crew_of rs ws ss fs hs) → length hs ≡ 2 * link_count c

@@ -22,18 +22,16 @@ use Rattle.stage_parts.specs.Outlets.{senders}
 use Rattle.stage_parts.specs.Told.{Told, told_of}
 use Rattle.pipe_ends.specs.Rows.{HaveLeft, Row, rows_of}
 use Rattle.pipe_ends.specs.Settled.{AreSettled, HaveEnded, IsDone, IsEnded}
-use Rattle.run_laws.specs.Came.{CrewsReturn, HasKept, HasSettled, back_of, forwarder_back, processor_back, receiver_back}
-use Rattle.run_laws.specs.Crew.{Crew, IsCrew}
+use Rattle.run_report.specs.Parting.{HasKept, IsParted, IsSized, shares_in}
+use Rattle.router_run.specs.Back.{HasSettled, back_of, forwarder_back, processor_back, receiver_back, IsBack}
+use Rattle.run_report.specs.Crew.{Crew, inner_rows, inner_takers, middle_takers, outer_rows, takers_of}
+use Rattle.router_run.specs.Wiring.{IsCrew}
 use Rattle.router_pipes.specs.Piping.{Piping}
-use Rattle.run_laws.specs.Ended.{IsBack, PipesEnd, inner_rows, inner_takers, middle_takers, outer_rows, takers_of}
 use Rattle.run_report.specs.Room.{HaveSpace, Space}
 use Rattle.router_run.specs.Run.{HasRun, Run}
-use Rattle.run_report.specs.Parting.{IsParted, IsSized, shares_in}
 use Rattle.run_report.proofs.PartedLemmas.{rows_long}
-
-map_twice : {X Y Z : Type 0} (f : X → Y) (g : Y → Z) (xs : List X) → map g (map f xs) ≡ map (λ (x : X). g (f x)) xs
-map_twice f g [] = refl
-map_twice f g (x ∷ xs) = ap (λ (zs : List _). g (f x) ∷ zs) (map_twice f g xs)
+use Rattle.router_run.proofs.Came.{crews_return, map_twice}
+use Rattle.router_run.proofs.Crews.{PipesEnd}
 
 one_of : {X : Type 0} (xs : List X) → length xs ≡ 1 → (x : X) × (xs ≡ x ∷ [])
 one_of [] e = absurd (omega arith)
@@ -112,17 +110,17 @@ module _ {S G K : Type 0} where
         ∙ ap (λ (xs : List Held). map (λ (r : ReceiverBack). r.share) (map (receiver_back told) w.receivers) ++ (map (λ (p : ProcessorBack). p.share) (map processor_back w.processors) ++ (a.side.share ∷ xs))) (sym fs)))
 
     -- all together
-    pub has_run : RunsAsTold Told → CrewsReturn S G K → (r : Run S G K) (w : Crew S G K) (a : Answering) (totals : Totals) (shares : List Held) (sent : List ℕ) (sources : List S) (sinks : List K)
+    pub has_run : RunsAsTold Told → (r : Run S G K) (w : Crew S G K) (a : Answering) (totals : Totals) (shares : List Held) (sent : List ℕ) (sources : List S) (sinks : List K)
         → IsCrew r.config r.pipes r.crew → IsBack r.crew w → HasKept told shown failed w → HasSettled r.pipes w → w.slow ≡ a ∷ []
         → shares ≡ shares_in w → totals ≡ totals_of shares → sent ≡ map (λ (f : Forwarding K). forwarded f.side.share) w.forwarders → sources ≡ map (λ (x : Receiving S). x.source) w.receivers → sinks ≡ map (λ (f : Forwarding K). f.side.sink) w.forwarders
         → HasRun told shown failed r totals sent sources sinks
-    has_run runs returns r w a totals shares sent sources sinks is back kept set one same counts sends reads writes = record {
+    has_run runs r w a totals shares sent sources sinks is back kept set one same counts sends reads writes = record {
       crew = w;
       slow = a;
       one = one;
       back = back;
       settled = set;
-      ran = runs told_of r.config (back_of told shown failed w a) _ (returns told shown failed r.config r.pipes r.crew w a is back kept set one);
+      ran = runs told_of r.config (back_of told shown failed w a) _ (crews_return told shown failed r.config r.pipes r.crew w a is back kept set one);
       totals_are = counts ∙ ap totals_of (same ∙ shares_same w a one);
       sent_are = sends;
       sources_are = reads;

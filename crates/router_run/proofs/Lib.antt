@@ -1,3 +1,7 @@
+pub mod Ends
+pub mod Rows
+pub mod Crews
+pub mod Came
 pub mod Begin
 pub mod CrewLemmas
 pub mod Finish

@@ -1,32 +1,27 @@
 -- How many workers came back, and what they did.
-use Rattle.std.proofs.Common.{◌≡◌, ℕ, ◌+◌, ◌*◌, List, [], ◌∷◌, length, refl, sym, ◌∙◌, subst, arith}
-use Rattle.std.proofs.lemmas.List.{length-map}
+use Rattle.std.proofs.Common.{◌≡◌, ℕ, ◌+◌, List, [], ◌∷◌, length, refl, sym, ◌∙◌, subst, arith}
 use Rattle.pipeline_laws.specs.Deeds.{Each}
 use Rattle.process_packet.specs.declared.config.Config.{Config}
 use Rattle.ruled_pipe.specs.Pipe.{Shape}
 use Rattle.router_laws.specs.Returned.{AllAt}
 use Rattle.router_rules.specs.Links.{link_count}
 use Rattle.router_stages.specs.Answering.{Answering}
-use Rattle.router_stages.specs.Forwarding.{Forwarding}
 use Rattle.router_stages.specs.Receiving.{Receiving}
 use Rattle.router_stages.specs.Working.{Working}
-use Rattle.stage_parts.specs.Outlet.{Offering}
 use Rattle.stage_parts.specs.Outlets.{are_used, senders}
 use Rattle.stage_parts.specs.Back.{AreBack}
 use Rattle.router_stages.specs.SameReceiver.{IsSameReceiver, ReceiverEnded}
 use Rattle.router_stages.specs.SameProcessor.{IsSameProcessor, ProcessorEnded}
 use Rattle.router_stages.specs.SameSlowPath.{IsSameSlowPath, SlowPathEnded}
-use Rattle.run_laws.specs.Crew.{AreAnswering, AreForwarding, AreWorking, Crew, IsCrew, IsReceivingAt}
+use Rattle.router_run.specs.Wiring.{AreAnswering, AreWorking, IsCrew, IsReceivingAt}
+use Rattle.run_report.specs.Crew.{Crew}
 use Rattle.router_pipes.specs.Piping.{Piping}
-use Rattle.run_laws.specs.Ended.{IsBack}
+use Rattle.router_run.specs.Back.{IsBack}
 use Rattle.router_pipes.proofs.ClosingLemmas.{shutters_long}
-use Rattle.run_laws.proofs.Came.{each_ends_long}
-use Rattle.run_laws.proofs.Ends.{ends_long, same_ends}
-use Rattle.run_laws.proofs.Rows.{back_long, working_long}
+use Rattle.router_run.proofs.Came.{each_ends_long, forwarding_long, long_of}
+use Rattle.router_run.proofs.Ends.{ends_long, same_ends}
+use Rattle.router_run.proofs.Rows.{back_long, working_long}
 use Rattle.run_report.specs.Parting.{IsSized}
-
-long_of : {T : Type 0} (xs : List (Offering T)) → length (senders xs) ≡ length xs
-long_of xs = length-map xs (λ (o : Offering _). o.sender)
 
 module _ {S : Type 0} (c : Config) (p : Piping) where
   receivers_sized : (n : ℕ) (xs ys : List (Receiving S)) → AllAt (IsReceivingAt c p) n xs → AreBack (λ a b. IsSameReceiver a b × ReceiverEnded b) xs ys → Each (λ (r : Receiving S). length r.side.processors ≡ length p.inner) ys
@@ -56,13 +51,6 @@ slow_sized c p (x ∷ []) (y ∷ z ∷ ys) are back = absurd back.1
 slow_sized c p (x ∷ []) (y ∷ []) are back =
     let e = ends_long c.processors p.outer (senders y.side.links) (same_ends (are_used x.side.config) c.processors p.outer x.side.links y.side.links back.0.0.links are.links) in
     ((sym (long_of y.side.links) ∙ e, tt), refl)
-
-forwarding_long : {K : Type 0} (c : Config) (l : ℕ) (ss : List Shape) (fs : List (Forwarding K)) → AreForwarding c l ss fs → length ss ≡ 2 * length fs
-forwarding_long c l [] [] are = refl
-forwarding_long c l [] (f ∷ fs) are = absurd are
-forwarding_long c l (s ∷ []) fs are = absurd are
-forwarding_long c l (s ∷ t ∷ ss) [] are = absurd are
-forwarding_long c l (s ∷ t ∷ ss) (f ∷ fs) are = let r = forwarding_long c (l + 1) ss fs are.1 in omega arith
 
 -- how many workers there are
 module _ {S G K : Type 0} (c : Config) (p : Piping) (w : Crew S G K) (is : IsCrew c p w) where

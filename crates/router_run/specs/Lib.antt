@@ -1,4 +1,6 @@
 pub mod WorkerParts
+pub mod Wiring
+pub mod Back
 pub mod Run
 pub mod Starting
 pub mod Teams

@@ -11,10 +11,9 @@ use Rattle.router_stages.specs.Forwarding.{Forwarding}
 use Rattle.router_stages.specs.Receiving.{Receiving}
 use Rattle.stage_parts.specs.Told.{Told, told_of}
 use Rattle.pipe_ends.specs.Shutting.{closed_at}
-use Rattle.run_laws.specs.Crew.{Crew}
+use Rattle.run_report.specs.Crew.{Crew}
 use Rattle.router_pipes.specs.Piping.{Piping}
-use Rattle.run_laws.specs.Ended.{IsBack}
-use Rattle.run_laws.specs.Came.{HasSettled, back_of}
+use Rattle.router_run.specs.Back.{IsBack, HasSettled, back_of}
 
 -- a run: its configuration, its pipes, and its workers and the controller's ends as they began
 pub record Run (S G K : Type 0) : Type 0 where

@@ -1,8 +1,8 @@
 //! The workers stopped and joined.
 
 ghost use Rattle.pipe_ends.specs.Shutting.{AreOpen, EachEnds};
-ghost use Rattle.run_laws.specs.Ended.{IsBack};
-ghost use Rattle.run_report.specs.Parting.{crew_of};
+ghost use Rattle.router_run.specs.Back.{IsBack};
+ghost use Rattle.run_report.specs.Crew.{crew_of};
 
 use crate::threads::Threaded;
 use packet_ledger::Book;

@@ -23,7 +23,6 @@ use process_packet::Config;
 use router_pipes::{CloseFault, Controller, Events, Pipes};
 use router_rules::{causes_are_apart, link_count, links_stand_in_order, rules_are_lawful};
 use router_stages::{Forwarder, Processor, Receiver, SlowPath};
-use run_laws::{crews_end, crews_return};
 use run_report::{Report, Space, gather_pipes, part_all, report_of};
 use stage_parts::{Event, Gate, Router, Sink, Source};
 use std::alloc::Global;
@@ -62,11 +61,11 @@ where
     ghost use Rattle.std.specs.Arc.{arc_value};
     ghost use Rattle.pipe_ends.specs.Rows.{HaveLeft};
     ghost use Rattle.router_rules.specs.Links.{link_count};
-    ghost use Rattle.run_laws.specs.Crew.{IsCrew};
+    ghost use Rattle.router_run.specs.Wiring.{IsCrew};
     ghost use Rattle.router_pipes.specs.Dealing.{piping};
     ghost use Rattle.run_report.specs.Room.{HaveSpace};
     ghost use Rattle.router_run.specs.Run.{Run};
-    ghost use Rattle.run_report.specs.Parting.{crew_of};
+    ghost use Rattle.run_report.specs.Crew.{crew_of};
 
     ghost Value = { Run S G K };
 
@@ -230,8 +229,6 @@ where
     pub fn finish(self) -> Report<S, K>
         ensures { HasRun S.told K.told K.failed self result.totals result.sent.items result.sources.items result.sinks.items }
     {
-        crews_end::<S, G, K>();
-        crews_return::<S, G, K>();
         rules_are_lawful();
         links_stand_in_order();
         causes_are_apart();

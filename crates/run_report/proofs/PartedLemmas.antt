@@ -20,11 +20,9 @@ use Rattle.stage_parts.specs.Told.{Told, told_of}
 use Rattle.router_pipes.specs.Handing.{AreMarked, NeverClosed}
 use Rattle.pipe_ends.specs.Rows.{Row, rows_of}
 use Rattle.pipe_ends.specs.Shutting.{AreMarking, PushMarks, shutter_ends}
-use Rattle.run_laws.specs.Came.{HasKept}
-use Rattle.run_laws.specs.Crew.{Crew}
-use Rattle.run_laws.specs.Ended.{HasMarked, outer_rows, takers_of}
+use Rattle.run_report.specs.Parting.{HasKept, HasMarked, IsParted, IsSized, shares_in}
+use Rattle.run_report.specs.Crew.{Crew, outer_rows, takers_of}
 use Rattle.run_report.specs.Room.{HaveSpace, IsRoomy, Space}
-use Rattle.run_report.specs.Parting.{IsParted, IsSized, shares_in}
 use Rattle.wired_workers.proofs.RestLemmas.{each_first}
 
 -- ---- numbers

@@ -1,2 +1,3 @@
+pub mod Crew
 pub mod Room
 pub mod Parting

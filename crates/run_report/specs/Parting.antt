@@ -1,20 +1,25 @@
 -- Workers that came back, and what is left of them.
-use Rattle.std.specs.Prelude.{◌≡◌, ◌*◌, ℕ, List, [], ◌∷◌, ◌++◌, length, map}
+use Rattle.std.specs.Prelude.{◌≡◌, ℕ, List, [], ◌∷◌, map, Option, length, ◌++◌, ◌*◌}
 use Rattle.pipeline_laws.specs.Deeds.{Each}
-use Rattle.pipeline_laws.specs.Item.{Arrival, Outgoing}
 use Rattle.pipeline_laws.specs.Settled.{SlowPathRequest}
-use Rattle.ruled_pipe.specs.Producer.{Sender}
 use Rattle.ruled_pipe.specs.Consumer.{Taker}
 use Rattle.router_rules.specs.Rules.{kinds}
-use Rattle.packet_ledger.specs.Share.{Held}
+use Rattle.router_laws.specs.Heard.{Heard}
+use Rattle.router_laws.specs.Keeping.{IsReceiving, IsWorking, IsAnswering, IsForwarding}
 use Rattle.router_stages.specs.Answering.{Answering}
 use Rattle.router_stages.specs.Forwarding.{Forwarding}
 use Rattle.router_stages.specs.Receiving.{Receiving}
 use Rattle.router_stages.specs.Working.{Working}
+use Rattle.stage_parts.specs.Outlets.{senders}
+use Rattle.stage_parts.specs.Told.{Told, told_of}
+use Rattle.router_pipes.specs.Handing.{NeverClosed, AreMarked}
+use Rattle.pipe_ends.specs.Shutting.{PushMarks, AreMarking}
+use Rattle.run_report.specs.Crew.{Crew, inner_rows, inner_takers, middle_row, outer_rows, takers_of}
+use Rattle.pipeline_laws.specs.Item.{Outgoing, Arrival}
 use Rattle.pipe_ends.specs.Rows.{Row, rows_of}
-use Rattle.pipe_ends.specs.Shutting.{Shutting}
-use Rattle.run_laws.specs.Crew.{Crew}
-use Rattle.run_laws.specs.Ended.{inner_rows, inner_takers, middle_row, outer_rows, takers_of}
+use Rattle.ruled_pipe.specs.Producer.{Sender}
+use Rattle.stage_parts.specs.Outlet.{IsMarked}
+use Rattle.packet_ledger.specs.Share.{Held}
 
 -- How many workers of each kind there are, and how many ends each has.
 pub record IsSized {S G K : Type 0} (links processors : ℕ) (w : Crew S G K) : Type 0 where
@@ -33,9 +38,22 @@ pub record IsParted {S G K : Type 0} (w : Crew S G K) (inner_bundles : List (Row
   pub outer_bundles_are : rows_of outer_bundles ≡ outer_rows w
   pub outer_are : outer ≡ takers_of w.forwarders
 
-abbrev pub crew_of : {S G K : Type 0} → List (Receiving S) → List (Working G) → List Answering → List (Forwarding K) → List (Shutting (Outgoing kinds)) → Crew S G K
-crew_of receivers processors slow forwarders shutters = record { receivers = receivers; processors = processors; slow = slow; forwarders = forwarders; shutters = shutters }
-
 -- the shares in the order in which the book closes them
 abbrev pub shares_in : {S G K : Type 0} → Crew S G K → List Held
 shares_in w = map (λ (r : Receiving _). r.side.share) w.receivers ++ (map (λ (p : Working _). p.side.share) w.processors ++ (map (λ (a : Answering). a.side.share) w.slow ++ map (λ (f : Forwarding _). f.side.share) w.forwarders))
+
+-- Their ends pushed no closing mark, and an end mark only as the last push; the controller's pushed marks alone.
+pub record HasMarked {S G K : Type 0} (w : Crew S G K) : Type 0 where
+  pub receivers : Each (λ (r : Receiving S). AreMarked r.side.processors) w.receivers
+  pub processors : Each (λ (p : Working G). AreMarked p.side.links × IsMarked p.slow.sender p.slow.ended) w.processors
+  pub slow : Each (λ (a : Answering). AreMarked a.side.links) w.slow
+  pub shutters : AreMarking w.shutters
+
+module _ {S G K : Type 0} (told : S → Option (List Heard)) (shown : K → Option (List Told)) (failed : K → ℕ) where
+  -- Each worker kept its law.
+  pub record HasKept (w : Crew S G K) : Type 0 where
+    pub receivers : Each (λ (r : Receiving S). IsReceiving r.side.config r.side.link r.side.interface r.number (told r.source) r.side.stock.free.looks (senders r.side.processors) r.side.share × NeverClosed (senders r.side.processors)) w.receivers
+    pub processors : Each (λ (p : Working G). IsWorking p.side.config p.taker p.hand (senders p.side.links) p.slow.sender p.side.share × NeverClosed (senders p.side.links)) w.processors
+    pub slow : Each (λ (a : Answering). IsAnswering a.side.config a.taker (senders a.side.links) a.side.share × NeverClosed (senders a.side.links)) w.slow
+    pub forwarders : Each (λ (f : Forwarding K). IsForwarding told_of f.low.taker f.high.taker f.low.shut f.high.shut (shown f.side.sink) f.began (failed f.side.sink) f.side.share) w.forwarders
+    pub controller : PushMarks w.shutters

@@ -6,8 +6,8 @@ ghost use Rattle.packet_ledger.specs.Share.{forwarded};
 ghost use Rattle.pipe_ends.specs.Rows.{HaveLeft, rows_of};
 ghost use Rattle.pipe_ends.specs.Settled.{AreSettled, HaveEnded, IsDone, IsEnded};
 ghost use Rattle.router_laws.specs.Totals.{totals_of};
-ghost use Rattle.run_laws.specs.Came.{HasKept};
-ghost use Rattle.run_laws.specs.Ended.{HasMarked};
+ghost use Rattle.run_report.specs.Parting.{HasKept};
+ghost use Rattle.run_report.specs.Parting.{HasMarked};
 ghost use Rattle.run_report.specs.Parting.{IsParted, IsSized, shares_in};
 ghost use Rattle.run_report.specs.Room.{HaveSpace};
 

@@ -28,7 +28,7 @@ where
     K: Sink,
     G: Gate,
 {
-    ghost use Rattle.run_laws.specs.Crew.{Crew};
+    ghost use Rattle.run_report.specs.Crew.{Crew};
 
     ghost Value = { Crew S G K };
 

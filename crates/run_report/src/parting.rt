@@ -10,7 +10,7 @@ ghost use Rattle.stage_parts.specs.Told.{told_of};
 ghost use Rattle.router_pipes.specs.Handing.{AreMarked, NeverClosed};
 ghost use Rattle.pipe_ends.specs.Rows.{rows_of};
 ghost use Rattle.pipe_ends.specs.Shutting.{AreMarking, PushMarks, shutter_ends};
-ghost use Rattle.run_laws.specs.Ended.{takers_of};
+ghost use Rattle.run_report.specs.Crew.{takers_of};
 ghost use Rattle.run_report.specs.Room.{IsRoomy};
 
 use packet_ledger::Share;

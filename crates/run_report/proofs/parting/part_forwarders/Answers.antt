@@ -4,7 +4,7 @@ use Rattle.pipeline_laws.specs.Item.{Outgoing}
 use Rattle.router_rules.specs.Rules.{kinds}
 use Rattle.router_stages.specs.Forwarding.{Forwarding}
 use Rattle.ruled_pipe.specs.Consumer.{Taker}
-use Rattle.run_laws.specs.Ended.{takers_of}
+use Rattle.run_report.specs.Crew.{takers_of}
 use Rattle.run_report.proofs.PartLemmas.{each_none, each_same, longer, none_left, started, same_after, grown, room_kept, fits_still}
 use Rattle.wired_workers.proofs.RestLemmas.{all_done, each_back, shorter}
 use Rattle.run_report.proofs.parting.part_forwarders.Goals as goal

@@ -3,7 +3,7 @@ use Rattle.packet_ledger.specs.Share.{forwarded}
 use Rattle.pipeline_laws.specs.Deeds.{Each}
 use Rattle.router_laws.specs.Keeping.{IsForwarding}
 use Rattle.stage_parts.specs.Told.{told_of}
-use Rattle.run_laws.specs.Ended.{takers_of}
+use Rattle.run_report.specs.Crew.{takers_of}
 use Rattle.run_report.proofs.parting.part_forwarders.Given as goal
 
 abbrev pub invariant-loop-k : goal.invariant-loop-k

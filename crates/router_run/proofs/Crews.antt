@@ -4,7 +4,6 @@ use Rattle.std.proofs.lemmas.List.{length-map}
 use Rattle.pipeline_laws.specs.Item.{Arrival, Outgoing}
 use Rattle.pipeline_laws.specs.Settled.{SlowPathRequest}
 use Rattle.process_packet.specs.declared.config.Config.{Config}
-use Rattle.ruled_pipe.specs.Producer.{Sender}
 use Rattle.ruled_pipe.specs.Consumer.{Taker}
 use Rattle.router_rules.specs.Links.{link_count}
 use Rattle.router_rules.specs.Rules.{kinds}
@@ -12,18 +11,23 @@ use Rattle.router_stages.specs.Answering.{Answering}
 use Rattle.router_stages.specs.Receiving.{Receiving}
 use Rattle.router_stages.specs.Working.{Working}
 use Rattle.stage_parts.specs.Outlets.{are_used, senders}
-use Rattle.router_pipes.specs.Handing.{Finishes}
 use Rattle.pipe_ends.specs.Rows.{Row, rows_of}
 use Rattle.pipe_ends.specs.Settled.{AreBundles, AreTaken, HasTaken, HaveEnded, IsEnded}
-use Rattle.pipe_ends.specs.Shutting.{ShuttersFinish, shutter_ends}
+use Rattle.pipe_ends.specs.Shutting.{shutter_ends}
 use Rattle.stage_parts.specs.Back.{AreBack}
-use Rattle.run_laws.specs.Crew.{AreAnswering, Crew, IsCrew}
+use Rattle.router_run.specs.Wiring.{AreAnswering, IsCrew}
+use Rattle.run_report.specs.Crew.{Crew, inner_rows, inner_takers, middle_row, middle_takers, outer_rows, takers_of}
 use Rattle.router_pipes.specs.Piping.{Piping}
-use Rattle.run_laws.specs.Ended.{CrewsEnd, HasMarked, IsBack, inner_rows, inner_takers, middle_row, middle_takers, outer_rows, takers_of}
-use Rattle.run_laws.proofs.Rows.{A, P, R, back_long, inner_bundles, inner_taken, last_bundles, middle_ends, outer_bundles, outer_taken, slow_taken, working_long}
+use Rattle.run_report.specs.Parting.{HasMarked}
+use Rattle.router_run.specs.Back.{IsBack}
+use Rattle.run_report.proofs.PartedLemmas.{rows_long}
+use Rattle.router_run.proofs.Rows.{A, P, R, back_long, inner_bundles, inner_taken, last_bundles, middle_ends, outer_bundles, outer_taken, slow_taken, working_long}
 
-rows_long : {T : Type 0} (bs : List (Row T)) (rows : List (List (Sender T))) → rows_of bs ≡ rows → length bs ≡ length rows
-rows_long bs rows e = sym (length-map bs (λ (r : Row _). r.ends)) ∙ ap length e
+-- All pipes have ended.
+pub record PipesEnd {S G K : Type 0} (p : Piping) (w : Crew S G K) : Type 0 where
+  pub inner : (bundles : List (Row (Arrival kinds))) → rows_of bundles ≡ inner_rows w → HaveEnded p.inner bundles (inner_takers w)
+  pub middle : (t : Taker (SlowPathRequest kinds)) → middle_takers w ≡ t ∷ [] → IsEnded true p.middle (middle_row w) t
+  pub outer : (bundles : List (Row (Outgoing kinds))) → rows_of bundles ≡ outer_rows w → HaveEnded p.outer bundles (takers_of w.forwarders)
 
 module _ (c : Config) (p : Piping) where
   one_slow : (xs ys : List Answering) → AreAnswering c p xs → AreBack (A c p) xs ys → length ys ≡ 1
@@ -38,7 +42,7 @@ module _ (c : Config) (p : Piping) where
   middle_taken (a ∷ []) (b ∷ d ∷ ys) t are back same = absurd back.1
   middle_taken (a ∷ []) (b ∷ []) t are back same = let e : b.taker ≡ t = cc in subst (λ (u : Taker (SlowPathRequest kinds)). HasTaken true p.middle u) e (slow_taken c p a b are back.0)
 
-module _ {S G K : Type 0} (f : Finishes (Arrival kinds)) (g : Finishes (Outgoing kinds)) (h : ShuttersFinish (Outgoing kinds)) (c : Config) (p : Piping) (old new : Crew S G K) (is : IsCrew c p old) (back : IsBack old new) (marked : HasMarked new) where
+module _ {S G K : Type 0} (c : Config) (p : Piping) (old new : Crew S G K) (is : IsCrew c p old) (back : IsBack old new) (marked : HasMarked new) where
   worked : length new.processors ≡ c.processors
   worked = back_long (P c p) old.processors new.processors back.processors ∙ (working_long c p 0 p.inner old.processors is.processors ∙ is.pipes.processors)
 
@@ -46,7 +50,7 @@ module _ {S G K : Type 0} (f : Finishes (Arrival kinds)) (g : Finishes (Outgoing
   inner_count bs same =
       let a = rows_long bs (inner_rows new) same in
       let b = length-map new.receivers (λ (r : Receiving S). senders r.side.processors) in
-      let d = back_long (R f c p) old.receivers new.receivers back.receivers in
+      let d = back_long (R c p) old.receivers new.receivers back.receivers in
       let e = is.receiver_count in
       omega arith
 
@@ -66,7 +70,7 @@ module _ {S G K : Type 0} (f : Finishes (Arrival kinds)) (g : Finishes (Outgoing
   inner : (bs : List (Row (Arrival kinds))) → rows_of bs ≡ inner_rows new → HaveEnded p.inner bs (inner_takers new)
   inner bs same = record {
     uses = λ j. true;
-    theirs = inner_bundles f c p 0 old.receivers new.receivers bs is.receivers back.receivers marked.receivers same;
+    theirs = inner_bundles c p 0 old.receivers new.receivers bs is.receivers back.receivers marked.receivers same;
     taken = subst (λ (n : ℕ). AreTaken (λ j. true) 0 n p.inner (inner_takers new)) (inner_count bs same) (inner_taken c p 0 (link_count c) 0 p.inner old.processors new.processors is.pipes.inner is.processors back.processors);
   }
 
@@ -80,14 +84,14 @@ module _ {S G K : Type 0} (f : Finishes (Arrival kinds)) (g : Finishes (Outgoing
   last : (cs : List (Row (Outgoing kinds))) → rows_of cs ≡ map (λ (a : Answering). senders a.side.links) new.slow ++ (shutter_ends new.shutters ∷ []) → AreBundles (are_used c) (0 + length p.inner) p.outer cs
   last cs same =
       let e : c.processors ≡ 0 + length p.inner = let q = is.pipes.processors in omega arith in
-      subst (λ (m : ℕ). AreBundles (are_used c) m p.outer cs) e (last_bundles c p g h old.slow new.slow old.shutters new.shutters cs is.slow back.slow marked.slow is.shutters back.shutters marked.shutters same)
+      subst (λ (m : ℕ). AreBundles (are_used c) m p.outer cs) e (last_bundles c p old.slow new.slow old.shutters new.shutters cs is.slow back.slow marked.slow is.shutters back.shutters marked.shutters same)
 
   outer : (bs : List (Row (Outgoing kinds))) → rows_of bs ≡ outer_rows new → HaveEnded p.outer bs (takers_of new.forwarders)
   outer bs same = record {
     uses = are_used c;
-    theirs = outer_bundles c p g 0 p.inner old.processors new.processors (map (λ (a : Answering). senders a.side.links) new.slow ++ (shutter_ends new.shutters ∷ [])) bs is.processors back.processors marked.processors same last;
+    theirs = outer_bundles c p 0 p.inner old.processors new.processors (map (λ (a : Answering). senders a.side.links) new.slow ++ (shutter_ends new.shutters ∷ [])) bs is.processors back.processors marked.processors same last;
     taken = subst (λ (n : ℕ). AreTaken (are_used c) 0 n p.outer (takers_of new.forwarders)) (outer_count bs same) (outer_taken c 0 (c.processors + 2) p.outer old.forwarders new.forwarders is.pipes.outer is.forwarders back.forwarders);
   }
 
-pub crews_end : {S G K : Type 0} → Finishes (Arrival kinds) → Finishes (Outgoing kinds) → ShuttersFinish (Outgoing kinds) → CrewsEnd S G K
-crews_end f g h c p old new is back marked = record { inner = inner f g h c p old new is back marked; middle = middle f g h c p old new is back marked; outer = outer f g h c p old new is back marked }
+  pub crews_end : PipesEnd p new
+  crews_end = record { inner = inner; middle = middle; outer = outer }

@@ -24,25 +24,26 @@ use Rattle.stage_parts.specs.Outlet.{Offering}
 use Rattle.stage_parts.specs.Outlets.{are_used, senders}
 use Rattle.stage_parts.specs.Told.{Told, told_of}
 use Rattle.router_pipes.specs.Handing.{NeverClosed}
-use Rattle.pipe_ends.specs.Settled.{ReadsColumns}
 use Rattle.pipe_ends.specs.Shutting.{EachEnds, Shutting, closed_at, shutter_ends}
 use Rattle.stage_parts.specs.Back.{AreBack}
 use Rattle.router_stages.specs.SameReceiver.{IsSameReceiver, ReceiverEnded}
 use Rattle.router_stages.specs.SameProcessor.{IsSameProcessor, ProcessorEnded}
 use Rattle.router_stages.specs.SameSlowPath.{IsSameSlowPath, SlowPathEnded}
-use Rattle.run_laws.specs.Crew.{AreAnswering, AreForwarding, AreWorking, Crew, IsCrew, IsReceivingAt}
+use Rattle.router_run.specs.Wiring.{AreAnswering, AreForwarding, AreWorking, IsCrew, IsReceivingAt}
+use Rattle.run_report.specs.Crew.{Crew, inner_rows, inner_takers, middle_row, outer_rows, takers_of}
 use Rattle.wired_workers.specs.Kits.{IsAnsweringAt, IsWorkingAt}
 use Rattle.router_pipes.specs.Piping.{Piping}
-use Rattle.run_laws.specs.Ended.{IsBack, inner_rows, inner_takers, middle_row, outer_rows, takers_of}
-use Rattle.run_laws.specs.Came.{CrewsReturn, HasKept, HasSettled, back_of, forwarder_back, processor_back, receiver_back}
+use Rattle.router_run.specs.Back.{IsBack, HasSettled, back_of, forwarder_back, processor_back, receiver_back}
+use Rattle.run_report.specs.Parting.{HasKept}
+use Rattle.pipe_ends.proofs.SettledLemmas.{column_of}
 use Rattle.router_pipes.proofs.ClosingLemmas.{shutters_long}
-use Rattle.run_laws.proofs.Ends.{ends_long, same_ends}
-use Rattle.run_laws.proofs.Rows.{back_long, working_long}
+use Rattle.router_run.proofs.Ends.{ends_long, same_ends}
+use Rattle.router_run.proofs.Rows.{back_long, working_long}
 
 -- ---- lists
 
 module _ {X Y Z : Type 0} where
-  map_twice : (f : X → Y) (g : Y → Z) (xs : List X) → map g (map f xs) ≡ map (λ (x : X). g (f x)) xs
+  pub map_twice : (f : X → Y) (g : Y → Z) (xs : List X) → map g (map f xs) ≡ map (λ (x : X). g (f x)) xs
   map_twice f g [] = refl
   map_twice f g (x ∷ xs) = ap (λ (zs : List Z). g (f x) ∷ zs) (map_twice f g xs)
 
@@ -67,7 +68,7 @@ each_all : {X Y : Type 0} (Q : X → Type 0) (W : ℕ → Y → Type 0) (f : X �
 each_all Q W f go n [] all = tt
 each_all Q W f go n (x ∷ xs) all = (go n x all.0, each_all Q W f go (n + 1) xs all.1)
 
-long_of : {T : Type 0} (xs : List (Offering T)) → length (senders xs) ≡ length xs
+pub long_of : {T : Type 0} (xs : List (Offering T)) → length (senders xs) ≡ length xs
 long_of xs = length-map xs (λ (o : Offering _). o.sender)
 
 -- ---- each worker's law, at its number
@@ -136,7 +137,7 @@ module _ (c : Config) (p : Piping) (links : length p.outer ≡ 2 * link_count c)
 -- ---- forwarders and shutters
 
 module _ {K : Type 0} where
-  forwarding_long : (c : Config) (l : ℕ) (ss : List Shape) (fs : List (Forwarding K)) → AreForwarding c l ss fs → length ss ≡ 2 * length fs
+  pub forwarding_long : (c : Config) (l : ℕ) (ss : List Shape) (fs : List (Forwarding K)) → AreForwarding c l ss fs → length ss ≡ 2 * length fs
   forwarding_long c l [] [] are = refl
   forwarding_long c l [] (f ∷ fs) are = absurd are
   forwarding_long c l (s ∷ []) fs are = absurd are
@@ -162,7 +163,7 @@ module _ {T : Type 0} where
 
 -- ---- all together
 
-module _ {S G K : Type 0} (inner : ReadsColumns (Arrival kinds)) (outer : ReadsColumns (Outgoing kinds)) (told : S → Option (List Heard)) (shown : K → Option (List Told)) (failed : K → ℕ) (c : Config) (p : Piping) (old new : Crew S G K) (a : Answering)
+module _ {S G K : Type 0} (told : S → Option (List Heard)) (shown : K → Option (List Told)) (failed : K → ℕ) (c : Config) (p : Piping) (old new : Crew S G K) (a : Answering)
     (is : IsCrew c p old) (back : IsBack old new) (kept : HasKept told shown failed new) (settled : HasSettled p new) (one : new.slow ≡ a ∷ []) where
   abbrev b : Returned Told
   b = back_of told shown failed new a
@@ -181,8 +182,8 @@ module _ {S G K : Type 0} (inner : ReadsColumns (Arrival kinds)) (outer : ReadsC
   middle_are : middle_row new ≡ map (λ (q : ProcessorBack). q.slow) b.processors
   middle_are = sym (map_twice processor_back (λ (q : ProcessorBack). q.slow) new.processors)
 
-  pub returned : HaveReturned told_of c b (closed_at new.shutters)
-  returned = record {
+  pub crews_return : HaveReturned told_of c b (closed_at new.shutters)
+  crews_return = record {
     receivers = receivers_kept told c p is.pipes.processors 0 old.receivers new.receivers is.receivers back.receivers kept.receivers;
     processors = processors_kept c p is.pipes.links 0 p.inner old.processors new.processors is.processors back.processors kept.processors;
     slow = slow.0;
@@ -192,7 +193,7 @@ module _ {S G K : Type 0} (inner : ReadsColumns (Arrival kinds)) (outer : ReadsC
     forwarder_count = length-map new.forwarders (forwarder_back shown failed) ∙ (back_long _ old.forwarders new.forwarders back.forwarders ∙ forwarders_long);
     controller_count = length-map new.shutters (λ (h : Shutting (Outgoing kinds)). h.end) ∙ (each_ends_long old.shutters new.shutters back.shutters ∙ (shutters_long (are_used c) 0 (c.processors + 1) p.outer old.shutters is.shutters ∙ is.pipes.links));
     inner = λ i q at. subst (λ (rows : List (List (Sender (Arrival kinds)))). (row : List (Sender (Arrival kinds))) × IsColumn i rows row × TookAll row (pushes q.taker.taken)) inner_are
-        (inner (inner_rows new) p.inner (inner_takers new) settled.inner i q.taker (read_other processor_back (λ (w : Working G). w.taker) (λ (x : ProcessorBack). x.taker) (λ w. refl) new.processors i q at));
+        (column_of (inner_rows new) p.inner (inner_takers new) settled.inner i q.taker (read_other processor_back (λ (w : Working G). w.taker) (λ (x : ProcessorBack). x.taker) (λ w. refl) new.processors i q at));
     middle = subst (λ (row : List (Sender (SlowPathRequest kinds))). TookAll row (pushes a.taker.taken)) middle_are (settled.middle a.taker (ap (map (λ (x : Answering). x.taker)) one)).took;
     low = λ l f at. let g = found_at (forwarder_back shown failed) new.forwarders l f at in
         let low : g.0.low.taker ≡ f.low = ap (λ (x : ForwarderBack Told). x.low) g.1.1 in
@@ -213,7 +214,4 @@ module _ {S G K : Type 0} (inner : ReadsColumns (Arrival kinds)) (outer : ReadsC
 
       column : (j : ℕ) (t : Taker (Outgoing kinds)) → slice_get (takers_of new.forwarders) j ≡ Some t → (row : List (Sender (Outgoing kinds))) × IsColumn j (link_rows b) row × TookAll row (pushes t.taken)
       column j t at = subst (λ (rows : List (List (Sender (Outgoing kinds)))). (row : List (Sender (Outgoing kinds))) × IsColumn j rows row × TookAll row (pushes t.taken)) outer_are
-          (outer (outer_rows new) p.outer (takers_of new.forwarders) settled.outer j t at)
-
-pub crews_return : {S G K : Type 0} → ReadsColumns (Arrival kinds) → ReadsColumns (Outgoing kinds) → CrewsReturn S G K
-crews_return inner outer told shown failed c p old new a is back kept settled one = returned inner outer told shown failed c p old new a is back kept settled one
+          (column_of (outer_rows new) p.outer (takers_of new.forwarders) settled.outer j t at)

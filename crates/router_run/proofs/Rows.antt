@@ -17,21 +17,23 @@ use Rattle.router_stages.specs.Working.{Working}
 use Rattle.stage_parts.specs.Outlet.{IsMarked}
 use Rattle.stage_parts.specs.Outlets.{are_used, senders}
 use Rattle.stage_parts.specs.Outlets as outlets
-use Rattle.router_pipes.specs.Handing.{AreMarked, AreSpared, Finishes}
+use Rattle.router_pipes.specs.Handing.{AreMarked, AreSpared}
 use Rattle.pipe_ends.specs.Rows.{AreFor, Row, rows_of}
 use Rattle.pipe_ends.specs.Settled.{AreBundles, AreFinished, AreOfPipe, AreTaken, HasTaken, IsFinal}
-use Rattle.pipe_ends.specs.Shutting.{AreMarking, AreShutters, EachEnds, Shutting, ShuttersFinish, shutter_ends}
+use Rattle.pipe_ends.specs.Shutting.{AreMarking, AreShutters, EachEnds, Shutting, shutter_ends}
 use Rattle.stage_parts.specs.Back.{AreBack}
 use Rattle.stage_parts.specs.Same.{AreSameEnds, IsSameTaker}
 use Rattle.router_stages.specs.SameReceiver.{IsSameReceiver, ReceiverEnded}
 use Rattle.router_stages.specs.SameProcessor.{IsSameProcessor, ProcessorEnded}
 use Rattle.router_stages.specs.SameSlowPath.{IsSameSlowPath, SlowPathEnded}
 use Rattle.router_stages.specs.SameForwarder.{IsSameForwarder}
-use Rattle.run_laws.specs.Crew.{IsReceivingAt, AreWorking, AreAnswering, IsForwardingAt, AreForwarding}
+use Rattle.router_run.specs.Wiring.{IsReceivingAt, AreWorking, AreAnswering, IsForwardingAt, AreForwarding}
 use Rattle.router_pipes.specs.Piping.{Piping, IsTakerOf}
 use Rattle.wired_workers.specs.Kits.{IsWorkingAt, IsAnsweringAt}
-use Rattle.run_laws.specs.Ended.{takers_of}
-use Rattle.run_laws.proofs.Ends.{same_ends, spared}
+use Rattle.run_report.specs.Crew.{takers_of}
+use Rattle.router_run.proofs.Ends.{same_ends, spared}
+use Rattle.pipe_ends.proofs.ShuttingLemmas.{shutters_finish}
+use Rattle.router_pipes.proofs.HandingLemmas.{finishes}
 use Rattle.stage_parts.proofs.UsedLemmas.{used_high}
 
 module _ {X Y : Type 0} where
@@ -52,7 +54,7 @@ has_taken used s t is all = record { pipe = is.0; producers = is.1; capacity = i
 
 -- ---- receivers and processors' pipes
 
-module _ {S : Type 0} (finishes : Finishes (Arrival kinds)) (c : Config) (p : Piping) where
+module _ {S : Type 0} (c : Config) (p : Piping) where
   abbrev pub R : Receiving S → Receiving S → Type 0
   R a b = IsSameReceiver a b × ReceiverEnded b
 
@@ -113,8 +115,8 @@ module _ {G : Type 0} (c : Config) (p : Piping) where
   working_long i (s ∷ ss) (x ∷ xs) are = let r = working_long (i + 1) ss xs are.1 in omega arith
 
   -- a processor's ends of the links' pipes
-  processor_finished : Finishes (Outgoing kinds) → (i : ℕ) (s : Shape) (a b : Working G) → IsWorkingAt c p i s a → P a b → AreMarked b.side.links → AreFinished (are_used c) 0 i p.outer (senders b.side.links)
-  processor_finished finishes i s a b is back marked =
+  processor_finished : (i : ℕ) (s : Shape) (a b : Working G) → IsWorkingAt c p i s a → P a b → AreMarked b.side.links → AreFinished (are_used c) 0 i p.outer (senders b.side.links)
+  processor_finished i s a b is back marked =
       let old : a.side.config ≡ c = is.config in
       let new : b.side.config ≡ c = back.0.config ∙ is.config in
       let same = subst (λ (d : Config). AreSameEnds (are_used d) a.side.links b.side.links) old back.0.links in
@@ -128,25 +130,25 @@ module _ {G : Type 0} (c : Config) (p : Piping) where
   links_of ws = map (λ (w : Working G). senders w.side.links) ws
 
   -- the bundles of the processors from number i on, and of those after them
-  pub outer_bundles : Finishes (Outgoing kinds) → (i : ℕ) (ss : List Shape) (xs ys : List (Working G)) (tail : List (List (Sender (Outgoing kinds)))) (bs : List (Row (Outgoing kinds)))
+  pub outer_bundles : (i : ℕ) (ss : List Shape) (xs ys : List (Working G)) (tail : List (List (Sender (Outgoing kinds)))) (bs : List (Row (Outgoing kinds)))
       → AreWorking c p i ss xs → AreBack P xs ys → Each (λ (w : Working G). AreMarked w.side.links × IsMarked w.slow.sender w.slow.ended) ys
       → rows_of bs ≡ links_of ys ++ tail
       → ((cs : List (Row (Outgoing kinds))) → rows_of cs ≡ tail → AreBundles (are_used c) (i + length ss) p.outer cs)
       → AreBundles (are_used c) i p.outer bs
-  outer_bundles f i [] [] [] tail bs are back marked same rest = let e : i + 0 ≡ i = omega arith in subst (λ (m : ℕ). AreBundles (are_used c) m p.outer bs) e (rest bs same)
-  outer_bundles f i [] [] (y ∷ ys) tail bs are back marked same rest = absurd back
-  outer_bundles f i [] (x ∷ xs) ys tail bs are back marked same rest = absurd are
-  outer_bundles f i (s ∷ ss) [] ys tail bs are back marked same rest = absurd are
-  outer_bundles f i (s ∷ ss) (x ∷ xs) [] tail bs are back marked same rest = absurd back
-  outer_bundles f i (s ∷ ss) (x ∷ xs) (y ∷ ys) tail [] are back marked same rest = absurd cc
-  outer_bundles f i (s ∷ ss) (x ∷ xs) (y ∷ ys) tail (b ∷ bs) are back marked same rest =
+  outer_bundles i [] [] [] tail bs are back marked same rest = let e : i + 0 ≡ i = omega arith in subst (λ (m : ℕ). AreBundles (are_used c) m p.outer bs) e (rest bs same)
+  outer_bundles i [] [] (y ∷ ys) tail bs are back marked same rest = absurd back
+  outer_bundles i [] (x ∷ xs) ys tail bs are back marked same rest = absurd are
+  outer_bundles i (s ∷ ss) [] ys tail bs are back marked same rest = absurd are
+  outer_bundles i (s ∷ ss) (x ∷ xs) [] tail bs are back marked same rest = absurd back
+  outer_bundles i (s ∷ ss) (x ∷ xs) (y ∷ ys) tail [] are back marked same rest = absurd cc
+  outer_bundles i (s ∷ ss) (x ∷ xs) (y ∷ ys) tail (b ∷ bs) are back marked same rest =
       let head : b.ends ≡ senders y.side.links = cc in
       let others : rows_of bs ≡ links_of ys ++ tail = cc in
       let next : i + 1 ≡ suc i = omega arith in
       let far : i + suc (length ss) ≡ (i + 1) + length ss = omega arith in (
-        subst (λ (es : List (Sender (Outgoing kinds))). AreFinished (are_used c) 0 i p.outer es) (sym head) (processor_finished f i s x y are.0 back.0 marked.0.0),
+        subst (λ (es : List (Sender (Outgoing kinds))). AreFinished (are_used c) 0 i p.outer es) (sym head) (processor_finished i s x y are.0 back.0 marked.0.0),
         subst (λ (m : ℕ). AreBundles (are_used c) m p.outer bs) next
-            (outer_bundles f (i + 1) ss xs ys tail bs are.1 back.1 marked.1 others (λ cs e. subst (λ (m : ℕ). AreBundles (are_used c) m p.outer cs) far (rest cs e))),
+            (outer_bundles (i + 1) ss xs ys tail bs are.1 back.1 marked.1 others (λ cs e. subst (λ (m : ℕ). AreBundles (are_used c) m p.outer cs) far (rest cs e))),
       )
 
 -- ---- the slow path and the controller
@@ -155,8 +157,8 @@ module _ (c : Config) (p : Piping) where
   abbrev pub A : Answering → Answering → Type 0
   A a b = IsSameSlowPath a b × SlowPathEnded b
 
-  slow_finished : Finishes (Outgoing kinds) → (a b : Answering) → IsAnsweringAt c p a → A a b → AreMarked b.side.links → AreFinished (are_used c) 0 c.processors p.outer (senders b.side.links)
-  slow_finished finishes a b is back marked =
+  slow_finished : (a b : Answering) → IsAnsweringAt c p a → A a b → AreMarked b.side.links → AreFinished (are_used c) 0 c.processors p.outer (senders b.side.links)
+  slow_finished a b is back marked =
       let old : a.side.config ≡ c = is.config in
       let new : b.side.config ≡ c = back.0.config ∙ is.config in
       let same = subst (λ (d : Config). AreSameEnds (are_used d) a.side.links b.side.links) old back.0.links in
@@ -170,24 +172,24 @@ module _ (c : Config) (p : Piping) where
   slow_taken a b is back = has_taken true p.middle b.taker (taken_of p.middle a.taker b.taker is.taker back.0.taker) (λ u. let d = back.1.done in omega arith)
 
   -- their bundles are the last two
-  pub last_bundles : Finishes (Outgoing kinds) → ShuttersFinish (Outgoing kinds) → (xs ys : List Answering) (hs ks : List (Shutting (Outgoing kinds))) (rows : List (Row (Outgoing kinds)))
+  pub last_bundles : (xs ys : List Answering) (hs ks : List (Shutting (Outgoing kinds))) (rows : List (Row (Outgoing kinds)))
       → AreAnswering c p xs → AreBack A xs ys → Each (λ (a : Answering). AreMarked a.side.links) ys → AreShutters (are_used c) 0 (c.processors + 1) p.outer hs → EachEnds hs ks → AreMarking ks
       → rows_of rows ≡ map (λ (a : Answering). senders a.side.links) ys ++ (shutter_ends ks ∷ []) → AreBundles (are_used c) c.processors p.outer rows
-  last_bundles f g [] ys hs ks rows are back marked shut ends marking same = absurd are
-  last_bundles f g (a ∷ b ∷ xs) ys hs ks rows are back marked shut ends marking same = absurd are
-  last_bundles f g (a ∷ []) [] hs ks rows are back marked shut ends marking same = absurd back
-  last_bundles f g (a ∷ []) (b ∷ d ∷ ys) hs ks rows are back marked shut ends marking same = absurd back.1
-  last_bundles f g (a ∷ []) (b ∷ []) hs ks [] are back marked shut ends marking same = absurd cc
-  last_bundles f g (a ∷ []) (b ∷ []) hs ks (r ∷ []) are back marked shut ends marking same = absurd cc
-  last_bundles f g (a ∷ []) (b ∷ []) hs ks (r ∷ s ∷ t ∷ rows) are back marked shut ends marking same = absurd cc
-  last_bundles f g (a ∷ []) (b ∷ []) hs ks (r ∷ s ∷ []) are back marked shut ends marking same =
+  last_bundles [] ys hs ks rows are back marked shut ends marking same = absurd are
+  last_bundles (a ∷ b ∷ xs) ys hs ks rows are back marked shut ends marking same = absurd are
+  last_bundles (a ∷ []) [] hs ks rows are back marked shut ends marking same = absurd back
+  last_bundles (a ∷ []) (b ∷ d ∷ ys) hs ks rows are back marked shut ends marking same = absurd back.1
+  last_bundles (a ∷ []) (b ∷ []) hs ks [] are back marked shut ends marking same = absurd cc
+  last_bundles (a ∷ []) (b ∷ []) hs ks (r ∷ []) are back marked shut ends marking same = absurd cc
+  last_bundles (a ∷ []) (b ∷ []) hs ks (r ∷ s ∷ t ∷ rows) are back marked shut ends marking same = absurd cc
+  last_bundles (a ∷ []) (b ∷ []) hs ks (r ∷ s ∷ []) are back marked shut ends marking same =
       let first : r.ends ≡ senders b.side.links = cc in
       let second : s.ends ≡ shutter_ends ks = cc in
       let next : c.processors + 1 ≡ suc c.processors = omega arith in (
-        subst (λ (es : List (Sender (Outgoing kinds))). AreFinished (are_used c) 0 c.processors p.outer es) (sym first) (slow_finished f a b are back.0 marked.0),
+        subst (λ (es : List (Sender (Outgoing kinds))). AreFinished (are_used c) 0 c.processors p.outer es) (sym first) (slow_finished a b are back.0 marked.0),
         (
           subst (λ (es : List (Sender (Outgoing kinds))). AreFinished (are_used c) 0 (suc c.processors) p.outer es) (sym second)
-              (subst (λ (m : ℕ). AreFinished (are_used c) 0 m p.outer (shutter_ends ks)) next (g (are_used c) (c.processors + 1) p.outer hs ks shut ends marking)),
+              (subst (λ (m : ℕ). AreFinished (are_used c) 0 m p.outer (shutter_ends ks)) next (shutters_finish (are_used c) (c.processors + 1) p.outer hs ks shut ends marking)),
           tt,
         ),
       )

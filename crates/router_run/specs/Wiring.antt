@@ -1,28 +1,19 @@
--- The workers of a router, as they begin.
-use Rattle.std.specs.Prelude.{◌≡◌, ◌+◌, ℕ, List, [], ◌∷◌, length}
-use Rattle.pipeline_laws.specs.Item.{Outgoing}
+-- A router's workers over their pipes, as they begin.
+use Rattle.std.specs.Prelude.{◌≡◌, ℕ, List, [], ◌∷◌, ◌+◌, length}
 use Rattle.process_packet.specs.declared.config.Config.{Config}
-use Rattle.ruled_pipe.specs.Pipe.{Shape}
-use Rattle.router_rules.specs.Links.{interface_at, link_count}
-use Rattle.router_rules.specs.Rules.{kinds}
 use Rattle.router_laws.specs.Returned.{AllAt}
 use Rattle.router_stages.specs.Answering.{Answering}
 use Rattle.router_stages.specs.Forwarding.{Forwarding}
 use Rattle.router_stages.specs.Receiving.{Receiving}
 use Rattle.router_stages.specs.Working.{Working}
-use Rattle.stage_parts.specs.Outlets.{are_used, senders}
+use Rattle.stage_parts.specs.Outlets.{senders, are_used}
+use Rattle.pipe_ends.specs.Shutting.{AreOpen, AreShutters}
+use Rattle.run_report.specs.Crew.{Crew}
+use Rattle.router_pipes.specs.Piping.{Piping, IsPiping, IsTakerOf}
+use Rattle.ruled_pipe.specs.Pipe.{Shape}
+use Rattle.router_rules.specs.Links.{interface_at, link_count}
 use Rattle.pipe_ends.specs.Rows.{AreEndsOf}
-use Rattle.pipe_ends.specs.Shutting.{AreOpen, AreShutters, Shutting}
 use Rattle.wired_workers.specs.Kits.{IsAnsweringAt, IsWorkingAt}
-use Rattle.router_pipes.specs.Piping.{IsPiping, IsTakerOf, Piping}
-
--- the workers, and the controller's ends
-pub record Crew (S G K : Type 0) : Type 0 where
-  pub receivers : List (Receiving S)
-  pub processors : List (Working G)
-  pub slow : List Answering
-  pub forwarders : List (Forwarding K)
-  pub shutters : List (Shutting (Outgoing kinds))
 
 module _ {S : Type 0} where
   -- the receiver of a link has the producers of its number of the processors' pipes

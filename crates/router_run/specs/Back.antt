@@ -1,0 +1,61 @@
+-- A router's workers as they came back.
+use Rattle.std.specs.Prelude.{◌≡◌, ℕ, List, [], ◌∷◌, map, Option}
+use Rattle.pipeline_laws.specs.Settled.{SlowPathRequest}
+use Rattle.ruled_pipe.specs.Consumer.{Taker}
+use Rattle.router_rules.specs.Rules.{kinds}
+use Rattle.router_laws.specs.Heard.{Heard}
+use Rattle.router_laws.specs.Returned.{ReceiverBack, ProcessorBack, SlowBack, ForwarderBack, Returned}
+use Rattle.router_stages.specs.Answering.{Answering}
+use Rattle.router_stages.specs.Forwarding.{Forwarding, ForwarderEnded}
+use Rattle.router_stages.specs.Receiving.{Receiving}
+use Rattle.router_stages.specs.Working.{Working}
+use Rattle.stage_parts.specs.Outlets.{senders}
+use Rattle.stage_parts.specs.Told.{Told}
+use Rattle.pipe_ends.specs.Settled.{AreSettled, IsDone}
+use Rattle.pipe_ends.specs.Shutting.{shutter_ends, EachEnds}
+use Rattle.run_report.specs.Crew.{Crew, inner_rows, inner_takers, middle_row, middle_takers, outer_rows, takers_of}
+use Rattle.router_pipes.specs.Piping.{Piping}
+use Rattle.stage_parts.specs.Back.{AreBack}
+use Rattle.router_stages.specs.SameReceiver.{IsSameReceiver, ReceiverEnded}
+use Rattle.router_stages.specs.SameProcessor.{IsSameProcessor, ProcessorEnded}
+use Rattle.router_stages.specs.SameSlowPath.{IsSameSlowPath, SlowPathEnded}
+use Rattle.router_stages.specs.SameForwarder.{IsSameForwarder}
+
+-- Each worker is the same and has ended; the controller's end marks are there.
+pub record IsBack {S G K : Type 0} (old new : Crew S G K) : Type 0 where
+  pub receivers : AreBack (λ a b. IsSameReceiver a b × ReceiverEnded b) old.receivers new.receivers
+  pub processors : AreBack (λ a b. IsSameProcessor a b × ProcessorEnded b) old.processors new.processors
+  pub slow : AreBack (λ a b. IsSameSlowPath a b × SlowPathEnded b) old.slow new.slow
+  pub forwarders : AreBack (λ a b. IsSameForwarder a b × ForwarderEnded b) old.forwarders new.forwarders
+  pub shutters : EachEnds old.shutters new.shutters
+
+-- All pipes were gathered.
+pub record HasSettled {S G K : Type 0} (p : Piping) (w : Crew S G K) : Type 0 where
+  pub inner : AreSettled 0 (inner_rows w) p.inner (inner_takers w)
+  pub middle : (t : Taker (SlowPathRequest kinds)) → middle_takers w ≡ t ∷ [] → IsDone p.middle (middle_row w) t
+  pub outer : AreSettled 0 (outer_rows w) p.outer (takers_of w.forwarders)
+
+module _ {S : Type 0} (told : S → Option (List Heard)) where
+  abbrev pub receiver_back : Receiving S → ReceiverBack
+  receiver_back r = record { number = r.number; told = told r.source; looks = r.side.stock.free.looks; senders = senders r.side.processors; share = r.side.share }
+
+module _ {K : Type 0} (shown : K → Option (List Told)) (failed : K → ℕ) where
+  abbrev pub forwarder_back : Forwarding K → ForwarderBack Told
+  forwarder_back f = record { low = f.low.taker; high = f.high.taker; low_shut = f.low.shut; high_shut = f.high.shut; told = shown f.side.sink; began = f.began; failed = failed f.side.sink; share = f.side.share }
+
+abbrev pub processor_back : {G : Type 0} → Working G → ProcessorBack
+processor_back p = record { taker = p.taker; links = senders p.side.links; slow = p.slow.sender; share = p.side.share }
+
+abbrev pub slow_back : Answering → SlowBack
+slow_back a = record { taker = a.taker; links = senders a.side.links; share = a.side.share }
+
+module _ {S G K : Type 0} (told : S → Option (List Heard)) (shown : K → Option (List Told)) (failed : K → ℕ) where
+  -- the workers with this slow path, as the theorem sees them
+  abbrev pub back_of : Crew S G K → Answering → Returned Told
+  back_of w a = record {
+    receivers = map (receiver_back told) w.receivers;
+    processors = map processor_back w.processors;
+    slow = slow_back a;
+    forwarders = map (forwarder_back shown failed) w.forwarders;
+    controller = shutter_ends w.shutters;
+  }

@@ -1,4 +1,0 @@
-pub mod Ends
-pub mod Rows
-pub mod Crews
-pub mod Came

@@ -1,3 +1,0 @@
-pub mod Crew
-pub mod Ended
-pub mod Came

@@ -1,0 +1,47 @@
+-- All workers of a run, with the controller's ends.
+use Rattle.std.specs.Prelude.{List, [], ◌∷◌, map, ◌++◌}
+use Rattle.pipeline_laws.specs.Settled.{SlowPathRequest}
+use Rattle.ruled_pipe.specs.Consumer.{Taker}
+use Rattle.router_rules.specs.Rules.{kinds}
+use Rattle.router_stages.specs.Answering.{Answering}
+use Rattle.router_stages.specs.Forwarding.{Forwarding}
+use Rattle.router_stages.specs.Receiving.{Receiving}
+use Rattle.router_stages.specs.Working.{Working}
+use Rattle.stage_parts.specs.Outlets.{senders}
+use Rattle.pipe_ends.specs.Shutting.{shutter_ends, Shutting}
+use Rattle.pipeline_laws.specs.Item.{Outgoing, Arrival}
+use Rattle.ruled_pipe.specs.Producer.{Sender}
+
+-- the workers, and the controller's ends
+pub record Crew (S G K : Type 0) : Type 0 where
+  pub receivers : List (Receiving S)
+  pub processors : List (Working G)
+  pub slow : List Answering
+  pub forwarders : List (Forwarding K)
+  pub shutters : List (Shutting (Outgoing kinds))
+
+abbrev pub crew_of : {S G K : Type 0} → List (Receiving S) → List (Working G) → List Answering → List (Forwarding K) → List (Shutting (Outgoing kinds)) → Crew S G K
+crew_of receivers processors slow forwarders shutters = record { receivers = receivers; processors = processors; slow = slow; forwarders = forwarders; shutters = shutters }
+
+module _ {S G K : Type 0} where
+  -- the workers' ends, by workers, and the consumers, by pipes
+  abbrev pub inner_rows : Crew S G K → List (List (Sender (Arrival kinds)))
+  inner_rows w = map (λ (r : Receiving S). senders r.side.processors) w.receivers
+
+  abbrev pub inner_takers : Crew S G K → List (Taker (Arrival kinds))
+  inner_takers w = map (λ (p : Working G). p.taker) w.processors
+
+  abbrev pub middle_row : Crew S G K → List (Sender (SlowPathRequest kinds))
+  middle_row w = map (λ (p : Working G). p.slow.sender) w.processors
+
+  abbrev pub middle_takers : Crew S G K → List (Taker (SlowPathRequest kinds))
+  middle_takers w = map (λ (a : Answering). a.taker) w.slow
+
+  abbrev pub outer_rows : Crew S G K → List (List (Sender (Outgoing kinds)))
+  outer_rows w = map (λ (p : Working G). senders p.side.links) w.processors ++ (map (λ (a : Answering). senders a.side.links) w.slow ++ shutter_ends w.shutters ∷ [])
+
+module _ {K : Type 0} where
+  -- of each forwarder both
+  abbrev pub takers_of : List (Forwarding K) → List (Taker (Outgoing kinds))
+  takers_of [] = []
+  takers_of (f ∷ fs) = f.low.taker ∷ f.high.taker ∷ takers_of fs
