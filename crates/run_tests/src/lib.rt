@@ -1,5 +1,5 @@
-//! Tests of the running router over memory, and of what its threads and the ends of its pipes are made of.
-//! Nothing here runs in the router.
+//! Tests of the running router over memory and over sockets, and of what its threads, the ends of its pipes and its
+//! sockets' devices do. Nothing here runs in the router.
 #![tactic(auto)]
 
 #[cfg(test)]
@@ -12,6 +12,8 @@ mod dealing;
 mod gate;
 #[cfg(test)]
 mod gates;
+#[cfg(test)]
+mod loopback;
 #[cfg(test)]
 mod many;
 #[cfg(test)]
@@ -27,6 +29,8 @@ mod routers;
 mod setup;
 #[cfg(test)]
 mod sink;
+#[cfg(test)]
+mod sockets;
 #[cfg(test)]
 mod source;
 #[cfg(test)]

@@ -1,6 +1,5 @@
 //! One packet through the running router, on this machine's own addresses.
 
-use crate::minute::minute_of;
 use cmac_core::Cmac;
 use hop_check::beacon;
 use path_fields::Hop;
@@ -48,8 +47,9 @@ fn fresh<R: Clock>(rt: &R) -> io::Result<[u8; 92]> {
         Ok(since) => since,
         Err(_) => return Err(io::Error::from(io::ErrorKind::InvalidData)),
     };
-    let Some(timestamp) = minute_of(since.as_secs()) else {
-        return Err(io::Error::from(io::ErrorKind::InvalidData));
+    let timestamp = match u32::try_from(since.as_secs() / 60 * 60) {
+        Ok(timestamp) => timestamp,
+        Err(_) => return Err(io::Error::from(io::ErrorKind::InvalidData)),
     };
     let dated = with_bytes(FIRST, PATH_AT + 8, &timestamp.to_be_bytes());
     Ok(with_bytes(dated, MAC_AT, &mac_for(timestamp)))
