@@ -8,8 +8,8 @@ use crate::routers::{CAPACITY_2, CAPACITY_64, TWO_BANDS_2, TWO_BANDS_64};
 use crate::setup::Setup;
 use process_packet::Totals;
 use router_run::CloseFault;
-use sample_stages::{CLOSED, FULL_PROCESSOR, totals};
 use stage_parts::Sent;
+use stages_tests::{CLOSED, FULL_PROCESSOR, totals};
 use std::test::*;
 
 // Whether a sink was handed the packets of these numbers, in this order.

@@ -8,7 +8,7 @@ use crate::setup::{Course, Setup};
 use crate::sink::Taking;
 use crate::source::{ENDED, Plan};
 use sample_packets::FIRST;
-use sample_stages::NEAR;
+use stages_tests::NEAR;
 use std::test::*;
 
 // A datagram of each of two flows, each of which waits for the meeting.

@@ -7,8 +7,8 @@ use crate::setup::{OPEN, Setup};
 use crate::sink::Taking;
 use crate::source::{ENDED, FAILS, Plan};
 use sample_packets::{FIRST, PATH_AT, with_bytes};
-use sample_stages::{NOTHING, SEND_FAILED, totals};
 use stage_parts::{Sent, Sink, Source};
+use stages_tests::{NOTHING, SEND_FAILED, totals};
 use std::test::*;
 
 /// Where the identifier of the first datagram's segment is.

@@ -28,7 +28,7 @@ pub fn tells<S, K>(
 /// All that was received was sent.
 #[cfg(test)]
 pub fn all_sent(count: u128) -> process_packet::Totals {
-    let mut totals = sample_stages::NOTHING;
+    let mut totals = stages_tests::NOTHING;
     totals.received = count;
     totals.sent = count;
     totals

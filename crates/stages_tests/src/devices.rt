@@ -2,7 +2,8 @@
 
 ghost use Rattle.std.specs.Prelude.{◌≡◌, []};
 
-use process_packet::{Ip, LONGEST_DATAGRAM, Underlay};
+use crate::neighbour::NEAR;
+use process_packet::LONGEST_DATAGRAM;
 use router_rules::Outgoing;
 use ruled_pipe::{Consumer, Load, Mark, Pipe, Producer};
 use stage_parts::{BUFFER_LEN, Inlet, ListSink, ListSource, Next, NextLen, Outlet, Sink, Source};
@@ -10,11 +11,6 @@ use std::alloc::{AllocError, Global};
 use std::process::Abort;
 use std::sync::Wait;
 use std::test::*;
-
-const NEAR: Underlay = Underlay {
-    ip: Ip::V4([10, 1, 0, 2]),
-    port: 40000,
-};
 
 // Whether the source gives a datagram of this length, with this first byte.
 fn gives(source: &mut ListSource, bytes: &mut [u8; BUFFER_LEN], want: usize, first: u8) -> bool {

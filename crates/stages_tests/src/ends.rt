@@ -1,11 +1,13 @@
-//! The ends of new pipes. Want of memory ends a test, as everywhere here.
+//! The ends of new pipes, and new counts. Want of memory ends a test, as everywhere here.
 
-ghost use Rattle.std.specs.Prelude.{◌≡◌, ◌<◌, ◌≤◌, [], All, length};
-ghost use Rattle.sample_stages.specs.Ends.{IsFresh, IsNew, IsUntaken};
+ghost use Rattle.std.specs.Prelude.{◌≡◌, ◌+◌, ◌<◌, ◌≤◌, [], All, length};
+ghost use Rattle.packet_ledger.specs.Share.{new_share};
+ghost use Rattle.stages_tests.specs.NewEnds.{IsFresh, IsNew, IsUntaken};
 
+use crate::new_ends::{ends_of, next_producer};
+use packet_ledger::Share;
 use ruled_pipe::{Consumer, Producer};
-use sample_stages::{ends_of, next_outlet};
-use stage_parts::{Inlet, Outlet};
+use stage_parts::{Inlet, Outlet, Router};
 use std::alloc::Global;
 use std::process::Abort;
 
@@ -24,6 +26,17 @@ pub fn pipe_of<T: Drop, R: Abort>(
     ends_of::<T>(alloc, capacity, producers).expect(rt, "memory")
 }
 
+/// The last of a pipe's producers, as a worker holds it.
+pub fn next_outlet<T: Drop>(ends: &mut Vec<Producer<T>>) -> Outlet<T>
+    requires new { All IsNew ends.old.items }
+    requires some { 0 < length ends.old.items }
+    ensures next { IsFresh result }
+    ensures rest { All IsNew ends.new.items }
+    ensures fewer { length ends.new.items + 1 ≡ length ends.old.items }
+{
+    Outlet::of(next_producer(ends), None)
+}
+
 /// The ends of a new pipe with one producer.
 pub fn pipe_of_one<T: Drop, R: Abort>(
     rt: &R,
@@ -35,4 +48,18 @@ pub fn pipe_of_one<T: Drop, R: Abort>(
 {
     let (mut ends, taker) = pipe_of::<T, R>(rt, alloc, capacity, 1);
     (next_outlet(&mut ends), Inlet::of(taker, 1))
+}
+
+/// The next new counts.
+pub fn next_share<N: Router>(shares: &mut Vec<Share<N>>) -> Share<N>
+    requires new { All (λ s. s ≡ new_share) shares.old.items }
+    requires some { 0 < length shares.old.items }
+    ensures next { result ≡ new_share }
+    ensures rest { All (λ s. s ≡ new_share) shares.new.items }
+    ensures fewer { length shares.new.items + 1 ≡ length shares.old.items }
+{
+    match shares.pop() {
+        Some(share) => share,
+        None => unreachable!(),
+    }
 }

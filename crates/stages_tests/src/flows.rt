@@ -5,9 +5,9 @@ ghost use Rattle.stage_laws.specs.Forwards.{AddsTo};
 ghost use Rattle.stage_parts.specs.Heard.{failures_of, fits, heard};
 ghost use Rattle.stage_parts.specs.Told.{telling};
 
+use crate::datagrams::give;
 use router_rules::Outgoing;
 use sample_packets::{FIRST, PATH_AT};
-use sample_stages::give;
 use stage_parts::{NextLen, Sink, SinkFault, Source};
 
 /// How many flows there are.

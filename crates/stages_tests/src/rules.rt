@@ -1,9 +1,8 @@
 //! The rules' links, workers and pipes, of a configuration that is made by hand.
 
-ghost use Rattle.std.specs.Prelude.{◌≡◌};
-
+use crate::sample_router::{at, link};
 use cmac_core::Cmac;
-use process_packet::{Bands, Cause, Config, Ip, LONGEST_DATAGRAM, Link, Underlay};
+use process_packet::{Bands, Cause, Config, LONGEST_DATAGRAM};
 use router_rules::{
     Ports, Queue, QueueIndex, Shared, Worker, WorkerIndex, has_two_bands, inspect, interface_at,
     is_urgent, link_count, link_index, link_pipe, processor_or_fault, seat_count, slow_seat,
@@ -15,37 +14,13 @@ use std::test::*;
 /// One byte more than a receiver takes.
 const TOO_LONG: usize = LONGEST_DATAGRAM + 1;
 
-/// The address 10.NET.0.HOST with a port.
-fn at(net: u8, host: u8, port: u16) -> Underlay
-    ensures { result.port ≡ port }
-{
-    Underlay {
-        ip: Ip::V4([10, net, 0, host]),
-        port,
-    }
-}
-
-fn link(id: u16, net: u8, bands: Bands) -> Link
-    ensures id { result.id ≡ id }
-    ensures local { result.local.port ≡ 40000 }
-    ensures remote { result.remote.port ≡ 40000 }
-{
-    Link {
-        id,
-        kind: LinkKind::Core,
-        local: at(net, 1, 40000),
-        remote: at(net, 2, 40000),
-        bands,
-    }
-}
-
 /// The router of 1-ff00:0:110 with three links, not in the order of their interfaces; one of them has
 /// two bands.
 fn config(alloc: Global, internal_bands: Bands) -> Result<Config, AllocError> {
     let links = vec![in alloc;
-        link(7, 1, Bands::One),
-        link(2, 2, Bands::Two),
-        link(300, 3, Bands::One),
+        link(7, 1, LinkKind::Core, Bands::One),
+        link(2, 2, LinkKind::Core, Bands::Two),
+        link(300, 3, LinkKind::Core, Bands::One),
     ]?;
     Ok(Config {
         isd: 1,

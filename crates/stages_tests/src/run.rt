@@ -5,13 +5,13 @@ ghost use Rattle.std.specs.Arc.{arc_value};
 ghost use Rattle.router_rules.specs.Links.{link_count};
 
 use crate::letters::was;
+use crate::open_gate::Open;
 use crate::start::start;
 use packet_ledger::{Blank, Book, Share};
 use process_packet::Totals;
 use router_rules::Shared;
 use router_stages::{Forwarder, Processor, Receiver, SlowPath};
 use ruled_pipe::{Mark, Producer};
-use sample_stages::Open;
 use stage_parts::{EgressPacket, ListSink, ListSource, Next, Router, Sink, Source, Turns};
 use std::alloc::Global;
 use std::marker::Brand;

@@ -3,12 +3,12 @@
 ghost use Rattle.std.specs.Prelude.{◌≡◌, length};
 ghost use Rattle.packet_ledger.specs.Share.{new_share};
 ghost use Rattle.stage_parts.specs.Outlets.{AreFresh};
-ghost use Rattle.sample_stages.specs.Ends.{IsFresh};
+ghost use Rattle.stages_tests.specs.NewEnds.{IsFresh};
 
-use crate::ends::pipe_of;
+use crate::ends::{next_outlet, pipe_of};
+use crate::new_ends::next_producer;
 use packet_ledger::Share;
 use ruled_pipe::Producer;
-use sample_stages::{next_outlet, next_producer};
 use stage_parts::{Buffer, EgressPacket, Outlet, Router};
 use std::alloc::Global;
 use std::marker::Model;

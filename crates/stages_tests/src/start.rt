@@ -5,17 +5,18 @@ ghost use Rattle.std.specs.Arc.{arc_value};
 ghost use Rattle.packet_ledger.specs.Share.{new_share};
 ghost use Rattle.router_laws.specs.Heard.{ToldNothing};
 ghost use Rattle.router_rules.specs.Links.{link_count};
-ghost use Rattle.sample_stages.specs.Ends.{IsFresh};
-ghost use Rattle.stages_tests.specs.Ends.{IsNewBand};
+ghost use Rattle.stages_tests.specs.NewEnds.{IsFresh};
+ghost use Rattle.stages_tests.specs.NewBands.{IsNewBand};
 
-use crate::ends::{pipe_of, pipe_of_one};
+use crate::ends::{next_outlet, next_share, pipe_of, pipe_of_one};
+use crate::new_ends::next_producer;
+use crate::open_gate::Open;
 use crate::run::{Sizes, Workers};
 use crate::seats::{Seat, new_returns, new_seat};
 use packet_ledger::Share;
 use router_rules::Shared;
 use router_stages::{Band, Forwarder, Processor, Receiver, SlowPath};
 use ruled_pipe::{Consumer, Producer};
-use sample_stages::{Open, next_outlet, next_producer, next_share};
 use stage_parts::{
     Buffer, EgressPacket, Inlet, Outlet, Packet, Router, Sink, SlowPathRequest, Source,
 };

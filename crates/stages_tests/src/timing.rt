@@ -8,12 +8,12 @@ ghost use Rattle.router_rules.specs.Links.{link_count};
 
 use crate::flows::{Flows, Sums};
 use crate::run::{Sizes, Workers};
+use crate::sample_router::router;
 use crate::start::start;
 use packet_ledger::{Blank, Book};
 use process_packet::Bands;
 use router_rules::Shared;
 use router_stages::Forwarder;
-use sample_stages::router;
 use stage_parts::{Router, Turns};
 use std::alloc::Global;
 use std::marker::Brand;

@@ -1,13 +1,14 @@
 //! Runs of the workers, turn by turn. Where a growth is refused a run ends for want of memory, but where it is
 //! refused to the sink, that sink fails once more, unless it is told to fail at this call anyhow.
 
+use crate::counts::{CLOSED, FULL_PROCESSOR, NO_BUFFER, NOTHING, SEND_FAILED, totals};
+use crate::datagrams::{datagram, firsts};
+use crate::neighbour::NEAR;
 use crate::run::{Outcome, Plan, Sizes, run};
+use crate::sample_router::router;
 use process_packet::{Bands, Totals};
 use router_rules::Shared;
 use sample_packets::{ANSWER, FIRST, IN_TIME, LATE, MAC_AT, OTHER_MAC, PAYLOAD_AT, with_bytes};
-use sample_stages::{
-    CLOSED, FULL_PROCESSOR, NEAR, NO_BUFFER, NOTHING, SEND_FAILED, datagram, firsts, router, totals,
-};
 use stage_parts::{Next, Sent, Sink};
 use std::alloc::{AllocError, Global};
 use std::process::Abort;

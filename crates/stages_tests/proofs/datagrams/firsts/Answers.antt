@@ -1,5 +1,5 @@
 use Rattle.std.proofs.Common.{rules}
-use Rattle.sample_stages.proofs.datagrams.firsts.Goals as goal
+use Rattle.stages_tests.proofs.datagrams.firsts.Goals as goal
 
 pub loop-init : goal.loop-init
 loop-init c = search rules

@@ -4,7 +4,7 @@ use Rattle.std.proofs.lemmas.Option.{slice_get-get_or}
 use Rattle.atomic_table.specs.Seated.{TableId}
 use Rattle.ruled_pipe.specs.Pipe.{AreNew}
 use Rattle.ruled_pipe.specs.Producer.{Sender}
-use Rattle.sample_stages.specs.Ends.{IsNew}
+use Rattle.stages_tests.specs.NewEnds.{IsNew}
 
 module _ {T : Type 0} where
   pub all_new : (pipe : TableId) (capacity producers : ℕ) (ends : List (Sender T)) → AreNew pipe capacity producers producers ends → All IsNew ends

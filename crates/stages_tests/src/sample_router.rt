@@ -1,4 +1,4 @@
-//! The router that datagrams of tests and benches cross.
+//! The router that datagrams of tests and benches cross, and its links.
 
 ghost use Rattle.std.specs.Prelude.{◌≡◌, [], ◌∷◌, map, IfOk};
 ghost use Rattle.router_rules.specs.Links.{link_count};
@@ -10,7 +10,7 @@ use segment_switch::LinkKind;
 use std::alloc::{AllocError, Global};
 
 /// The address 10.NET.0.HOST with a port.
-fn at(net: u8, host: u8, port: u16) -> Underlay
+pub fn at(net: u8, host: u8, port: u16) -> Underlay
     ensures { result.port ≡ port }
 {
     Underlay {
@@ -20,7 +20,7 @@ fn at(net: u8, host: u8, port: u16) -> Underlay
 }
 
 /// The link of an interface, whose routers are in a network of its own.
-fn link(id: u16, net: u8, kind: LinkKind, bands: Bands) -> Link
+pub fn link(id: u16, net: u8, kind: LinkKind, bands: Bands) -> Link
     ensures id { result.id ≡ id }
     ensures local { result.local.port ≡ 40000 }
     ensures remote { result.remote.port ≡ 40000 }

@@ -1,9 +1,9 @@
 use Rattle.std.proofs.Common.{ℕ, List, ap, ◌∙◌}
 use Rattle.router_laws.specs.Heard.{Gave}
 use Rattle.sample_packets.specs.declared.datagram.TheConstants.{IN_TIME}
-use Rattle.sample_stages.specs.declared.datagrams.TheConstants.{NEAR}
-use Rattle.sample_stages.proofs.DatagramLemmas.{take_front}
-use Rattle.sample_stages.proofs.datagrams.give.Goals as goal
+use Rattle.stages_tests.specs.declared.neighbour.TheConstants.{NEAR}
+use Rattle.stages_tests.proofs.DatagramLemmas.{take_front}
+use Rattle.stages_tests.proofs.datagrams.give.Goals as goal
 
 pub returns-clause-gave : goal.returns-clause-gave
 returns-clause-gave c =

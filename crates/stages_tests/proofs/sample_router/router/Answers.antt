@@ -1,5 +1,5 @@
 use Rattle.std.proofs.Common.{rules}
-use Rattle.sample_stages.proofs.routers.router.Goals as goal
+use Rattle.stages_tests.proofs.sample_router.router.Goals as goal
 
 pub returns : goal.returns
 returns c = search rules
