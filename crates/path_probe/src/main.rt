@@ -6,13 +6,13 @@
 //! each its first link is used. The hop fields are made with the ASes' keys as beacons make them.
 #![tactic(auto)]
 
-ghost use Rattle.std.specs.Prelude.{◌≡◌, length};
+ghost use Rattle.std.specs.Prelude.{◌≡◌, ◌≤◌, IfOk, length};
 
 mod message;
 mod packet;
 
 use crate::message::{Reply, SCMP, UDP, reply_of, request};
-use crate::packet::{Asked, End, Place, Way, datagram, segment_over};
+use crate::packet::{Asked, End, Place, Segment, Way, datagram, segment_over};
 use process_packet::{Config, Ip, Underlay};
 use router_config::{read_config, read_underlay};
 use std::alloc::Global;
@@ -25,41 +25,28 @@ use std::{env, fs, io};
 /// How many seconds an answer is waited for.
 const PATIENCE: u64 = 5;
 
-/// A router, with the interface of its first link.
-#[derive(Drop)]
-struct Router {
-    config: Config,
-    interface: u16,
-}
-
 /// What this can't do.
 fn refused(what: &'static str) -> io::Error {
     io::Error::new(io::ErrorKind::InvalidInput, what)
 }
 
-/// The router of a configuration, with its first link.
-fn router_of(config: Config) -> io::Result<Router> {
-    let Some(link) = config.links.first() else {
-        return Err(refused("no link"));
-    };
-    let interface = link.id;
-    Ok(Router { config, interface })
-}
-
-/// The router's end of that link.
-fn end_of(router: &Router) -> End<'_> {
-    End {
-        key: &router.config.key,
-        interface: router.interface,
+/// The configuration that a file holds.
+fn config_at<R: Files + AllocGlobal>(rt: &R, path: &str) -> io::Result<Config> {
+    let text = fs::read_to_string(rt, path)?;
+    match read_config(rt.alloc(), text.as_str()) {
+        Ok(config) => Ok(config),
+        Err(_) => Err(refused("no configuration")),
     }
 }
 
-/// The router of the configuration that a file holds.
-fn router_at<R: Files + AllocGlobal>(rt: &R, path: &str) -> io::Result<Router> {
-    let text = fs::read_to_string(rt, path)?;
-    match read_config(rt.alloc(), text.as_str()) {
-        Ok(config) => router_of(config),
-        Err(_) => Err(refused("no configuration")),
+/// A router's end of its first link.
+fn end_of(config: &Config) -> io::Result<End<'_>> {
+    match config.links.first() {
+        Some(link) => Ok(End {
+            key: &config.key,
+            interface: link.id,
+        }),
+        None => Err(refused("no link")),
     }
 }
 
@@ -84,23 +71,10 @@ fn socket_at<R: Net>(rt: &R, host: ([u8; 4], u16)) -> io::Result<UdpSocket> {
     Ok(socket)
 }
 
-/// A host of a router's AS.
-fn place_of(router: &Router, host: [u8; 4]) -> Place {
-    Place {
-        isd: router.config.isd,
-        autonomous_system: router.config.autonomous_system,
-        host,
-    }
-}
-
-/// Where the first router takes packets of its AS.
-fn entry_of(router: &Router) -> io::Result<SocketAddr> {
-    let internal = router.config.internal;
-    match internal.ip {
-        Ip::V4(bytes) => Ok(SocketAddr::new(
-            IpAddr::V4(Ipv4Addr::from_octets(bytes)),
-            internal.port,
-        )),
+/// The system's address of an IPv4 address and port.
+fn address_of(at: Underlay) -> io::Result<SocketAddr> {
+    match at.ip {
+        Ip::V4(bytes) => Ok(SocketAddr::new(IpAddr::V4(Ipv4Addr::from_octets(bytes)), at.port)),
         Ip::V6(_) => Err(refused("no IPv4 address")),
     }
 }
@@ -116,29 +90,47 @@ fn minute<R: Clock>(rt: &R) -> io::Result<u32> {
     }
 }
 
-/// The routers of the path, in its order.
-#[derive(Drop)]
-struct Routers {
-    first: Router,
-    entering: Router,
-    leaving: Router,
-    last: Router,
+/// A segment from the core AS to another, a host there, and where its router takes packets of its AS.
+#[derive(Clone, Copy)]
+struct Branch {
+    segment: Segment,
+    place: Place,
+    internal: Underlay,
 }
 
-/// The routers of four configurations.
-fn routers_at<R: Files + AllocGlobal>(rt: &R, configs: &[String]) -> io::Result<Routers>
-    requires { length configs.now ≡ 4 }
-{
-    let first = router_at(rt, configs[0].as_str())?;
-    let entering = router_at(rt, configs[1].as_str())?;
-    let leaving = router_at(rt, configs[2].as_str())?;
-    let last = router_at(rt, configs[3].as_str())?;
-    Ok(Routers {
-        first,
-        entering,
-        leaving,
-        last,
+/// The branch over the first links of a router of the core AS and one of the other AS.
+fn branch_over(
+    core: &Config,
+    other: &Config,
+    host: [u8; 4],
+    at_core: u16,
+    now: u32,
+) -> io::Result<Branch> {
+    let segment = segment_over(end_of(core)?, end_of(other)?, at_core, now);
+    let place = Place {
+        isd: other.isd,
+        autonomous_system: other.autonomous_system,
+        host,
+    };
+    Ok(Branch {
+        segment,
+        place,
+        internal: other.internal,
     })
+}
+
+/// The branch over the routers of two configurations, beaconed now.
+fn branch_at<R: Files + AllocGlobal>(
+    rt: &R,
+    core: &str,
+    other: &str,
+    host: [u8; 4],
+    at_core: u16,
+    now: u32,
+) -> io::Result<Branch> {
+    let core = config_at(rt, core)?;
+    let other = config_at(rt, other)?;
+    branch_over(&core, &other, host, at_core, now)
 }
 
 /// The way between two hosts, and where it enters the network.
@@ -146,18 +138,6 @@ fn routers_at<R: Files + AllocGlobal>(rt: &R, configs: &[String]) -> io::Result<
 struct Plan {
     way: Way,
     entry: SocketAddr,
-}
-
-/// The way over these routers, beaconed now, between two hosts.
-fn way_of(routers: &Routers, from: [u8; 4], to: [u8; 4], now: u32) -> Way {
-    let (entering, first) = (end_of(&routers.entering), end_of(&routers.first));
-    let (leaving, last) = (end_of(&routers.leaving), end_of(&routers.last));
-    Way {
-        from: place_of(&routers.first, from),
-        to: place_of(&routers.last, to),
-        up: segment_over(entering, first, 0x1234, now),
-        down: segment_over(leaving, last, 0x5678, now),
-    }
 }
 
 /// The plan for two hosts over the routers of these configurations.
@@ -170,11 +150,31 @@ fn plan_of<R: Files + Clock + AllocGlobal>(
     requires { length configs.now ≡ 4 }
 {
     let now = minute(rt)?;
-    let routers = routers_at(rt, configs)?;
-    let entry = entry_of(&routers.first)?;
+    let up = branch_at(
+        rt,
+        configs[1].as_str(),
+        configs[0].as_str(),
+        from,
+        0x1234,
+        now,
+    )?;
+    let down = branch_at(
+        rt,
+        configs[2].as_str(),
+        configs[3].as_str(),
+        to,
+        0x5678,
+        now,
+    )?;
+    let way = Way {
+        from: up.place,
+        to: down.place,
+        up: up.segment,
+        down: down.segment,
+    };
     Ok(Plan {
-        way: way_of(&routers, from, to, now),
-        entry,
+        way,
+        entry: address_of(up.internal)?,
     })
 }
 
@@ -201,14 +201,22 @@ fn probe_of<R: Files + Net + Clock + AllocGlobal>(rt: &R, words: &[String]) -> i
 
 /// Prints what a router answered, and after how long.
 fn print_reply<R: Print>(rt: &R, sequence: u8, reply: Reply, micros: u128) -> io::Result<()> {
-    let high = reply.autonomous_system >> 32;
-    let middle = (reply.autonomous_system >> 16) & 0xffff;
-    let low = reply.autonomous_system & 0xffff;
-    let isd = reply.isd;
-    let interface = reply.interface;
+    let Reply {
+        isd,
+        autonomous_system: [high, middle, low],
+        interface,
+    } = reply;
     println!(rt;
         "{sequence} {isd}-{high:x}:{middle:x}:{low:x} interface {interface}, after {micros} us"
     )
+}
+
+/// A datagram that came: its length, its sender, and after how long.
+#[derive(Clone, Copy)]
+struct Came {
+    len: usize,
+    from: SocketAddr,
+    micros: u128,
 }
 
 impl Probe {
@@ -219,18 +227,37 @@ impl Probe {
         Ok(())
     }
 
+    /// Sends a datagram into the network, and waits for what comes to a host.
+    fn exchange<R: Clock + AllocGlobal>(
+        &self,
+        rt: &R,
+        asked: Asked,
+        protocol: u8,
+        payload: &[u8],
+        host: &UdpSocket,
+        room: &mut [u8],
+    ) -> io::Result<Came>
+        ensures { IfOk result (λ came. came.len ≤ length room.new) }
+    {
+        let start = Instant::now(rt)?;
+        self.send(rt.alloc(), asked, protocol, payload)?;
+        let (len, from) = host.recv_from(room)?;
+        let micros = start.elapsed(rt)?.as_micros();
+        Ok(Came { len, from, micros })
+    }
+
     /// Sends one packet from host to host, and prints what arrives.
     fn ping<R: Clock + Print + AllocGlobal>(&self, rt: &R) -> io::Result<()> {
-        let start = Instant::now(rt)?;
-        self.send(
-            rt.alloc(),
+        let payload = b"\x75\x59\x75\x59\x00\x0d\x00\x00hello";
+        let mut room = [0u8; 1500];
+        let Came { len, from, micros } = self.exchange(
+            rt,
             Asked::Nothing,
             UDP,
-            b"\x75\x59\x75\x59\x00\x0d\x00\x00hello",
+            payload,
+            &self.far,
+            &mut room,
         )?;
-        let mut room = [0u8; 1500];
-        let (len, from) = self.far.recv_from(&mut room)?;
-        let micros = start.elapsed(rt)?.as_micros();
         println!(rt; "the packet arrived: {len} bytes by {from}, after {micros} us")
     }
 
@@ -241,13 +268,10 @@ impl Probe {
         sequence: u8,
         asked: Asked,
     ) -> io::Result<()> {
-        let start = Instant::now(rt)?;
-        self.send(rt.alloc(), asked, SCMP, &request(sequence))?;
         let mut room = [0u8; 1500];
-        let (len, _) = self.near.recv_from(&mut room)?;
-        let micros = start.elapsed(rt)?.as_micros();
-        match reply_of(&room[..len]) {
-            Some(reply) => print_reply(rt, sequence, reply, micros),
+        let came = self.exchange(rt, asked, SCMP, &request(sequence), &self.near, &mut room)?;
+        match reply_of(&room[..came.len]) {
+            Some(reply) => print_reply(rt, sequence, reply, came.micros),
             None => Err(refused("another answer")),
         }
     }
