@@ -1,5 +1,5 @@
 -- The controller's ends.
-use Rattle.std.proofs.Common.{◌≡◌, ℕ, zero, suc, ◌+◌, ◌<◌, ◌≤◌, Bool, true, false, ◌||◌, List, [], ◌∷◌, ◌++◌, length, Result, Ok, Err, slice_index_or, slice_set, refl, sym, ap, subst, ◌∙◌, arith, length-append}
+use Rattle.std.proofs.Common.{◌≡◌, ℕ, zero, suc, ◌+◌, ◌<◌, ◌≤◌, Bool, true, false, ◌||◌, List, [], ◌∷◌, ◌++◌, length, MatchBool, slice_get, slice_index_or, slice_set, refl, sym, ap, subst, ◌∙◌, arith, length-append}
 use Rattle.std.proofs.Math.Bool.{or-true}
 use Rattle.std.proofs.lemmas.List.{map-append}
 use Rattle.pipeline_laws.specs.Deeds.{closes, has_mark, payload_of, payloads}
@@ -13,9 +13,20 @@ use Rattle.ruled_pipe.specs.Pipe.{Shape, IsEndOf}
 use Rattle.stage_laws.specs.Ends.{load_in, pushes}
 use Rattle.pipe_ends.specs.Rows.{AreEndsOf}
 use Rattle.pipe_ends.specs.Settled.{IsFinal, AreFinished}
-use Rattle.pipe_ends.specs.Shutting.{AreMarking, AreNew, AreOpen, AreShutters, Closes, ClosesAt, EachEnds, Ends, EndsUpTo, IsSameShutter, IsShutting, IsStill, PushMarks, Shutting, ShuttersFinish, shutter_ends, shutting}
-use Rattle.pipe_ends.specs.declared.shutter.CloseFault.{CloseFault}
-use Rattle.pipe_ends.specs.declared.shutter.CloseFault.TheVariants.{Full, AlreadyClosed}
+use Rattle.pipe_ends.specs.Shutting.{AreMarking, AreNew, AreOpen, AreShutters, Closes, ClosesAt, EachEnds, Ends, EndsUpTo, IsSameShutter, IsShutting, IsStill, PushMarks, Shutting, ShuttersFinish, closed_at, shutter_ends, shutting, tried}
+
+module _ {X : Type 0} where
+  index_set : (xs : List X) (at : ℕ) (d x : X) → at < length xs → slice_index_or (slice_set xs at x) at d ≡ x
+  index_set [] at d x lt = absurd (omega arith)
+  index_set (y ∷ xs) zero d x lt = refl
+  index_set (y ∷ xs) (suc at) d x lt = index_set xs at d x (omega arith)
+
+  get_set : (xs : List X) (at j : ℕ) (x : X) → (j ≡ at → ⊥) → slice_get (slice_set xs at x) j ≡ slice_get xs j
+  get_set [] at j x other = refl
+  get_set (y ∷ xs) zero zero x other = absurd (other refl)
+  get_set (y ∷ xs) zero (suc j) x other = refl
+  get_set (y ∷ xs) (suc at) zero x other = refl
+  get_set (y ∷ xs) (suc at) (suc j) x other = get_set xs at j x (λ e. other (ap suc e))
 
 module _ {T : Type 0} where
   ends_more : (es : List (Entry T)) (e : Entry T) → ends_in (es ++ e ∷ []) ≡ ends_in es + end_of e.load
@@ -48,18 +59,21 @@ module _ {T : Type 0} where
     spared = λ z. absurd (let w = sym u ∙ z in cc);
   }
 
-  -- the mark is there now, or was refused
-  pub closing_there : (s new : Sender T) (used closed ended : Bool) (h : Shutting T) → shutting s used closed ended ≡ h → closed ≡ false → new ≡ offered s (entry s.number (Marked Close))
-      → (h.closed ≡ false) × (shutting new used true ended ≡ shutting (offered h.end (entry h.end.number (Marked Close))) h.used true h.ended)
-  closing_there s new used closed ended h is un step =
-      subst (λ (x : Shutting T). (x.closed ≡ false) × (shutting new used true ended ≡ shutting (offered x.end (entry x.end.number (Marked Close))) x.used true x.ended)) is (un, ap (λ (x : Sender T). shutting x used true ended) step)
+  -- the mark was there before; or it is there now; or it was refused
+  pub closing_was : (s : Sender T) (used closed ended : Bool) (h : Shutting T) → shutting s used closed ended ≡ h → closed ≡ true → Closes true h h
+  closing_was s used closed ended h is there =
+      subst (λ (x : Shutting T). Closes true x x) is
+      (subst (λ (b : Bool). Closes true (shutting s used b ended) (shutting s used b ended)) (sym there) (refl, refl))
 
-  pub closing_full : (s new : Sender T) (used closed ended : Bool) (h : Shutting T) → shutting s used closed ended ≡ h → closed ≡ false → new ≡ refused s (entry s.number (Marked Close))
-      → (h.closed ≡ false) × (shutting new used closed ended ≡ shutting (refused h.end (entry h.end.number (Marked Close))) h.used false h.ended)
+  pub closing_there : (s new : Sender T) (used closed ended : Bool) (h : Shutting T) → shutting s used closed ended ≡ h → closed ≡ false → new ≡ offered s (entry s.number (Marked Close)) → Closes true h (shutting new used true ended)
+  closing_there s new used closed ended h is un step =
+      subst (λ (x : Shutting T). Closes true x (shutting new used true ended)) is
+      (subst (λ (b : Bool). Closes true (shutting s used b ended) (shutting new used true ended)) (sym un) (ap (λ (x : Sender T). shutting x used true ended) step))
+
+  pub closing_full : (s new : Sender T) (used closed ended : Bool) (h : Shutting T) → shutting s used closed ended ≡ h → closed ≡ false → new ≡ refused s (entry s.number (Marked Close)) → Closes false h (shutting new used closed ended)
   closing_full s new used closed ended h is un step =
-      let at = entry s.number (Marked Close) in
-      subst (λ (x : Shutting T). (x.closed ≡ false) × (shutting new used closed ended ≡ shutting (refused x.end (entry x.end.number (Marked Close))) x.used false x.ended)) is
-      (un, ap (λ (x : Sender T). shutting x used closed ended) step ∙ ap (λ (b : Bool). shutting (refused s at) used b ended) un)
+      subst (λ (x : Shutting T). Closes false x (shutting new used closed ended)) is
+      (subst (λ (b : Bool). Closes false (shutting s used b ended) (shutting new used b ended)) (sym un) (ap (λ (x : Sender T). shutting x used false ended) step))
 
   -- the mark was refused, and that is all
   pub still_full : (s new : Sender T) (e : Entry T) (used closed ended : Bool) (h : Shutting T) → shutting s used closed ended ≡ h → ended ≡ false → new ≡ refused s e → IsStill h (shutting new used closed ended)
@@ -153,6 +167,16 @@ module _ {T : Type 0} where
 
   -- ---- one is closed
 
+  set_closed : (hs : List (Shutting T)) (at : ℕ) (h : Shutting T) → at < length hs → closed_at (slice_set hs at h) at ≡ h.closed
+  set_closed [] at h lt = absurd (omega arith)
+  set_closed (x ∷ hs) zero h lt = refl
+  set_closed (x ∷ hs) (suc at) h lt = set_closed hs at h (omega arith)
+
+  set_long : (hs : List (Shutting T)) (at : ℕ) (h : Shutting T) → length (slice_set hs at h) ≡ length hs
+  set_long [] at h = refl
+  set_long (x ∷ hs) zero h = refl
+  set_long (x ∷ hs) (suc at) h = let e = set_long hs at h in omega arith
+
   same_set : (uses : ℕ → Bool) (k p : ℕ) (ss : List Shape) (hs : List (Shutting T)) (at : ℕ) (d n : Shutting T) → IsSameShutter (slice_index_or hs at d) n → at < length hs → AreShutters uses k p ss hs → AreShutters uses k p ss (slice_set hs at n)
   same_set uses k p [] [] at d n same lt a = tt
   same_set uses k p [] (h ∷ hs) at d n same lt a = absurd a
@@ -175,19 +199,28 @@ module _ {T : Type 0} where
   index_same (h ∷ hs) zero d e lt = refl
   index_same (h ∷ hs) (suc at) d e lt = index_same hs at d e (omega arith)
 
-  closes_same : (r : Result (Unit {0}) CloseFault) (s t : Shutting T) → s.ended ≡ false → Closes r s t → IsSameShutter s t × (t.ended ≡ false)
-  closes_same (Ok x) s t e c = subst (λ (u : Shutting T). IsSameShutter s u × (u.ended ≡ false)) (sym c.1) ((refl, refl, refl, refl, refl), e)
-  closes_same (Err Full) s t e c = subst (λ (u : Shutting T). IsSameShutter s u × (u.ended ≡ false)) (sym c.1) ((refl, refl, refl, refl, refl), e)
-  closes_same (Err AlreadyClosed) s t e c = subst (λ (u : Shutting T). IsSameShutter s u × (u.ended ≡ false)) (sym c.1) ((refl, refl, refl, refl, refl), e)
+  -- by whether its closing mark was there
+  closes_same : (is_there was : Bool) (s t : Shutting T) → s.ended ≡ false → MatchBool was ((is_there ≡ true) × (t ≡ s)) (t ≡ tried is_there s) → IsSameShutter s t × (t.ended ≡ false)
+  closes_same is_there true s t e c = subst (λ (u : Shutting T). IsSameShutter s u × (u.ended ≡ false)) (sym c.1) ((refl, refl, refl, refl, refl), e)
+  closes_same true false s t e c = subst (λ (u : Shutting T). IsSameShutter s u × (u.ended ≡ false)) (sym c) ((refl, refl, refl, refl, refl), e)
+  closes_same false false s t e c = subst (λ (u : Shutting T). IsSameShutter s u × (u.ended ≡ false)) (sym c) ((refl, refl, refl, refl, refl), e)
 
-  pub closes_at : (r : Result (Unit {0}) CloseFault) (old new : List (Shutting T)) (at : ℕ) (d n : Shutting T) → at < length old → AreOpen old → Closes r (slice_index_or old at d) n → new ≡ slice_set old at n → ClosesAt at r old new
-  closes_at r old new at d n lt all closes is =
-      let same = closes_same r (slice_index_or old at d) n (open_at old at d all lt) closes in
+  closes_closed : (is_there was : Bool) (s t : Shutting T) → s.closed ≡ was → MatchBool was ((is_there ≡ true) × (t ≡ s)) (t ≡ tried is_there s) → t.closed ≡ is_there
+  closes_closed is_there true s t is c = ap (λ (h : Shutting T). h.closed) c.1 ∙ (is ∙ sym c.0)
+  closes_closed true false s t is c = ap (λ (h : Shutting T). h.closed) c
+  closes_closed false false s t is c = ap (λ (h : Shutting T). h.closed) c
+
+  pub closes_at : (is_there : Bool) (old new : List (Shutting T)) (at : ℕ) (d n : Shutting T) → at < length old → AreOpen old → Closes is_there (slice_index_or old at d) n → new ≡ slice_set old at n → ClosesAt at is_there old new
+  closes_at is_there old new at d n lt all closes is =
+      let s = slice_index_or old at d in
+      let same = closes_same is_there s.closed s n (open_at old at d all lt) closes in
       let Q : (ℕ → Bool) → ℕ → ℕ → List Shape → List (Shutting T) → Type 0 = λ u k p ss l. AreShutters u k p ss l in
       record {
-        shutter = n;
-        closes = λ e. subst (λ (s : Shutting T). Closes r s n) (index_same old at d e lt) closes;
-        others = is;
+        closes = λ e. subst (λ (h : Shutting T). Closes is_there (slice_index_or old at e) h) (sym (ap (λ (hs : List (Shutting T)). slice_index_or hs at e) is ∙ index_set old at e n lt))
+            (subst (λ (h : Shutting T). Closes is_there h n) (index_same old at d e lt) closes);
+        closed = ap (λ (hs : List (Shutting T)). closed_at hs at) is ∙ (set_closed old at n lt ∙ closes_closed is_there s.closed s n refl closes);
+        long = ap length is ∙ set_long old at n;
+        others = λ j other. ap (λ (hs : List (Shutting T)). slice_get hs j) is ∙ get_set old at j n other;
         unended = subst (λ (l : List (Shutting T)). AreOpen l) (sym is) (open_set old at n same.1 all);
         same = λ u k p ss a. subst (λ (l : List (Shutting T)). Q u k p ss l) (sym is) (same_set u k p ss old at d n same.0 lt a);
       }

@@ -1,5 +1,5 @@
 -- Ends of pipes that push marks alone.
-use Rattle.std.specs.Prelude.{◌≡◌, ℕ, zero, suc, Bool, true, false, List, [], ◌∷◌, map, slice_get, Some, slice_index_or, slice_set, Result, Ok, Err}
+use Rattle.std.specs.Prelude.{◌≡◌, ℕ, zero, suc, Bool, true, false, List, [], ◌∷◌, map, length, slice_get, Some, slice_index_or, MatchBool}
 use Rattle.pipeline_laws.specs.Deeds.{has_mark, payloads}
 use Rattle.ruled_pipe.specs.declared.entry.Load.TheVariants.{Marked}
 use Rattle.ruled_pipe.specs.declared.entry.Mark.TheVariants.{Close}
@@ -8,8 +8,6 @@ use Rattle.ruled_pipe.specs.Pipe.{Shape, IsEndOf}
 use Rattle.ruled_pipe.specs.Gathered.{EndsWithMark, ends_in}
 use Rattle.stage_laws.specs.Ends.{pushes}
 use Rattle.pipe_ends.specs.Settled.{AreFinished}
-use Rattle.pipe_ends.specs.declared.shutter.CloseFault.{CloseFault}
-use Rattle.pipe_ends.specs.declared.shutter.CloseFault.TheVariants.{Full, AlreadyClosed}
 
 -- its producer, whether its pipe is used, and whether its closing mark and its end mark are there
 pub record Shutting (T : Type 0) : Type 0 where
@@ -34,11 +32,14 @@ module _ {T : Type 0} where
   abbrev pub IsSameShutter : Shutting T → Shutting T → Type 0
   IsSameShutter a b = (b.used ≡ a.used) × (b.end.pipe ≡ a.end.pipe) × (b.end.number ≡ a.end.number) × (b.end.producers ≡ a.end.producers) × (b.end.capacity ≡ a.end.capacity)
 
-  -- the mark is there now; or it was refused and is not; or it was there before, and nothing changed
-  abbrev pub Closes : Result (Unit {0}) CloseFault → Shutting T → Shutting T → Type 0
-  Closes (Ok x) s t = (s.closed ≡ false) × (t ≡ shutting (offered s.end (entry s.end.number (Marked Close))) s.used true s.ended)
-  Closes (Err Full) s t = (s.closed ≡ false) × (t ≡ shutting (refused s.end (entry s.end.number (Marked Close))) s.used false s.ended)
-  Closes (Err AlreadyClosed) s t = (s.closed ≡ true) × (t ≡ s)
+  -- after a try of its closing mark, which was pushed or refused
+  abbrev pub tried : Bool → Shutting T → Shutting T
+  tried true s = shutting (offered s.end (entry s.end.number (Marked Close))) s.used true s.ended
+  tried false s = shutting (refused s.end (entry s.end.number (Marked Close))) s.used false s.ended
+
+  -- The mark was there before, and nothing changed; or it was tried, and is there now if it was pushed.
+  abbrev pub Closes : Bool → Shutting T → Shutting T → Type 0
+  Closes is_there s t = MatchBool s.closed ((is_there ≡ true) × (t ≡ s)) (t ≡ tried is_there s)
 
   -- the end mark is there where the pipe is used, and no other mark was pushed
   pub record Ends (s t : Shutting T) : Type 0 where
@@ -97,10 +98,11 @@ module _ {T : Type 0} where
   PushMarks hs = (j : ℕ) (s : Sender T) → slice_get (shutter_ends hs) j ≡ Some s → (payloads (pushes s.offers) ≡ []) × (has_mark (pushes s.offers) ≡ closed_at hs j)
 
   -- the one at a place tried its closing mark, and the others nothing; all are of the same pipes as before
-  pub record ClosesAt (at : ℕ) (result : Result (Unit {0}) CloseFault) (old new : List (Shutting T)) : Type 0 where
-    pub shutter : Shutting T
-    pub closes : (d : Shutting T) → Closes result (slice_index_or old at d) shutter
-    pub others : new ≡ slice_set old at shutter
+  pub record ClosesAt (at : ℕ) (is_there : Bool) (old new : List (Shutting T)) : Type 0 where
+    pub closes : (d : Shutting T) → Closes is_there (slice_index_or old at d) (slice_index_or new at d)
+    pub closed : closed_at new at ≡ is_there
+    pub long : length new ≡ length old
+    pub others : (j : ℕ) → (j ≡ at → ⊥) → slice_get new j ≡ slice_get old j
     pub unended : AreOpen new
     pub same : (uses : ℕ → Bool) (k p : ℕ) (shapes : List Shape) → AreShutters uses k p shapes old → AreShutters uses k p shapes new
 

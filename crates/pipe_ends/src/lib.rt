@@ -20,4 +20,4 @@ pub use laws::{deals_last, reads_columns, shutters_finish};
 pub use line::Line;
 pub use marking::{bare_shutters, close_at, mark_all};
 pub use opened::{Opened, open_pipes};
-pub use shutter::{CloseFault, Shutter};
+pub use shutter::Shutter;

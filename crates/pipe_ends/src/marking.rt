@@ -4,15 +4,11 @@ ghost use Rattle.std.specs.Prelude.{◌≡◌, ◌≤◌, ◌<◌, [], length, t
 ghost use Rattle.pipe_ends.specs.Shutting.{AreMarking, AreOpen, ClosesAt, EachEnds, PushMarks, Shutting, shutter_ends};
 
 use crate::ends::Ends;
-use crate::shutter::{CloseFault, Shutter};
+use crate::shutter::Shutter;
 use std::sync::Wait;
 
-/// Tries the closing mark of the pipe at a place once, where it is not there yet.
-pub fn close_at<T: Drop, R: Wait>(
-    rt: &R,
-    shutters: &mut Vec<Shutter<T>>,
-    at: usize,
-) -> Result<(), CloseFault>
+/// Tries the closing mark of the pipe at a place once, where it is not there yet. Whether it is there now.
+pub fn close_at<T: Drop, R: Wait>(rt: &R, shutters: &mut Vec<Shutter<T>>, at: usize) -> bool
     requires there { at < length shutters.old.items }
     requires used { (d : Shutting T) → (slice_index_or shutters.old.items at d).used ≡ true }
     requires unended { AreOpen shutters.old.items }

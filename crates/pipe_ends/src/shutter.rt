@@ -3,19 +3,10 @@
 ghost use Rattle.std.specs.Prelude.{◌≡◌, [], false, true, MatchBool};
 ghost use Rattle.pipe_ends.specs.Shutting.{Closes, Ends, IsShutting, IsStill, shutting};
 
-use ruled_pipe::{Mark, Producer};
+use ruled_pipe::{Full, Mark, Producer};
 use std::marker::Model;
 use std::sync::Wait;
 use std::thread;
-
-/// Why a closing mark was not pushed.
-#[derive(Clone, Copy, PartialEq, Eq, Drop)]
-pub enum CloseFault {
-    /// The pipe was full.
-    Full,
-    /// The mark was there before.
-    AlreadyClosed,
-}
 
 /// A producer that pushes marks alone: a closing mark at most, and its end mark last. A pipe that is not
 /// used gets neither.
@@ -76,20 +67,20 @@ impl<T: Drop> Shutter<T> {
         self.closed
     }
 
-    /// Tries the closing mark once, where it is not there yet.
-    pub fn close<R: Wait>(&mut self, rt: &R) -> Result<(), CloseFault>
+    /// Tries the closing mark once, where it is not there yet. Whether it is there now.
+    pub fn close<R: Wait>(&mut self, rt: &R) -> bool
         requires { (self.old.used ≡ true) × (self.old.ended ≡ false) }
         ensures { Closes result self.old self.new }
     {
         if self.closed {
-            return Err(CloseFault::AlreadyClosed);
+            return true;
         }
         match self.producer.mark(rt, Mark::Close) {
             Ok(()) => {
                 self.closed = true;
-                Ok(())
+                true
             }
-            Err(_) => Err(CloseFault::Full),
+            Err(Full(_)) => false,
         }
     }
 

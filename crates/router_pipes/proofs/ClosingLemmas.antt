@@ -1,5 +1,5 @@
 -- Closing marks, tried one by one.
-use Rattle.std.proofs.Common.{◌≡◌, ℕ, zero, suc, ◌+◌, ◌*◌, ◌<◌, ◌≤◌, Bool, true, false, List, [], ◌∷◌, Result, Ok, Err, length, slice_get, slice_index_or, slice_set, refl, sym, ap, subst, ◌∙◌, arith}
+use Rattle.std.proofs.Common.{◌≡◌, ℕ, zero, suc, ◌+◌, ◌*◌, ◌<◌, ◌≤◌, Bool, true, false, List, [], ◌∷◌, Result, Ok, Err, length, slice_get, slice_index_or, refl, sym, ap, subst, ◌∙◌, arith}
 use Rattle.std.proofs.lemmas.Bool.{cond-false, false≢true}
 use Rattle.process_packet.specs.declared.config.Config.{Config}
 use Rattle.ruled_pipe.specs.Pipe.{Shape}
@@ -7,25 +7,11 @@ use Rattle.process_packet.specs.Network.{has_link, network}
 use Rattle.router_rules.specs.Links.{has_two_bands, link_count, link_index}
 use Rattle.router_rules.proofs.LinkLemmas.{index_within}
 use Rattle.pipe_ends.specs.Shutting.{AreOpen, AreShutters, Closes, ClosesAt, Shutting, closed_at}
-use Rattle.pipe_ends.specs.declared.shutter.CloseFault.{CloseFault as MarkFault}
-use Rattle.pipe_ends.specs.declared.shutter.CloseFault.TheVariants as mark
 use Rattle.router_pipes.specs.declared.closing.CloseFault.{CloseFault}
 use Rattle.router_pipes.specs.declared.closing.CloseFault.TheVariants.{Full, Unknown, AlreadyClosed}
 use Rattle.router_pipes.specs.Closing.{AreClosed, Closing, ClosesMarks, StayEnds, TriesAt, TriesMarks}
 
 module _ {X : Type 0} where
-  index_set : (xs : List X) (at : ℕ) (d x : X) → at < length xs → slice_index_or (slice_set xs at x) at d ≡ x
-  index_set [] at d x lt = absurd (omega arith)
-  index_set (y ∷ xs) zero d x lt = refl
-  index_set (y ∷ xs) (suc at) d x lt = index_set xs at d x (omega arith)
-
-  get_set : (xs : List X) (at j : ℕ) (x : X) → (j ≡ at → ⊥) → slice_get (slice_set xs at x) j ≡ slice_get xs j
-  get_set [] at j x other = refl
-  get_set (y ∷ xs) zero zero x other = absurd (other refl)
-  get_set (y ∷ xs) zero (suc j) x other = refl
-  get_set (y ∷ xs) (suc at) zero x other = refl
-  get_set (y ∷ xs) (suc at) (suc j) x other = get_set xs at j x (λ e. other (ap suc e))
-
   index_got : (xs ys : List X) (j : ℕ) (d : X) → slice_get xs j ≡ slice_get ys j → slice_index_or xs j d ≡ slice_index_or ys j d
   index_got [] [] j d same = refl
   index_got [] (y ∷ ys) zero d same = absurd cc
@@ -53,44 +39,13 @@ module _ {T : Type 0} where
   closed_got (a ∷ xs) (b ∷ ys) zero same = let e : a ≡ b = cc in ap (λ (h : Shutting T). h.closed) e
   closed_got (a ∷ xs) (b ∷ ys) (suc j) same = closed_got xs ys j same
 
-  set_closed : (hs : List (Shutting T)) (at : ℕ) (h : Shutting T) → at < length hs → closed_at (slice_set hs at h) at ≡ h.closed
-  set_closed [] at h lt = absurd (omega arith)
-  set_closed (x ∷ hs) zero h lt = refl
-  set_closed (x ∷ hs) (suc at) h lt = set_closed hs at h (omega arith)
-
-  set_long : (hs : List (Shutting T)) (at : ℕ) (h : Shutting T) → length (slice_set hs at h) ≡ length hs
-  set_long [] at h = refl
-  set_long (x ∷ hs) zero h = refl
-  set_long (x ∷ hs) (suc at) h = let e = set_long hs at h in omega arith
-
   -- ---- one mark
 
-  pub long_stays : (at : ℕ) (r : Result (Unit {0}) MarkFault) (old new : List (Shutting T)) → ClosesAt at r old new → length new ≡ length old
-  long_stays at r old new c = ap length c.others ∙ set_long old at c.shutter
+  pub is_tried : (at : ℕ) (is_there : Bool) (old new : List (Shutting T)) → ClosesAt at is_there old new → TriesAt at old new
+  is_tried at is_there old new c = record { is_there = is_there; closes = c.closes }
 
-  pub is_tried : (at : ℕ) (r : Result (Unit {0}) MarkFault) (old new : List (Shutting T)) → at < length old → ClosesAt at r old new → TriesAt at old new
-  is_tried at r old new lt c = record {
-    result = r;
-    closes = λ d. subst (λ (h : Shutting T). Closes r (slice_index_or old at d) h) (sym (ap (λ (hs : List (Shutting T)). slice_index_or hs at d) c.others ∙ index_set old at d c.shutter lt)) (c.closes d);
-  }
-
-  now_closed : (at : ℕ) (r : Result (Unit {0}) MarkFault) (old new : List (Shutting T)) → at < length old → (c : ClosesAt at r old new) → closed_at new at ≡ c.shutter.closed
-  now_closed at r old new lt c = ap (λ (hs : List (Shutting T)). closed_at hs at) c.others ∙ set_closed old at c.shutter lt
-
-  pub pushed_now : (at : ℕ) (x : Unit {0}) (old new : List (Shutting T)) → at < length old → ClosesAt at (Ok x) old new → closed_at new at ≡ true
-  pushed_now at x old new lt c = now_closed at (Ok x) old new lt c ∙ ap (λ (h : Shutting T). h.closed) (c.closes c.shutter).1
-
-  pub refused_now : (at : ℕ) (old new : List (Shutting T)) → at < length old → ClosesAt at (Err mark.Full) old new → closed_at new at ≡ false
-  refused_now at old new lt c = now_closed at (Err mark.Full) old new lt c ∙ ap (λ (h : Shutting T). h.closed) (c.closes c.shutter).1
-
-  pub there_before : (at : ℕ) (old new : List (Shutting T)) → at < length old → ClosesAt at (Err mark.AlreadyClosed) old new → closed_at new at ≡ true
-  there_before at old new lt c = now_closed at (Err mark.AlreadyClosed) old new lt c ∙ (ap (λ (h : Shutting T). h.closed) (c.closes c.shutter).1 ∙ (c.closes c.shutter).0)
-
-  pub others_stay : (at : ℕ) (r : Result (Unit {0}) MarkFault) (old new : List (Shutting T)) → ClosesAt at r old new → (j : ℕ) → (j ≡ at → ⊥) → slice_get new j ≡ slice_get old j
-  others_stay at r old new c j other = ap (λ (hs : List (Shutting T)). slice_get hs j) c.others ∙ get_set old at j c.shutter other
-
-  pub ends_stay : (at : ℕ) (r : Result (Unit {0}) MarkFault) (old new : List (Shutting T)) → ClosesAt at r old new → StayEnds old new
-  ends_stay at r old new c = record { unended = c.unended; same = c.same }
+  pub ends_stay : (at : ℕ) (is_there : Bool) (old new : List (Shutting T)) → ClosesAt at is_there old new → StayEnds old new
+  ends_stay at is_there old new c = record { unended = c.unended; same = c.same }
 
   pub same_stay : (hs : List (Shutting T)) → AreOpen hs → StayEnds hs hs
   same_stay hs are = record { unended = are; same = λ uses k p shapes is. is }
@@ -128,12 +83,12 @@ module _ {T : Type 0} where
       let back : low + 1 ≡ low → ⊥ = λ e. absurd (omega arith) in
       record {
         low = record {
-          result = second.result;
-          closes = λ d. subst (λ (h : Shutting T). Closes second.result h (slice_index_or new low d)) (index_got mid old low d (above low apart)) (second.closes d);
+          is_there = second.is_there;
+          closes = λ d. subst (λ (h : Shutting T). Closes second.is_there h (slice_index_or new low d)) (index_got mid old low d (above low apart)) (second.closes d);
         };
         high = λ two. record {
-          result = first.result;
-          closes = λ d. subst (λ (h : Shutting T). Closes first.result (slice_index_or old (low + 1) d) h) (sym (index_got new mid (low + 1) d (below (low + 1) back))) (first.closes d);
+          is_there = first.is_there;
+          closes = λ d. subst (λ (h : Shutting T). Closes first.is_there (slice_index_or old (low + 1) d) h) (sym (index_got new mid (low + 1) d (below (low + 1) back))) (first.closes d);
         };
         others = λ j other high. below j other ∙ above j (high refl);
       }

@@ -4,15 +4,14 @@ use Rattle.process_packet.specs.declared.config.Config.{Config}
 use Rattle.router_rules.specs.Links.{has_two_bands, link_count, link_index}
 use Rattle.ruled_pipe.specs.Pipe.{Shape}
 use Rattle.pipe_ends.specs.Shutting.{AreOpen, AreShutters, Closes, Shutting, closed_at}
-use Rattle.pipe_ends.specs.declared.shutter.CloseFault.{CloseFault as MarkFault}
 use Rattle.router_pipes.specs.declared.closing.CloseFault.{CloseFault}
 use Rattle.router_pipes.specs.declared.closing.CloseFault.TheVariants.{Full, Unknown, AlreadyClosed}
 
 module _ {T : Type 0} where
   -- The closing mark of the pipe at a place was there before, or it was tried once: pushed, or refused by a full pipe.
   pub record TriesAt (at : ℕ) (old new : List (Shutting T)) : Type 0 where
-    pub result : Result (Unit {0}) MarkFault
-    pub closes : (d : Shutting T) → Closes result (slice_index_or old at d) (slice_index_or new at d)
+    pub is_there : Bool
+    pub closes : (d : Shutting T) → Closes is_there (slice_index_or old at d) (slice_index_or new at d)
 
   -- so also each missing one of a link whose low band's pipe is this one; the other pipes' ends are as they were
   pub record TriesMarks (two : Bool) (first : ℕ) (old new : List (Shutting T)) : Type 0 where

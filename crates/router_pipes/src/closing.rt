@@ -1,13 +1,13 @@
 //! Closing a link by its marks.
 
-ghost use Rattle.std.specs.Prelude.{◌≡◌, ◌+◌, ◌*◌, ◌<◌, ℕ, length, slice_get, slice_index_or, true, false};
+ghost use Rattle.std.specs.Prelude.{◌≡◌, ◌+◌, ◌*◌, ◌<◌, ℕ, length, slice_index_or, true, false};
 ghost use Rattle.std.specs.Arc.{arc_value};
 ghost use Rattle.pipeline_laws.specs.Item.{Outgoing};
-ghost use Rattle.pipe_ends.specs.Shutting.{AreOpen, Shutting, closed_at};
+ghost use Rattle.pipe_ends.specs.Shutting.{AreOpen, Shutting};
 ghost use Rattle.router_rules.specs.Links.{has_two_bands, link_count};
 ghost use Rattle.router_rules.specs.Rules.{kinds};
 ghost use Rattle.stage_parts.specs.Outlets.{are_used};
-ghost use Rattle.router_pipes.specs.Closing.{Closing, ClosesMarks, StayEnds, TriesAt};
+ghost use Rattle.router_pipes.specs.Closing.{Closing, ClosesMarks, StayEnds};
 
 use crate::waking::notify_one;
 use pipe_ends::{Shutter, close_at};
@@ -27,24 +27,6 @@ pub enum CloseFault {
     AlreadyClosed,
 }
 
-// Tries the closing mark of the pipe at a place, where it isn't there. Whether it is there now.
-fn close_one<T: Drop, R: Wait>(rt: &R, shutters: &mut Vec<Shutter<T>>, at: usize) -> bool
-    requires there { at < length shutters.old.items }
-    requires used { (d : Shutting T) → (slice_index_or shutters.old.items at d).used ≡ true }
-    requires unended { AreOpen shutters.old.items }
-    ensures tried { TriesAt at shutters.old.items shutters.new.items }
-    ensures closed { closed_at shutters.new.items at ≡ result }
-    ensures long { length shutters.new.items ≡ length shutters.old.items }
-    ensures others { (j : ℕ) → (j ≡ at → ⊥) → slice_get shutters.new.items j ≡ slice_get shutters.old.items j }
-    ensures stay { StayEnds shutters.old.items shutters.new.items }
-{
-    match close_at(rt, shutters, at) {
-        Ok(()) => true,
-        Err(pipe_ends::CloseFault::AlreadyClosed) => true,
-        Err(pipe_ends::CloseFault::Full) => false,
-    }
-}
-
 // Closes a link of one band.
 fn close_single<T: Drop, R: Wait>(
     rt: &R,
@@ -60,7 +42,7 @@ fn close_single<T: Drop, R: Wait>(
     if shutters[low].is_closed() {
         return Err(CloseFault::AlreadyClosed);
     }
-    if close_one(rt, shutters, low) {
+    if close_at(rt, shutters, low) {
         Ok(())
     } else {
         Err(CloseFault::Full)
@@ -85,8 +67,8 @@ fn close_double<T: Drop, R: Wait>(
     if high_was && low_was {
         return Err(CloseFault::AlreadyClosed);
     }
-    let high = close_one(rt, shutters, low + 1);
-    let low = close_one(rt, shutters, low);
+    let high = close_at(rt, shutters, low + 1);
+    let low = close_at(rt, shutters, low);
     if high && low {
         Ok(())
     } else {
