@@ -97,13 +97,13 @@ bench-router: bin/router
 
 # Refuses each growth, read, write, send and more in turn, and gives bad input: each run has to end as documented.
 # It needs cc too.
-faults: bin/router bin/walk_tests bin/stages_tests bin/run_tests
+faults: bin/router bin/packet_tests bin/stages_tests bin/run_tests
 	tests/faults/run.sh
 	tests/faults/input.sh
 	tests/faults/growths.sh
 
 # The compiled tests of a crate.
-bin/walk_tests bin/pipeline_tests bin/stages_tests bin/run_tests: bin/%: $(PROVED)
+bin/packet_tests bin/pipeline_tests bin/stages_tests bin/run_tests: bin/%: $(PROVED)
 	cd crates/$* && $(RT) test
 	mkdir -p bin
 	cp crates/$*/out/$*_tests bin/$*

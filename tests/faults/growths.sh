@@ -18,10 +18,10 @@ try() {
         $("$folder/$1" --list | sed -n 's/: test$//p' | grep -x "$3") || failed=1
 }
 
-[ $# -gt 0 ] || set -- walk_tests stages_tests run_tests
+[ $# -gt 0 ] || set -- packet_tests stages_tests run_tests
 for crate; do
     case $crate in
-        walk_tests) try walk_tests NoMemory 'walks::.*' ;;
+        packet_tests) try packet_tests NoMemory 'walks::.*' ;;
         # Only the sink takes memory while the workers run. Refused it fails at that call; a test that sees just this
         # passes.
         stages_tests) try stages_tests pass 'turns::.*' ;;

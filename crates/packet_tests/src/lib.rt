@@ -1,6 +1,6 @@
-//! Tests of the crates below the decision: of the fields, the ciphers, the header, the path, the rules of
-//! one hop and the flow, all by their public functions. They are kept apart from these crates, each of which
-//! would be proved a second time for its tests.
+//! Tests of the crates of a packet, all by their public functions: of the fields, the ciphers, the header, the
+//! path, the rules of one hop and the flow, and of nets and walks, over configurations that are read from their
+//! text. They are kept apart from these crates, each of which would be proved a second time for its tests.
 #![tactic(auto)]
 
 #[cfg(test)]
@@ -17,10 +17,18 @@ mod header;
 mod hop;
 mod hops;
 #[cfg(test)]
+mod made;
+#[cfg(test)]
+mod nets;
+#[cfg(test)]
 mod path;
 #[cfg(test)]
 mod samples;
 #[cfg(test)]
 mod segments;
+#[cfg(test)]
+mod walks;
+#[cfg(test)]
+mod wires;
 
 pub use hops::hop_between;
