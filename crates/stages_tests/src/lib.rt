@@ -11,6 +11,7 @@ mod devices;
 mod ends;
 #[cfg(test)]
 mod flows;
+#[cfg(test)]
 mod letters;
 mod neighbour;
 mod new_ends;
@@ -32,6 +33,5 @@ mod timing;
 mod turns;
 
 pub use counts::{CLOSED, FULL_LINK, FULL_PROCESSOR, NO_BUFFER, NOTHING, SEND_FAILED, totals};
-pub use letters::was;
 pub use neighbour::NEAR;
 pub use new_ends::{ends_of, next_producer};
