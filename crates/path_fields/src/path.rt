@@ -8,7 +8,7 @@ use arrayvec::ArrayVec;
 
 /// A path of one to three segments and at most 64 hops, and the cursor's place on it
 /// (draft-dekater-scion-dataplane, "SCION Path Type"). Its type keeps what the tests of `read_path` show.
-#[derive(PartialEq, Eq, Drop)]
+#[derive(Drop)]
 pub struct Path {
     /// The segment of the current hop (CurrINF).
     pub current_info: u8,

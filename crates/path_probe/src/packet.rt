@@ -81,7 +81,7 @@ pub struct Way {
 }
 
 /// What the routers are asked: to carry the packet, or the router of a hop's interface for an answer.
-#[derive(Clone, Copy, PartialEq, Eq)]
+#[derive(Clone, Copy)]
 pub enum Asked {
     Nothing,
     /// The router by which the packet leaves the first AS.

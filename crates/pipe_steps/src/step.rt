@@ -9,7 +9,7 @@ use thiserror::Error;
 
 /// One act of one worker. One that the worker can't do now, or that names what isn't there, isn't
 /// possible.
-#[derive(Clone, Copy, PartialEq, Eq)]
+#[derive(Clone, Copy)]
 pub enum Step {
     /// The receiver of a link takes its next datagram, and numbers it.
     Receive(u16),

@@ -16,7 +16,7 @@ pub struct Problem {
 }
 
 /// What is done with a packet.
-#[derive(Clone, Copy, PartialEq, Eq)]
+#[derive(Clone, Copy)]
 pub enum Decision {
     /// It leaves by a link, where link 0 is the internal network; `to` is absent on an external link,
     /// whose other end is the only one.

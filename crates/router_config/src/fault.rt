@@ -3,7 +3,7 @@
 use thiserror::Error;
 
 /// The first fault of a text that is not a configuration, in the order in which `read_config` reads its keys.
-#[derive(Clone, Copy, Debug, Drop, PartialEq, Eq, Error)]
+#[derive(Clone, Copy, Debug, PartialEq, Eq, Error)]
 pub enum ConfigFault {
     /// The text is not TOML, or has an integer wider than 64 bits.
     #[error("the text is not TOML")]

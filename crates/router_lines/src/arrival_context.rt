@@ -6,7 +6,7 @@ ghost use Rattle.router_lines.specs.ArrivalContext.{usual_source};
 use process_packet::{Config, Link, Underlay};
 
 /// How the datagrams of an order arrive: by which link, from whom and when.
-#[derive(Clone, Copy, PartialEq, Eq)]
+#[derive(Clone, Copy)]
 pub struct ArrivalContext {
     /// The link; 0 is the internal network.
     pub link: u16,

@@ -6,7 +6,7 @@ use crate::report::push_count;
 use std::alloc::AllocError;
 
 /// What becomes of a request to close a link.
-#[derive(Clone, Copy, PartialEq, Eq)]
+#[derive(Clone, Copy)]
 pub enum Closing {
     /// It is closed: what its forwarder takes from now on isn't sent.
     Closed,

@@ -6,7 +6,7 @@ use crate::text::text_of;
 use router_config::pieces::{read_number, split_once};
 
 /// A command of a running router.
-#[derive(Clone, Copy, PartialEq, Eq)]
+#[derive(Clone, Copy)]
 pub enum Command {
     /// To close the link of this interface.
     Close(u16),

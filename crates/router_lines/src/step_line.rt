@@ -14,7 +14,7 @@ use router_config::pieces::split_once;
 use router_rules::{QueueIndex, WorkerIndex};
 
 /// The word by which a step begins; `answer` has nothing after it and is none of these.
-#[derive(Clone, Copy, PartialEq, Eq)]
+#[derive(Clone, Copy)]
 pub(crate) enum Verb {
     Receive,
     NoBuffer,

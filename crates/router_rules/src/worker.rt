@@ -16,7 +16,7 @@ pub enum Worker {
 }
 
 /// A pipe, named by its consumer. The forwarder of a link with two bands has a second one.
-#[derive(Clone, Copy, PartialEq, Eq)]
+#[derive(Clone, Copy)]
 pub enum Queue {
     Of(Worker),
     /// The high band of a link.

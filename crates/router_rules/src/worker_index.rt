@@ -26,7 +26,7 @@ pub enum WorkerIndex {
 }
 
 /// A pipe, its link by the index among the links, from 0 on. `Queue` has the link by its interface.
-#[derive(Clone, Copy, PartialEq, Eq)]
+#[derive(Clone, Copy)]
 pub enum QueueIndex {
     Of(WorkerIndex),
     High(u16),

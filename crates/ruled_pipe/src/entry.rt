@@ -1,7 +1,7 @@
 //! What lies in a pipe.
 
 /// A mark of a producer, which carries no payload.
-#[derive(Clone, Copy, PartialEq, Eq)]
+#[derive(Clone, Copy)]
 pub enum Mark {
     /// What its taker sends goes no further.
     Close,

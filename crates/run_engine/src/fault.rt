@@ -4,7 +4,7 @@ use router_engine::LinesFault;
 use thiserror::Error;
 
 /// Why a router over its sockets wasn't started, or ended before its report was written.
-#[derive(Clone, Copy, Debug, Drop, PartialEq, Eq, Error)]
+#[derive(Clone, Copy, Debug, PartialEq, Eq, Error)]
 pub enum RunFault {
     /// The socket of the link with this interface can't be had; 0 is the internal network.
     #[error("socket {0}")]

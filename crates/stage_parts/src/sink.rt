@@ -7,7 +7,7 @@ ghost use Rattle.stage_parts.specs.Told.{Told, telling};
 use router_rules::Outgoing;
 
 /// A sink failed to send.
-#[derive(Clone, Copy, PartialEq, Eq)]
+#[derive(Clone, Copy)]
 pub struct SinkFault;
 
 /// A sink of datagrams.

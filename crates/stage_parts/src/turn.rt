@@ -1,7 +1,7 @@
 //! What came of a turn.
 
 /// What came of a worker's turn.
-#[derive(Clone, Copy, PartialEq, Eq)]
+#[derive(Clone, Copy)]
 pub enum Turn {
     /// It did something.
     Did,

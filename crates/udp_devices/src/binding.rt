@@ -20,7 +20,7 @@ use std::time::Clock;
 use thiserror::Error;
 
 /// Why the sockets of a router can't be had.
-#[derive(Clone, Copy, Debug, Drop, PartialEq, Eq, Error)]
+#[derive(Clone, Copy, Debug, PartialEq, Eq, Error)]
 pub enum BindFault {
     /// The socket of the link with this interface; 0 is the internal network.
     #[error("socket {0}")]

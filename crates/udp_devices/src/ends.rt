@@ -6,7 +6,7 @@ ghost use Rattle.udp_devices.specs.Ends.{destination, ends_of, is_same_family};
 use process_packet::{Config, Ip, Link, Underlay};
 
 /// The ends of a link: this router's own, and the neighbour's. The internal network has many others.
-#[derive(Clone, Copy, PartialEq, Eq)]
+#[derive(Clone, Copy)]
 pub struct Ends {
     pub local: Underlay,
     pub remote: Option<Underlay>,

@@ -12,7 +12,7 @@ pub struct End {
 }
 
 /// A wire between two links.
-#[derive(Clone, Copy, PartialEq, Eq)]
+#[derive(Clone, Copy)]
 pub struct Wire {
     /// Either of its ends.
     pub one: End,
