@@ -7,6 +7,7 @@ use crate::fault::ConfigFault;
 use crate::location::{Key, Location, location_in};
 use std::alloc::{AllocError, Global};
 use std::ops::Range;
+use toml::de::Error;
 use toml::{Table, Value};
 
 /// What is there, in one line. The forwarding key isn't shown.
@@ -39,24 +40,27 @@ fn member_at(table: &Table, list: Key, number: usize) -> Option<&Table> {
     members.get(number.checked_sub(1)?)?.as_table()
 }
 
+/// What is at a key, and what is wanted there; `of` says of which member of a list.
+fn value_words(
+    alloc: Global,
+    key: Key,
+    of: &str,
+    table: Option<&Table>,
+) -> Result<String, AllocError> {
+    let found = found_at(alloc, key, table)?;
+    format!(in alloc; "`{}`{of} is {found}; wanted: {}", key.name(), key.wanted())
+}
+
 /// What is at a place, and what is wanted there.
 fn words_at(alloc: Global, table: &Table, location: Location) -> Result<String, AllocError> {
     match location {
-        Location::Value(key) => {
-            let found = found_at(alloc, key, Some(table))?;
-            format!(in alloc; "`{}` is {found}; wanted: {}", key.name(), key.wanted())
-        }
+        Location::Value(key) => value_words(alloc, key, "", Some(table)),
         Location::Member(list, number) => {
             format!(in alloc; "{} {number} is not a table", list.name())
         }
         Location::MemberValue(list, number, key) => {
-            let found = found_at(alloc, key, member_at(table, list, number))?;
-            format!(in alloc;
-                "`{}` of {} {number} is {found}; wanted: {}",
-                key.name(),
-                list.name(),
-                key.wanted()
-            )
+            let of = format!(in alloc; " of {} {number}", list.name())?;
+            value_words(alloc, key, of.as_str(), member_at(table, list, number))
         }
     }
 }
@@ -71,6 +75,12 @@ fn line_of(text: &str, span: Option<Range<usize>>) -> usize {
     ends.filter(|byte| **byte == b'\n')
         .count()
         .saturating_add(1)
+}
+
+/// Why a text is not TOML, and where.
+fn toml_words(alloc: Global, text: &str, error: &Error) -> Result<String, AllocError> {
+    let line = line_of(text, error.span());
+    format!(in alloc; "line {line}: {}", error.message())
 }
 
 /// Where the first fault of a text is, in words: at which key, in a list also of which of its
@@ -91,10 +101,6 @@ pub fn fault_words(alloc: Global, text: &str) -> Result<Option<String>, AllocErr
             },
         },
         Err(error) if error.is_memory() => Err(AllocError),
-        Err(error) => Ok(Some(format!(in alloc;
-            "line {}: {}",
-            line_of(text, error.span()),
-            error.message()
-        )?)),
+        Err(error) => Ok(Some(toml_words(alloc, text, &error)?)),
     }
 }

@@ -1,4 +1,4 @@
-use Rattle.std.proofs.Common.{◌≡◌, ◌∙◌, ◌+◌, ◌<◌, ◌++◌, ◌∷◌, [], drop, get_or, length, length-append, inr, rules, sym, ap}
+use Rattle.std.proofs.Common.{◌≡◌, ◌∙◌, ◌+◌, ◌<◌, ◌++◌, ◌∷◌, [], drop, get_or, length, length-append, inr, rules, sym, ap, arith}
 use Rattle.toml.specs.View.{items_view, view}
 use Rattle.process_packet.specs.Neighbours.{is_link}
 use Rattle.router_config.specs.Neighbours.{link_of, members_from, taken}
@@ -14,7 +14,7 @@ returns-then-count-gt-MOST_LINKS-clause-value c =
 
 pub returns-in-Err-clause-value : goal.returns-in-Err-clause-value
 returns-in-Err-clause-value c =
-    let few = (some_links c.args.version c.args.members.now.items (search rules) ∙ not_too_many 32 (link_of c.args.version) c.args.members.now.items (search rules)) in
+    let few = (some_links c.args.version c.args.members.now.items (search rules) ∙ not_too_many 32 (link_of c.args.version) c.args.members.now.items (let n = c.len-count.ensures in let f = c.if-count-gt-MOST_LINKS.false in omega arith)) in
     let member = ap (λ v. link_of c.args.version c.loop-member.links.items (view v)) (c.member-item.is ∙ ap (λ vs. get_or vs c.loop-member.member-index c.member-item.result) c.deref-member-items.ensures.value) in
     let read = rw c.as_slice.ensures.value at c.in-Err.ensures.value in
     let here : c.loop-member.member-index < length c.args.members.now.items = search rules in
@@ -38,5 +38,5 @@ loop-member-preserved c =
 
 pub returns-clause-value : goal.returns-clause-value
 returns-clause-value c =
-    let few = (some_links c.args.version c.args.members.now.items (search rules) ∙ not_too_many 32 (link_of c.args.version) c.args.members.now.items (search rules)) in
+    let few = (some_links c.args.version c.args.members.now.items (search rules) ∙ not_too_many 32 (link_of c.args.version) c.args.members.now.items (let n = c.len-count.ensures in let f = c.if-count-gt-MOST_LINKS.false in omega arith)) in
     few ∙ c.loop-member.invariant.rest ∙ last_member (link_of c.args.version) c.loop-member.links.items c.args.members.now.items c.loop-member.member-index (search rules)
