@@ -1,2 +1,1 @@
 pub mod WordsLemmas
-mod OkLemmas

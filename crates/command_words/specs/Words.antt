@@ -1,13 +1,20 @@
 -- What the words of a command line ask for, by what a parse of them finds.
-use Rattle.std.specs.Prelude.{◌≡◌, ◌≤◌, ℕ, List, [], Option, Some, None, true, codes, decimal, option_map}
+use Rattle.std.specs.Prelude.{◌≡◌, ◌≤◌, ℕ, List, [], Option, Some, None, Result, IfOk, true, false, codes, decimal, option_map}
 use Rattle.clap.specs.Faults.{fault_of}
-use Rattle.clap.specs.Simple.{App, new_app, new_rule, on_top, subcommand_of, with_rule, with_subcommand}
+use Rattle.clap.specs.Simple.{App, app_of, new_app, new_rule, on_top, subcommand_of, with_rule, with_subcommand}
 use Rattle.clap.specs.Walk.{Row, Rule, Text, first_of}
 use Rattle.process_packet.specs.declared.underlay.Underlay.{Underlay}
 use Rattle.text_values.specs.Address.{underlay_of}
+use Rattle.std.specs.declared.alloc.AllocError.{AllocError}
+use Rattle.clap.specs.declared.builder.command.Command.{Command}
+use Rattle.clap.specs.declared.builder.command.Command.TheViews.{out-Command as fields_of}
 use Rattle.clap.specs.declared.builder.action.ArgAction.TheVariants.{Set}
 use Rattle.command_words.specs.declared.words.Order.{Order}
 use Rattle.command_words.specs.declared.words.Order.TheVariants as order
+
+-- The command, where there was memory for it, takes these words, and has no option that its orders share.
+abbrev pub IsGrammar : App → Result Command AllocError → Type 0
+IsGrammar app made = IfOk made (λ c. (app_of c ≡ app) × ((fields_of c).has_globals ≡ false))
 
 -- `--name VALUE`, which has to be there
 abbrev pub wanted : Text → Rule

@@ -1,13 +1,12 @@
 //! The command line.
-ghost use Rattle.std.specs.Prelude.{◌≡◌, ◌≢◌, ◌≤◌, ℕ, List, Option, Some, codes, map, option_map, string_bytes, false, IfErr, IfNone, IfOk, IfSome};
-ghost use Rattle.clap.specs.Simple.{app_of, subcommand_rows_of, with_rule, with_subcommand};
+ghost use Rattle.std.specs.Prelude.{◌≡◌, ◌≢◌, ℕ, List, Option, Some, codes, map, option_map, string_bytes, false, IfErr, IfNone, IfOk, IfSome};
+ghost use Rattle.clap.specs.Simple.{App, app_of, subcommand_rows_of, with_rule, with_subcommand};
 ghost use Rattle.clap.specs.Values.{kind_of};
 ghost use Rattle.clap.specs.Matches.{found_of};
 ghost use Rattle.clap.specs.Walk.{first_of, rows_of, rule_of};
-ghost use Rattle.clap.specs.declared.builder.command.Command.TheViews.{out-Command as fields_of};
 ghost use Rattle.clap.specs.declared.error.kind.ErrorKind.TheVariants.{OutOfMemory};
 ghost use Rattle.process_packet.specs.declared.underlay.Underlay.{Underlay as Address};
-ghost use Rattle.command_words.specs.Words.{Asked, Asks, AsksOf, AsksRoute, Orders, alone, asked_of, from_of, offered, route, router, wanted};
+ghost use Rattle.command_words.specs.Words.{Asked, Asks, AsksOf, AsksRoute, IsGrammar, Orders, alone, asked_of, from_of, offered, route, router, wanted};
 ghost use Rattle.command_words.specs.declared.words.WordsFault.TheVariants.{Memory, Told};
 
 use clap::error::ErrorKind;
@@ -135,26 +134,30 @@ fn offered<'a>(alloc: Global, name: &'a str, value: &'a str, help: &'a str) -> A
         .action(ArgAction::Set)
 }
 
-/// The command with an option more.
-fn with_option<'a>(command: Command<'a>, option: Arg<'a>) -> Result<Command<'a>, AllocError>
+/// The command with an option more, unless memory ran out before.
+fn with_option<'a>(
+    command: Result<Command<'a>, AllocError>,
+    option: Arg<'a>,
+) -> Result<Command<'a>, AllocError>
     requires { option.global ≡ false }
-    ensures app { IfOk result (λ r. app_of r ≡ with_rule (app_of command.entry) (rule_of option.entry)) }
-    ensures own { IfOk result (λ r. (fields_of command.entry).has_globals ≡ false → (fields_of r).has_globals ≡ false) }
+    ensures { (app : App) → IsGrammar app command.entry → IsGrammar (with_rule app (rule_of option.entry)) result }
 {
-    command.arg(option)
+    match command {
+        Ok(command) => command.arg(option),
+        Err(fault) => Err(fault),
+    }
 }
 
 /// The words of `route`.
 fn route_grammar<'a>(alloc: Global) -> Result<Command<'a>, AllocError>
-    ensures app { IfOk result (λ command. app_of command ≡ route) }
-    ensures own { IfOk result (λ command. (fields_of command).has_globals ≡ false) }
+    ensures { IsGrammar route result }
 {
     let command = Command::new(alloc, "route").about(
         "Answers each line of hex on the standard input, a datagram, by one line",
     );
-    let command = with_option(command, wanted(alloc, "config", "FILE", CONFIG_HELP))?;
-    let command = with_option(command, wanted(alloc, "link", "N", LINK_HELP))?;
-    let command = with_option(command, wanted(alloc, "now", "S", NOW_HELP))?;
+    let command = with_option(Ok(command), wanted(alloc, "config", "FILE", CONFIG_HELP));
+    let command = with_option(command, wanted(alloc, "link", "N", LINK_HELP));
+    let command = with_option(command, wanted(alloc, "now", "S", NOW_HELP));
     with_option(command, offered(alloc, "from", "ADDR", FROM_HELP))
 }
 
@@ -164,32 +167,23 @@ fn alone_grammar<'a>(
     name: &'a str,
     about: &'a str,
 ) -> Result<Command<'a>, AllocError>
-    ensures app { IfOk result (λ command. app_of command ≡ alone name.now) }
-    ensures own { IfOk result (λ command. (fields_of command).has_globals ≡ false) }
+    ensures { IsGrammar (alone name.now) result }
 {
     let config = wanted(alloc, "config", "FILE", CONFIG_HELP);
     Command::new(alloc, name).about(about).arg(config)
 }
 
-/// The words of a program with such an order more.
-fn with_alone<'a>(
-    alloc: Global,
-    program: Command<'a>,
-    name: &'a str,
-    about: &'a str,
+/// The words of a program with an order more, unless memory ran out before.
+fn with_order<'a>(
+    program: Result<Command<'a>, AllocError>,
+    order: Result<Command<'a>, AllocError>,
 ) -> Result<Command<'a>, AllocError>
-    ensures { IfOk result (λ command. app_of command ≡ with_subcommand (app_of program.entry) (alone name.now).top) }
+    ensures { (app sub : App) → IfOk program.entry (λ c. app_of c ≡ app) → IsGrammar sub order.entry → IfOk result (λ r. app_of r ≡ with_subcommand app sub.top) }
 {
-    let order = alone_grammar(alloc, name, about)?;
-    program.subcommand(order)
-}
-
-/// The words of a program with `route` more.
-fn with_route<'a>(alloc: Global, program: Command<'a>) -> Result<Command<'a>, AllocError>
-    ensures { IfOk result (λ command. app_of command ≡ with_subcommand (app_of program.entry) route.top) }
-{
-    let order = route_grammar(alloc)?;
-    program.subcommand(order)
+    match (program, order) {
+        (Ok(program), Ok(order)) => program.subcommand(order),
+        _ => Err(AllocError),
+    }
 }
 
 /// The words that the program takes.
@@ -201,10 +195,10 @@ fn grammar<'a>(alloc: Global) -> Result<Command<'a>, AllocError>
         .version("0.1.0")
         .no_binary_name(true)
         .subcommand_required(true);
-    let program = with_route(alloc, program)?;
-    let program = with_alone(alloc, program, "replay", REPLAY_ABOUT)?;
-    let program = with_alone(alloc, program, "run", RUN_ABOUT)?;
-    with_alone(alloc, program, "check", CHECK_ABOUT)
+    let program = with_order(Ok(program), route_grammar(alloc));
+    let program = with_order(program, alone_grammar(alloc, "replay", REPLAY_ABOUT));
+    let program = with_order(program, alone_grammar(alloc, "run", RUN_ABOUT));
+    with_order(program, alone_grammar(alloc, "check", CHECK_ABOUT))
 }
 
 /// The address that a word names, if it is one; no word names none.
