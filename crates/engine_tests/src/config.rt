@@ -4,6 +4,7 @@ use process_packet::{Bands, Config, Ip, Link, Service, Sibling, Underlay};
 use router_config::{ConfigFault, fault_words, push_underlay, read_config, read_underlay};
 use sample_packets::CONFIGURATION as TEXT;
 use segment_switch::LinkKind;
+use std::alloc::Global;
 use std::process::Abort;
 
 /// The tag of an empty message under the configuration's key, from RFC 4493.
@@ -11,32 +12,31 @@ const EMPTY_TAG: [u8; 16] = [
     0xbb, 0x1d, 0x69, 0x29, 0xe9, 0x59, 0x37, 0x28, 0x7f, 0xa3, 0x7d, 0x12, 0x9b, 0x75, 0x67, 0x46,
 ];
 
-fn check_rest(rt: &impl Abort, config: &Config) {
-    assert!(rt; config.isd == 1);
-    assert!(rt; config.autonomous_system == 0xff00_0000_0110);
-    assert!(rt; config.key.tag(b"") == EMPTY_TAG);
-    assert!(rt; config.internal == underlay([10, 0, 0, 1], 30000));
-    assert!(rt; config.host_port == 30041);
-    assert!(rt; config.processors == 1);
-    assert!(rt; config.capacity == 4);
-    assert!(rt; config.seed == 0);
+/// Whether a configuration has the values of the text, but for its links and what version 2 has more.
+fn is_rest(config: &Config) -> bool {
     let siblings = [Sibling {
         id: 4,
         kind: LinkKind::Child,
         at: underlay([10, 0, 0, 2], 30000),
     }];
-    assert!(rt; config.siblings.as_slice() == siblings.as_slice());
     let services = [Service {
         number: 2,
         at: underlay([10, 0, 0, 9], 30252),
     }];
-    assert!(rt; config.services.as_slice() == services.as_slice());
+    config.isd == 1
+        && config.autonomous_system == 0xff00_0000_0110
+        && config.key.tag(b"") == EMPTY_TAG
+        && config.internal == underlay([10, 0, 0, 1], 30000)
+        && config.host_port == 30041
+        && (config.processors, config.capacity, config.seed) == (1, 4, 0)
+        && config.siblings.as_slice() == siblings.as_slice()
+        && config.services.as_slice() == services.as_slice()
 }
 
 #[test]
 fn reads_a_configuration(rt: HostRuntime) {
     let config = read_config(rt.alloc(), TEXT).expect(&rt, "configuration");
-    check_rest(&rt, &config);
+    assert!(&rt; is_rest(&config));
     assert!(&rt; config.internal_bands == Bands::One);
     assert!(&rt; config.buffers == 64);
     let links = [
@@ -80,7 +80,7 @@ fn second(rt: &(impl AllocGlobal + Abort)) -> String {
 #[test]
 fn reads_the_second_version(rt: HostRuntime) {
     let config = read_config(rt.alloc(), second(&rt).as_str()).expect(&rt, "configuration");
-    check_rest(&rt, &config);
+    assert!(&rt; is_rest(&config));
     assert!(&rt; config.internal_bands == Bands::One);
     let links = [
         link(1, LinkKind::Parent, 1, Bands::One),
@@ -91,19 +91,32 @@ fn reads_the_second_version(rt: HostRuntime) {
     drop(config);
 }
 
+/// The number of a text's fault; 0 where it is a configuration.
+fn fault_number(alloc: Global, text: &str) -> u8 {
+    match read_config(alloc, text) {
+        Ok(_) => 0,
+        Err(fault) => fault.number(),
+    }
+}
+
+/// Whether a text's fault is told in these words; none where it is a configuration.
+fn is_told(alloc: Global, text: &str, words: Option<&str>) -> bool {
+    match fault_words(alloc, text) {
+        Ok(Some(told)) => words == Some(told.as_str()),
+        Ok(None) => words.is_none(),
+        Err(_) => false,
+    }
+}
+
 /// The fault by its number and in its words.
 #[test]
 fn tells_a_fault(rt: HostRuntime) {
     let alloc = rt.alloc();
-    assert!(&rt; fault_words(alloc, TEXT).expect(&rt, "memory").is_none());
     let text = changed(&rt, TEXT, "version = 1", "version = 3");
-    let number = match read_config(alloc, text.as_str()) {
-        Ok(_) => 0,
-        Err(fault) => fault.number(),
-    };
-    assert!(&rt; number == 8);
-    let told = fault_words(alloc, text.as_str()).expect(&rt, "memory");
-    assert!(&rt; told.expect(&rt, "words").as_str() == "`version` is 3; wanted: 1 or 2");
+    let words = "`version` is 3; wanted: 1 or 2";
+    assert!(&rt; fault_number(alloc, text.as_str()) == 8);
+    assert!(&rt; is_told(alloc, text.as_str(), Some(words)));
+    assert!(&rt; is_told(alloc, TEXT, None));
 }
 
 /// An address and its text.
@@ -131,13 +144,18 @@ const ADDRESSES: [(&str, Underlay); 3] = [
     ),
 ];
 
+/// Whether a text is read as an address, and the address is printed so.
+fn is_read_and_printed(alloc: Global, text: &str, address: &Underlay) -> bool {
+    let mut printed = Vec::new(alloc);
+    read_underlay(text) == Some(*address)
+        && push_underlay(&mut printed, address).is_ok()
+        && printed.as_slice() == text.as_bytes()
+}
+
 #[test]
 fn prints_what_it_reads(rt: HostRuntime) {
     for (text, address) in ADDRESSES {
-        assert!(&rt; read_underlay(text) == Some(address), "at {text}");
-        let mut printed = Vec::new(rt.alloc());
-        push_underlay(&mut printed, &address).expect(&rt, "text");
-        assert!(&rt; printed.as_slice() == text.as_bytes(), "at {text}");
+        assert!(&rt; is_read_and_printed(rt.alloc(), text, &address), "{text}");
     }
     // Both cases and leading zeros of a group are read; they aren't printed.
     let read = read_underlay("[FD00:0001:0020:300:4000:0:A:77]:65535");
@@ -147,7 +165,7 @@ fn prints_what_it_reads(rt: HostRuntime) {
 #[test]
 fn answers_want_of_memory(rt: HostRuntime) {
     match read_config(rt.alloc(), TEXT) {
-        Ok(config) => check_rest(&rt, &config),
+        Ok(config) => assert!(&rt; is_rest(&config)),
         Err(fault) => assert!(&rt; fault == ConfigFault::Memory),
     }
 }
