@@ -102,6 +102,15 @@ fn push(rt: &(impl AllocGlobal + Abort), text: &mut String, more: &str) {
     text.push_str(more).expect(rt, "text");
 }
 
+/// The interface by which a segment enters an AS, or leaves it.
+fn interface(plan: Plan, number: u8, leaves: bool) -> u16 {
+    if leaves {
+        egress(plan, number)
+    } else {
+        ingress(number)
+    }
+}
+
 /// The link by which the segment enters an AS, or leaves it. The wire after AS k is number k.
 fn push_link(
     rt: &(impl AllocGlobal + Abort),
@@ -110,11 +119,7 @@ fn push_link(
     number: u8,
     leaves: bool,
 ) {
-    let id = if leaves {
-        egress(plan, number)
-    } else {
-        ingress(number)
-    };
+    let id = interface(plan, number, leaves);
     let wire = if leaves {
         number
     } else {
@@ -136,11 +141,7 @@ fn push_sibling(
     number: u8,
     leaves: bool,
 ) {
-    let id = if leaves {
-        egress(plan, number)
-    } else {
-        ingress(number)
-    };
+    let id = interface(plan, number, leaves);
     let router = if leaves { 2 } else { 1 };
     let kind = kind(plan, leaves);
     let line = format!(in rt.alloc();
