@@ -102,8 +102,8 @@ module _ {K : Type 0} (told : K → Option (List Told)) (failed : K → ℕ) (lo
   looked_then after is = subst (λ (b : Band). KeepsForwarding told failed b high began side) (sym is) (looked_low told_of low.taker high.taker low.shut high.shut (told side.sink) began (failed side.sink) side.share k)
 
   pub keeps_posted : (new : Delivery K) → IsPosted side.share new.share → new ≡ with_share new.share side → KeepsForwarding told failed low high began new
-  keeps_posted new (inl is) is_shared = subst (λ (n : Delivery K). KeepsForwarding told failed low high began n) (sym (is_shared ∙ ap (λ (s : Held). with_share s side) is)) (forwards_posted told_of low.taker high.taker low.shut high.shut (told side.sink) began (failed side.sink) side.share k)
-  keeps_posted new (inr is) is_shared = subst (λ (n : Delivery K). KeepsForwarding told failed low high began n) (sym (is_shared ∙ ap (λ (s : Held). with_share s side) is.0)) k
+  keeps_posted new (inl is) is_shared = subst (λ (n : Delivery K). KeepsForwarding told failed low high began n) (sym (is_shared ∙ ap (λ (s : Held). with_share s side) is.1)) (forwards_posted told_of low.taker high.taker low.shut high.shut (told side.sink) began (failed side.sink) side.share k)
+  keeps_posted new (inr is) is_shared = subst (λ (n : Delivery K). KeepsForwarding told failed low high began n) (sym (is_shared ∙ ap (λ (s : Held). with_share s side) is.1)) k
 
 -- nothing was taken yet
 pub keeps_first : {K : Type 0} (told : K → Option (List Told)) (failed : K → ℕ) (low high : Band) (began : ℕ) (side : Delivery K) → (low.taker.taken ≡ []) × (low.shut ≡ false) → (high.taker.taken ≡ []) × (high.shut ≡ false)

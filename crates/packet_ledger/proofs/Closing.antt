@@ -1,12 +1,12 @@
 -- The shares handed back: what they posted and still hold, added up.
-use Rattle.std.proofs.Common.{◌≡◌, ℕ, ◌+◌, ◌-◌, ◌≤◌, true, List, [], ◌∷◌, ◌++◌, length, refl, sym, ap, ◌∙◌, subst, length-append, arith}
+use Rattle.std.proofs.Common.{◌≡◌, ℕ, ◌+◌, ◌-◌, ◌*◌, ◌^◌, ◌≤◌, true, List, [], ◌∷◌, ◌++◌, length, refl, sym, ap, ◌∙◌, subst, length-append, arith}
 use Rattle.std.proofs.lemmas.List.Sums.{fold-append}
 use Rattle.process_packet.specs.declared.totals.Totals.{Totals}
 use Rattle.packet_ledger.specs.declared.tokens.View.{View}
 use Rattle.packet_ledger.specs.Amounts.{count_at, nothing, plus}
 use Rattle.packet_ledger.specs.Tokens.{Audited, gathered, keeper, kept}
 use Rattle.packet_ledger.specs.Share.{Held, counts_of, posted_by}
-use Rattle.packet_ledger.proofs.Counting.{same_counts, plus_nothing}
+use Rattle.packet_ledger.proofs.Counting.{same_counts, plus_at, plus_nothing, nothing_at}
 
 posted_next : (xs : List Held) (s : Held) → posted_by (xs ++ s ∷ []) ≡ plus (posted_by xs) s.posted
 posted_next xs s = fold-append (λ (t : Totals) (h : Held). plus t h.posted) nothing xs (s ∷ [])
@@ -19,6 +19,18 @@ gathered_next xs s v0 v w is then =
     let next : w ≡ gathered 1 (plus (posted_by xs) s.posted) (gathered (length xs) (posted_by xs) v0) = then ∙ ap (λ (u : View). gathered 1 (plus u.posted s.posted) u) is in
     let n : v0.parts + length xs + 1 ≡ v0.parts + length (xs ++ s ∷ []) = omega (arith, length-append xs (s ∷ [])) in
     next ∙ (λ i. record { keeps = v0.keeps; parts = n i; posted = sym (posted_next xs s) i; booked = v0.booked })
+
+-- each posted at most its most
+pub posted_most : (xs : List Held) (s : Held) (i : ℕ) → count_at i (posted_by xs) ≤ length xs * 2 ^ 109 → count_at i s.posted ≤ 2 ^ 109 → count_at i (posted_by (xs ++ s ∷ [])) ≤ length (xs ++ s ∷ []) * 2 ^ 109
+posted_most xs s i most one =
+    let p = plus_at i (posted_by xs) s.posted in let e = ap (count_at i) (posted_next xs s) in omega (arith, length-append xs (s ∷ []))
+
+-- so the book's token may give all that it knows as posted away with as many parts
+pub gives_all : (shares : List Held) (m : ℕ) (zero' : Totals) (v0 v1 v2 : View) → m ≡ length shares → zero' ≡ nothing → v1 ≡ gathered (length shares) (posted_by shares) v0 → v2 ≡ v1 → ((i : ℕ) → count_at i (posted_by shares) ≤ length shares * 2 ^ 109)
+    → (i : ℕ) → count_at i v2.posted + count_at i zero' ≤ m * 2 ^ 109
+gives_all shares m zero' v0 v1 v2 all isZero is1 is2 most i =
+    let a : count_at i v2.posted ≡ count_at i (posted_by shares) = ap (λ (v : View). count_at i v.posted) (is2 ∙ is1) in
+    let b = ap (count_at i) isZero in let z = nothing_at i in let s = most i in omega arith
 
 -- with every share taken in, the sums are all that was posted, and the book's token can be as it was
 pub closes : (workers n m : ℕ) (totals zero' : Totals) (shares : List Held) (v0 v1 v2 v3 : View) → workers ≤ 65536 → n ≡ workers → m ≡ n → length totals.dropped ≡ 18 → zero' ≡ nothing

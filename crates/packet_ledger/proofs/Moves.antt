@@ -1,5 +1,5 @@
 -- Each step of a token keeps the rule.
-use Rattle.std.proofs.Common.{◌≡◌, ◌≢◌, ℕ, zero, suc, ◌+◌, ◌-◌, ◌≤◌, List, [], ◌∷◌, ◌++◌, length, set, true, false, true≢false, refl, sym, ap, ◌∙◌, subst, ⊎_elim, arith}
+use Rattle.std.proofs.Common.{◌≡◌, ◌≢◌, ℕ, zero, suc, ◌+◌, ◌-◌, ◌*◌, ◌^◌, ◌≤◌, List, [], ◌∷◌, ◌++◌, length, set, true, false, true≢false, refl, sym, ap, ◌∙◌, subst, ⊎_elim, arith}
 use mathlib.Core.Option.{some, some-ne-none, some-injective}
 use lib.ListN.{get_elem?}
 use Rattle.crossbeam_utils.specs.Register.{Turns, Forks, Merges}
@@ -22,12 +22,12 @@ total_new : (f : View → ℕ) (views : List View) (w : View) → total f (views
 total_new f [] w = omega arith
 total_new f (x ∷ xs) w = let r = total_new f xs w in omega arith
 
--- where there are no parts, f of those without a part adds up to nothing
-total_none : (f : View → ℕ) (views : List View) → ((by : ℕ) (u : View) → get_elem? views by ≡ some u → u.parts ≡ 0 → f u ≡ 0) → total (λ (u : View). u.parts) views ≡ 0 → total f views ≡ 0
-total_none f [] idle none = refl
-total_none f (x ∷ xs) idle none =
-    let a = idle 0 x refl (omega arith) in
-    let r = total_none f xs (λ by u at. idle (suc by) u at) (omega arith) in omega arith
+-- where f of each is at most 2^109 for each of its parts, so is the sum for all parts
+total_most : (f : View → ℕ) (views : List View) → ((by : ℕ) (u : View) → get_elem? views by ≡ some u → f u ≤ u.parts * 2 ^ 109) → total f views ≤ total (λ (u : View). u.parts) views * 2 ^ 109
+total_most f [] most = omega arith
+total_most f (x ∷ xs) most =
+    let a = most 0 x refl in
+    let r = total_most f xs (λ by u at. most (suc by) u at) in omega arith
 
 all_set : (F : ℕ → View → Type 0) (views : List View) (by : ℕ) (w : View) → F by w → ((j : ℕ) (u : View) → j ≢ by → get_elem? views j ≡ some u → F j u) → (j : ℕ) (u : View) → get_elem? (set views by w) j ≡ some u → F j u
 all_set F views by w mine others j u e =
@@ -45,13 +45,13 @@ begins words = record {
   where
     one : (by : ℕ) (v : View) → get_elem? (keeper 65537 nothing nothing ∷ []) by ≡ some v → Fits 0 (posted_at (keeper 65537 nothing nothing ∷ [])) by v
     one zero v e = subst (Fits 0 (posted_at (keeper 65537 nothing nothing ∷ [])) 0) (some-injective _ _ e)
-        ((λ _. (refl, λ i. let z = nothing_at i in omega arith)), (λ p. absurd (omega arith)), refl)
+        ((λ _. (refl, λ i. let z = nothing_at i in omega arith)), (λ i. let z = nothing_at i in omega arith), refl)
     one (suc by) v e = absurd (some-ne-none v (sym e))
 
 -- the book's token gives parts away, with what it knew as posted and these counts
-pub gives : (by : ℕ) (v : View) (n : ℕ) (counts : Totals) → v.keeps ≡ true → n ≤ v.parts → (n ≡ 0 → (i : ℕ) → (count_at i v.posted ≡ 0) × (count_at i counts ≡ 0)) → length counts.dropped ≡ 18
+pub gives : (by : ℕ) (v : View) (n : ℕ) (counts : Totals) → v.keeps ≡ true → n ≤ v.parts → ((i : ℕ) → count_at i v.posted + count_at i counts ≤ n * 2 ^ 109) → length counts.dropped ≡ 18
     → Forks Balanced by v (kept n counts v) (given n counts v)
-gives by v n counts keeps few none long words views h at =
+gives by v n counts keeps enough few long words views h at =
     let l = kept n counts v in let r = given n counts v in let vs = set views by l in
     let mine = h.fits by v at in let seat = mine.0 keeps in
     let sum : (i : ℕ) → posted_at (vs ++ r ∷ []) i ≡ posted_at views i + count_at i counts =
@@ -59,8 +59,8 @@ gives by v n counts keeps few none long words views h at =
     let f : View → ℕ = λ u. count_at i u.posted in
     let a = total_set f views by v l at in let b = total_new f vs r in let z = nothing_at i in let p = plus_at i v.posted counts in omega arith in
     let F = Fits h.seat (posted_at (vs ++ r ∷ [])) in
-    let left : F by l = ((λ _. (seat.0, λ i. let b = seat.1 i in let p = plus_at i v.booked counts in let s = sum i in omega arith)), (λ _ i. nothing_at i), refl) in
-    let right : (j : ℕ) → F j r = λ j. ((λ e. off e), (λ e i. let o = none e i in let p = plus_at i v.posted counts in let a = o.0 in let b = o.1 in omega arith), length-add_each 18 v.posted.dropped counts.dropped mine.2 long) in
+    let left : F by l = ((λ _. (seat.0, λ i. let b = seat.1 i in let p = plus_at i v.booked counts in let s = sum i in omega arith)), (λ i. let z = nothing_at i in omega arith), refl) in
+    let right : (j : ℕ) → F j r = λ j. ((λ e. off e), (λ i. let o = few i in let p = plus_at i v.posted counts in omega arith), length-add_each 18 v.posted.dropped counts.dropped mine.2 long) in
     let others = all_set F views by l left (λ j u apart e. let was = h.fits j u e in ((λ k. absurd (apart ((was.0 k).0 ∙ sym seat.0))), was.1, was.2)) in record {
       seat = h.seat;
       whole = (
@@ -83,7 +83,7 @@ takes by v other w words views h at apart there =
     let F = Fits h.seat (posted_at new) in
     let one : F by both = (
       (λ k. ((mine.0 k).0, λ i. (mine.0 k).1 i ∙ sym (sum i))),
-      (λ e i. let a = mine.1 (omega arith) i in let b = theirs.1 (omega arith) i in let p = plus_at i v.posted w.posted in omega arith),
+      (λ i. let a = mine.1 i in let b = theirs.1 i in let p = plus_at i v.posted w.posted in omega arith),
       length-add_each 18 v.posted.dropped w.posted.dropped mine.2 theirs.2,
     ) in
     let first = all_set F views by both one (λ j u _ e. let was = h.fits j u e in ((λ k. ((was.0 k).0, λ i. (was.0 k).1 i ∙ sym (sum i))), was.1, was.2)) in record {
@@ -92,7 +92,7 @@ takes by v other w words views h at apart there =
           let f : View → ℕ = λ u. u.parts in
           let a = total_set f views by v both at in let b = total_set f vs other w nobody there in let s = h.whole in omega arith
           );
-      fits = all_set F vs other nobody ((λ e. off e), (λ _ i. nothing_at i), refl) (λ j u _ e. first j u e);
+      fits = all_set F vs other nobody ((λ e. off e), (λ i. let z = nothing_at i in omega arith), refl) (λ j u _ e. first j u e);
     }
 
 -- the book's token tells what it knows
@@ -103,41 +103,48 @@ audits by v keeps words views h at =
     λ i.
     let f : View → ℕ = λ u. count_at i u.posted in
     let a = total_set f views by v nobody at in let z = nothing_at i in omega arith in
-    let idle : (i : ℕ) (j : ℕ) (u : View) → get_elem? (set views by nobody) j ≡ some u → u.parts ≡ 0 → count_at i u.posted ≡ 0 =
-    λ i. all_set (λ j u. u.parts ≡ 0 → count_at i u.posted ≡ 0) views by nobody (λ _. nothing_at i) (λ j u _ e p. (h.fits j u e).1 p i) in (
+    let most : (i : ℕ) (j : ℕ) (u : View) → get_elem? (set views by nobody) j ≡ some u → count_at i u.posted ≤ u.parts * 2 ^ 109 =
+    λ i. all_set (λ j u. count_at i u.posted ≤ u.parts * 2 ^ 109) views by nobody (let z = nothing_at i in omega arith) (λ j u _ e. (h.fits j u e).1 i) in (
       v,
       subst (λ l. Balanced words l) (sym (set_again views by v at)) h,
       (
         refl,
-        (λ i. let r = rest i in let b = seat.1 i in omega arith),
+        (λ i.
+            let all = total_most (λ u. count_at i u.posted) views (λ j u e. (h.fits j u e).1 i) in
+            let b = seat.1 i in let w = h.whole in omega arith),
         (λ all i.
             let f : View → ℕ = λ u. u.parts in
             let a = total_set f views by v nobody at in let w = h.whole in
-            let none = total_none (λ u. count_at i u.posted) (set views by nobody) (idle i) (omega arith) in
+            let none = total_most (λ u. count_at i u.posted) (set views by nobody) (most i) in
             let r = rest i in let b = seat.1 i in omega arith),
         mine.2,
       ),
     )
 
--- what a post leaves: the book's token with the counts booked, and the share's with them posted
-pub posts : (workers : ℕ) (totals posted counts zero' : Totals) (v0 v1 v2 v3 v4 w r : View) → workers ≤ 65536 → length totals.dropped ≡ 18 → length posted.dropped ≡ 18 → zero' ≡ nothing
-    → v0 ≡ keeper (65537 - workers) nothing totals → v1 ≡ kept 0 zero' v0 → w ≡ holder 1 posted → v2 ≡ joined v1 w → v3 ≡ v2 → v4 ≡ kept 1 counts v3 → r ≡ given 1 counts v3
-    → (v2 ≡ keeper (65538 - workers) posted totals) × (v4 ≡ keeper (65537 - workers) nothing (plus totals counts)) × (r ≡ holder 1 (plus posted counts))
-posts workers totals posted counts zero' v0 v1 v2 v3 v4 w r few longT longP isZero is0 is1 isW is2 is3 is4 isR =
+-- the book's token with a share's taken in
+pub joins : (workers : ℕ) (totals posted zero' : Totals) (v0 v1 v2 w : View) → workers ≤ 65536 → length totals.dropped ≡ 18 → length posted.dropped ≡ 18 → zero' ≡ nothing
+    → v0 ≡ keeper (65537 - workers) nothing totals → v1 ≡ kept 0 zero' v0 → w ≡ holder 1 posted → v2 ≡ joined v1 w → v2 ≡ keeper (65538 - workers) posted totals
+joins workers totals posted zero' v0 v1 v2 w few longT longP isZero is0 is1 isW is2 =
     let first : v1 ≡ keeper (65537 - workers) nothing totals =
     is1 ∙ (λ i. kept 0 (isZero i) (is0 i)) ∙ (let b = plus_nothing totals longT in let n : (65537 - workers) - 0 ≡ 65537 - workers = omega arith in λ i. keeper (n i) nothing (b i)) in
-    let second : v2 ≡ keeper (65538 - workers) posted totals =
-    is2 ∙ (λ i. joined (first i) (isW i)) ∙ (let b = nothing_plus posted longP in let n : 65537 - workers + 1 ≡ 65538 - workers = omega arith in λ i. keeper (n i) (b i) totals) in
-    let third : v3 ≡ keeper (65538 - workers) posted totals = is3 ∙ second in (
-      second,
-      is4 ∙ ap (kept 1 counts) third ∙ (let n : 65538 - workers - 1 ≡ 65537 - workers = omega arith in λ i. keeper (n i) nothing (plus totals counts)),
-      isR ∙ ap (given 1 counts) third,
-    )
+    is2 ∙ (λ i. joined (first i) (isW i)) ∙ (let b = nothing_plus posted longP in let n : 65537 - workers + 1 ≡ 65538 - workers = omega arith in λ i. keeper (n i) (b i) totals)
 
--- what a share posted stays within the sums, since the book's token had taken it in
-pub posted_fits : (m n : ℕ) (totals posted counts sums posted' : Totals) (v : View) → v ≡ keeper n posted totals → ((i : ℕ) → count_at i v.posted ≤ count_at i v.booked)
-    → sums ≡ plus totals counts → AtMost m sums → posted' ≡ plus posted counts → AtMost m posted'
-posted_fits m n totals posted counts sums posted' v is within isSums most isPosted i =
-    let P : View → Type 0 = λ u. count_at i u.posted ≤ count_at i u.booked in
-    let a : count_at i posted ≤ count_at i totals = subst P is (within i) in
-    let b = plus_at i totals counts in let d = ap (count_at i) isSums in let e = most i in let f = plus_at i posted counts in let h = ap (count_at i) isPosted in omega arith
+-- it may give the share's posts and counts away with one part
+pub gives_one : (n : ℕ) (totals posted counts sums : Totals) (v : View) → v ≡ keeper n posted totals → sums ≡ plus posted counts → AtMost (2 ^ 109) sums → (i : ℕ) → count_at i v.posted + count_at i counts ≤ 1 * 2 ^ 109
+gives_one n totals posted counts sums v is isSums most i =
+    let a : count_at i v.posted ≡ count_at i posted = ap (λ (u : View). count_at i u.posted) is in
+    let p = plus_at i posted counts in let e = ap (count_at i) isSums in let m = most i in omega arith
+
+-- what a post leaves: the book's token with the counts booked, and the share's with them posted
+pub posts : (workers : ℕ) (totals posted counts : Totals) (v3 v4 r : View) → workers ≤ 65536 → v3 ≡ keeper (65538 - workers) posted totals → v4 ≡ kept 1 counts v3 → r ≡ given 1 counts v3
+    → (v4 ≡ keeper (65537 - workers) nothing (plus totals counts)) × (r ≡ holder 1 (plus posted counts))
+posts workers totals posted counts v3 v4 r few is3 is4 isR = (
+  is4 ∙ ap (kept 1 counts) is3 ∙ (let n : 65538 - workers - 1 ≡ 65537 - workers = omega arith in λ i. keeper (n i) nothing (plus totals counts)),
+  isR ∙ ap (given 1 counts) is3,
+)
+
+-- and what is booked then, beside what it may be at most
+pub booked_most : (n : ℕ) (totals posted counts sums : Totals) (v : View) → v ≡ keeper n posted totals → ((i : ℕ) → count_at i v.booked ≤ 65537 * 2 ^ 109) → AtMost (2 ^ 100) counts → sums ≡ plus totals counts → AtMost (2 ^ 126) sums
+booked_most n totals posted counts sums v is within few isSums i =
+    let a : count_at i v.booked ≡ count_at i totals = ap (λ (u : View). count_at i u.booked) is in
+    let w = within i in let f = few i in let p = plus_at i totals counts in let e = ap (count_at i) isSums in omega arith

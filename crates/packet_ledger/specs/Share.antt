@@ -47,17 +47,17 @@ MayRaise t = (t.received + 1 ≤ 2 ^ 100) × (t.sent + 1 ≤ 2 ^ 100) × (t.answ
 abbrev pub emptied : Held → Held
 emptied s = record { counts = nothing; posted = plus s.posted s.counts }
 
--- counts that a book may have no room for: with some sums of its own, one would pass the most
-abbrev pub IsTooMuch : Totals → Type 0
-IsTooMuch counts = (sums : Totals) × AtMost (2 ^ 126) sums × (AtMost (2 ^ 126) (plus sums counts) → ⊥)
+-- All that it ever counted can stand in the book: no sum of one share passes 2^109.
+abbrev pub MayPost : Held → Type 0
+MayPost s = AtMost (2 ^ 109) (plus s.posted s.counts)
 
--- a post moves all counts into the book, or it leaves the share as it was, since the book has no room for them
+-- A post moves all counts into the book. Where one share's sums would pass what may stand there, it leaves the share as it was.
 abbrev pub IsPosted : Held → Held → Type 0
-IsPosted old new = (new ≡ emptied old) ⊎ ((new ≡ old) × IsTooMuch old.counts)
+IsPosted old new = (MayPost old × (new ≡ emptied old)) ⊎ ((MayPost old → ⊥) × (new ≡ old))
 
--- so afterwards it holds nothing, or what the book has no room for
+-- so afterwards it holds nothing, or more than may stand there
 abbrev pub IsDrained : Held → Type 0
-IsDrained s = (s.counts ≡ nothing) ⊎ IsTooMuch s.counts
+IsDrained s = (s.counts ≡ nothing) ⊎ (MayPost s → ⊥)
 
 -- all that it ever counted as sent or answered
 abbrev pub forwarded : Held → ℕ

@@ -1,5 +1,5 @@
 -- The rule of the tokens: the sums of the book are those of what all shares posted.
-use Rattle.std.specs.Prelude.{◌≡◌, ℕ, ◌+◌, ◌-◌, ◌≤◌, List, [], ◌∷◌, length, true, false}
+use Rattle.std.specs.Prelude.{◌≡◌, ℕ, ◌+◌, ◌-◌, ◌*◌, ◌^◌, ◌≤◌, List, [], ◌∷◌, length, true, false}
 use mathlib.Core.Option.{some}
 use lib.ListN.{get_elem?}
 use Rattle.atomic_table.specs.Seated.{TableId}
@@ -52,11 +52,11 @@ total f (v ∷ vs) = f v + total f vs
 abbrev pub posted_at : List View → ℕ → ℕ
 posted_at views i = total (λ (u : View). count_at i u.posted) views
 
--- one token keeps the sums; a token without a part posted nothing
+-- one token keeps the sums; a token posted at most 2^109 for each of its parts
 abbrev pub Fits : ℕ → (ℕ → ℕ) → ℕ → View → Type 0
 Fits seat sum by v =
     (v.keeps ≡ true → (by ≡ seat) × ((i : ℕ) → count_at i v.booked ≡ sum i))
-    × (v.parts ≡ 0 → (i : ℕ) → count_at i v.posted ≡ 0)
+    × ((i : ℕ) → count_at i v.posted ≤ v.parts * 2 ^ 109)
     × (length v.posted.dropped ≡ 18)
 
 pub record Balanced (words : List ℕ) (views : List View) : Type 0 where
@@ -64,10 +64,11 @@ pub record Balanced (words : List ℕ) (views : List View) : Type 0 where
   pub whole : total (λ (u : View). u.parts) views ≡ 65537
   pub fits : (by : ℕ) (v : View) → get_elem? views by ≡ some v → Fits seat (posted_at views) by v
 
--- what the book's token tells: it knows no more as posted than was booked, and with every part just that
+-- what the book's token tells: it knows no more as posted than was booked, and with every part just that; and what was booked
+-- is at most what all parts may have posted
 abbrev pub Audited : View → View → Type 0
 Audited v w =
     (w ≡ v)
-    × ((i : ℕ) → count_at i v.posted ≤ count_at i v.booked)
+    × ((i : ℕ) → count_at i v.booked ≤ 65537 * 2 ^ 109)
     × (v.parts ≡ 65537 → (i : ℕ) → count_at i v.posted ≡ count_at i v.booked)
     × (length v.posted.dropped ≡ 18)

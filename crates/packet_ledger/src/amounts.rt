@@ -5,9 +5,9 @@ ghost use Rattle.packet_ledger.specs.Amounts.{AtMost, add_each, nothing, plus};
 
 use process_packet::Totals;
 
-/// The largest value that a sum of the book reaches, in packets. A post that would pass it moves
-/// nothing.
-pub const MOST: u128 = 1 << 126;
+/// The largest value that a sum of one share's posts reaches, in packets. A post that would pass it moves
+/// nothing. The sums of 65,537 such shares stay below 2^126.
+pub const MOST: u128 = 1 << 109;
 
 /// No count of any kind.
 pub fn none() -> Totals

@@ -78,8 +78,8 @@ impl<N: Router> Book<N> {
         Ok((Book { cell, sums }, shares))
     }
 
-    /// Moves the share's counts into the book, which leaves them 0. Where a sum of the book would
-    /// pass 2^126 neither changes.
+    /// Moves the share's counts into the book, which leaves them 0. Where a sum of all that the share ever
+    /// counted would pass 2^109 neither changes.
     pub fn post<R: Wait>(&self, rt: &R, share: &mut Share<N>)
         ensures { IsPosted share.old share.new }
     {

@@ -40,7 +40,7 @@ impl<N: Router> Model for Share<N> {
 
     ghost view = { λ s. record { counts = s.counts; posted = s.posted } };
 
-    ghost invariant = { λ s. (s.token.table_id ≡ N.table) × (s.token.me.1 ≡ []) × (cell_view s.token ≡ holder 1 s.posted) × AtMost (2 ^ 100) s.counts × AtMost (2 ^ 126) s.posted × Leaves s.left s.counts };
+    ghost invariant = { λ s. (s.token.table_id ≡ N.table) × (s.token.me.1 ≡ []) × (cell_view s.token ≡ holder 1 s.posted) × AtMost (2 ^ 100) s.counts × AtMost (2 ^ 109) s.posted × Leaves s.left s.counts };
 }
 
 // What is left after a count was raised by `n`.

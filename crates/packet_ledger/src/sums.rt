@@ -1,10 +1,10 @@
 //! What lies under the book's lock.
 
-ghost use Rattle.std.specs.Prelude.{◌≡◌, ◌+◌, ◌-◌, ◌^◌, ◌<◌, ◌≤◌, [], true, All, IfOk, length, MatchBool};
+ghost use Rattle.std.specs.Prelude.{◌≡◌, ℕ, ◌+◌, ◌-◌, ◌*◌, ◌^◌, ◌<◌, ◌≤◌, [], true, All, IfOk, length, MatchBool};
 ghost use Rattle.crossbeam_utils.specs.Seq.{cell_view};
-ghost use Rattle.packet_ledger.specs.Amounts.{AtMost, nothing, plus};
+ghost use Rattle.packet_ledger.specs.Amounts.{AtMost, count_at, nothing, plus};
 ghost use Rattle.packet_ledger.specs.Tokens.{gathered, keeper};
-ghost use Rattle.packet_ledger.specs.Share.{counts_of, emptied, new_share, posted_by};
+ghost use Rattle.packet_ledger.specs.Share.{MayPost, counts_of, emptied, new_share, posted_by};
 
 use crate::amounts::{MOST, added, at_most, none};
 use crate::router::Router;
@@ -63,24 +63,25 @@ impl<N: Router> Sums<N> {
         }
     }
 
-    /// Moves the share's counts into the sums. Where a sum would pass 2^126 nothing moves.
+    /// Moves the share's counts into the sums. Where a sum of all that the share ever counted would pass
+    /// 2^109 nothing moves.
     pub fn post<R: Wait>(&mut self, rt: &R, cell: &Cell, share: &mut Share<N>) -> bool
         requires { cell.now.table.shared.table_id ≡ N.table }
         ensures sums { MatchBool result (self.new ≡ plus self.old share.old.counts) (self.new ≡ self.old) }
         ensures share { MatchBool result (share.new ≡ emptied share.old) (share.new ≡ share.old) }
-        ensures room { MatchBool result (AtMost (2 ^ 126) (plus self.old share.old.counts)) (AtMost (2 ^ 126) (plus self.old share.old.counts) → ⊥) }
-        ensures fit { AtMost (2 ^ 126) self.old }
+        ensures room { MatchBool result (MayPost share.old) (MayPost share.old → ⊥) }
     {
-        let sums = added(&self.totals, &share.counts);
-        if !at_most(&sums, MOST) {
+        let posted = added(&share.posted, &share.counts);
+        if !at_most(&posted, MOST) {
             return false;
         }
+        let sums = added(&self.totals, &share.counts);
         let spare = give(cell, &mut self.token, 0, &none());
         let token = mem::replace(&mut share.token, spare);
         take_in(cell, &mut self.token, token);
         audit(rt, cell, &mut self.token);
         share.token = give(cell, &mut self.token, 1, &share.counts);
-        share.posted = added(&share.posted, &share.counts);
+        share.posted = posted;
         share.counts = none();
         share.left = ALL_LEFT;
         self.totals = sums;
@@ -156,6 +157,7 @@ fn take_all<N: Router>(cell: &Cell, token: &mut Token, shares: Vec<Share<N>>) ->
     ensures token { cell_view token.new ≡ gathered (length shares.items) (posted_by shares.items) (cell_view token.old) }
     ensures counts { result ≡ counts_of shares.items }
     ensures few { AtMost (2 ^ 117) result }
+    ensures posted { (i : ℕ) → count_at i (posted_by shares.items) ≤ length shares.items * 2 ^ 109 }
 {
     let mut counts = none();
     for share in shares {
@@ -173,6 +175,7 @@ fn add_share<N: Router>(cell: &Cell, token: &mut Token, share: Share<N>, counts:
     ensures token { let v = cell_view token.old in cell_view token.new ≡ gathered 1 (plus v.posted share.posted) v }
     ensures counts { result ≡ plus counts.now share.counts }
     ensures few { AtMost (2 ^ 100) share.counts }
+    ensures posted { AtMost (2 ^ 109) share.posted }
 {
     let Share {
         counts: own,

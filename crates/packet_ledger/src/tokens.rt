@@ -1,6 +1,6 @@
 //! The tokens of shares and book. They have no bytes.
 
-ghost use Rattle.std.specs.Prelude.{◌≡◌, ℕ, ◌+◌, ◌-◌, ◌≤◌, [], true, length};
+ghost use Rattle.std.specs.Prelude.{◌≡◌, ℕ, ◌+◌, ◌-◌, ◌*◌, ◌^◌, ◌≤◌, [], true, length};
 ghost use Rattle.crossbeam_utils.specs.Seq.{cell_view};
 ghost use Rattle.packet_ledger.specs.Amounts.{count_at};
 ghost use Rattle.packet_ledger.specs.Tokens.{Audited, given, joined, kept};
@@ -81,7 +81,7 @@ impl Join<View> for Takes {
     ghost spent = { nobody };
 }
 
-/// What the book's token tells: it knows no more than was booked, and with all parts just that.
+/// What the book's token tells: with all parts it knows just what was booked, and that has its bound.
 pub struct Audits;
 
 impl Outcome<[u64; 1], View> for Audits {
@@ -96,7 +96,7 @@ pub fn give(cell: &Cell, keeper: &mut Token, parts: usize, counts: &Totals) -> T
     requires keeps { (cell_view keeper.old).keeps ≡ true }
     requires parts { parts ≤ (cell_view keeper.old).parts }
     requires long { length counts.now.dropped ≡ 18 }
-    requires none { parts ≡ 0 → (i : ℕ) → (count_at i (cell_view keeper.old).posted ≡ 0) × (count_at i counts.now ≡ 0) }
+    requires few { (i : ℕ) → count_at i (cell_view keeper.old).posted + count_at i counts.now ≤ parts * 2 ^ 109 }
     ensures kept { (keeper.new.table_id ≡ keeper.old.table_id) × (cell_view keeper.new ≡ kept parts counts.now (cell_view keeper.old)) }
     ensures given { (result.table_id ≡ keeper.old.table_id) × (result.me.1 ≡ []) × (cell_view result ≡ given parts counts.now (cell_view keeper.old)) }
 {
@@ -109,7 +109,7 @@ fn give_as<K: Amount>(cell: &Cell, keeper: &mut Token, parts: usize, counts: &To
     requires keeps { (cell_view keeper.old).keeps ≡ true }
     requires parts { parts ≤ (cell_view keeper.old).parts }
     requires long { length counts.now.dropped ≡ 18 }
-    requires none { parts ≡ 0 → (i : ℕ) → (count_at i (cell_view keeper.old).posted ≡ 0) × (count_at i counts.now ≡ 0) }
+    requires few { (i : ℕ) → count_at i (cell_view keeper.old).posted + count_at i counts.now ≤ parts * 2 ^ 109 }
     ensures kept { (keeper.new.table_id ≡ keeper.old.table_id) × (cell_view keeper.new ≡ kept parts counts.now (cell_view keeper.old)) }
     ensures given { (result.table_id ≡ keeper.old.table_id) × (result.me.1 ≡ []) × (cell_view result ≡ given parts counts.now (cell_view keeper.old)) }
 {
@@ -127,7 +127,7 @@ pub fn take_in(cell: &Cell, keeper: &mut Token, other: Token)
     cell.join_pass::<Takes>(keeper, other);
 }
 
-/// What the book's token knows is no more than was booked, and with all parts just that.
+/// With all parts the book's token knows just what was booked, which is at most what all parts may have posted.
 pub fn audit<R: Wait>(rt: &R, cell: &Cell, keeper: &mut Token)
     requires own { keeper.old.table_id ≡ cell.now.table.shared.table_id }
     requires keeps { (cell_view keeper.old).keeps ≡ true }

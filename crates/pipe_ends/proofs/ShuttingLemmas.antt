@@ -13,7 +13,7 @@ use Rattle.ruled_pipe.specs.Pipe.{Shape, IsEndOf}
 use Rattle.stage_laws.specs.Ends.{load_in, pushes}
 use Rattle.pipe_ends.specs.Rows.{AreEndsOf}
 use Rattle.pipe_ends.specs.Settled.{IsFinal, AreFinished}
-use Rattle.pipe_ends.specs.Shutting.{AreMarking, AreNew, AreOpen, AreShutters, Closes, ClosesAt, EachEnds, Ends, EndsUpTo, IsSameShutter, IsShutting, IsStill, PushMarks, Shutting, ShuttersFinish, closed_at, shutter_ends, shutting, tried}
+use Rattle.pipe_ends.specs.Shutting.{AreMarking, AreNew, AreUnended, AreShutters, Closes, ClosesAt, EachEnds, Ends, EndsUpTo, IsSameShutter, IsShutting, IsStill, PushMarks, Shutting, ShuttersFinish, closed_at, shutter_ends, shutting, tried}
 
 module _ {X : Type 0} where
   index_set : (xs : List X) (at : ℕ) (d x : X) → at < length xs → slice_index_or (slice_set xs at x) at d ≡ x
@@ -111,7 +111,7 @@ module _ {T : Type 0} where
   ended_next (suc k) (o ∷ os) [] n d at lt one = absurd at
   ended_next (suc k) (o ∷ os) (m ∷ ms) n d at lt one = (at.0, ended_next k os ms n d at.1 (omega arith) one)
 
-  pub still_open : (k : ℕ) (olds news : List (Shutting T)) (d : Shutting T) → EndsUpTo k olds news → k < length olds → AreOpen olds → (slice_index_or news k d).ended ≡ false
+  pub still_open : (k : ℕ) (olds news : List (Shutting T)) (d : Shutting T) → EndsUpTo k olds news → k < length olds → AreUnended olds → (slice_index_or news k d).ended ≡ false
   still_open zero [] news d at lt all = absurd (omega arith)
   still_open zero (o ∷ os) news d at lt all = subst (λ (ns : List (Shutting T)). (slice_index_or ns 0 d).ended ≡ false) (sym at) all.0
   still_open (suc k) [] news d at lt all = absurd (omega arith)
@@ -147,7 +147,7 @@ module _ {T : Type 0} where
   pub new_none : (uses : ℕ → Bool) (hs : List (Shutting T)) → hs ≡ [] → AreNew uses 0 [] hs
   new_none uses hs none = subst (λ (l : List (Shutting T)). AreNew uses 0 [] l) (sym none) tt
 
-  pub new_open : (uses : ℕ → Bool) (k : ℕ) (es : List (Sender T)) (hs : List (Shutting T)) → AreNew uses k es hs → AreOpen hs
+  pub new_open : (uses : ℕ → Bool) (k : ℕ) (es : List (Sender T)) (hs : List (Shutting T)) → AreNew uses k es hs → AreUnended hs
   new_open uses k [] [] a = tt
   new_open uses k [] (h ∷ hs) a = absurd a
   new_open uses k (e ∷ es) [] a = absurd a
@@ -184,12 +184,12 @@ module _ {T : Type 0} where
   same_set uses k p (s ∷ ss) (h ∷ hs) zero d n same lt a = (((same.1 ∙ a.0.0.0, same.2 ∙ a.0.0.1, same.3 ∙ a.0.0.2, same.4 ∙ a.0.0.3), same.0 ∙ a.0.1), a.1)
   same_set uses k p (s ∷ ss) (h ∷ hs) (suc at) d n same lt a = (a.0, same_set uses (suc k) p ss hs at d n same (omega arith) a.1)
 
-  open_set : (hs : List (Shutting T)) (at : ℕ) (n : Shutting T) → n.ended ≡ false → AreOpen hs → AreOpen (slice_set hs at n)
+  open_set : (hs : List (Shutting T)) (at : ℕ) (n : Shutting T) → n.ended ≡ false → AreUnended hs → AreUnended (slice_set hs at n)
   open_set [] at n e a = tt
   open_set (h ∷ hs) zero n e a = (e, a.1)
   open_set (h ∷ hs) (suc at) n e a = (a.0, open_set hs at n e a.1)
 
-  pub open_at : (hs : List (Shutting T)) (at : ℕ) (d : Shutting T) → AreOpen hs → at < length hs → (slice_index_or hs at d).ended ≡ false
+  pub open_at : (hs : List (Shutting T)) (at : ℕ) (d : Shutting T) → AreUnended hs → at < length hs → (slice_index_or hs at d).ended ≡ false
   open_at [] at d a lt = absurd (omega arith)
   open_at (h ∷ hs) zero d a lt = a.0
   open_at (h ∷ hs) (suc at) d a lt = open_at hs at d a.1 (omega arith)
@@ -210,7 +210,7 @@ module _ {T : Type 0} where
   closes_closed true false s t is c = ap (λ (h : Shutting T). h.closed) c
   closes_closed false false s t is c = ap (λ (h : Shutting T). h.closed) c
 
-  pub closes_at : (is_there : Bool) (old new : List (Shutting T)) (at : ℕ) (d n : Shutting T) → at < length old → AreOpen old → Closes is_there (slice_index_or old at d) n → new ≡ slice_set old at n → ClosesAt at is_there old new
+  pub closes_at : (is_there : Bool) (old new : List (Shutting T)) (at : ℕ) (d n : Shutting T) → at < length old → AreUnended old → Closes is_there (slice_index_or old at d) n → new ≡ slice_set old at n → ClosesAt at is_there old new
   closes_at is_there old new at d n lt all closes is =
       let s = slice_index_or old at d in
       let same = closes_same is_there s.closed s n (open_at old at d all lt) closes in
@@ -221,7 +221,7 @@ module _ {T : Type 0} where
         closed = ap (λ (hs : List (Shutting T)). closed_at hs at) is ∙ (set_closed old at n lt ∙ closes_closed is_there s.closed s n refl closes);
         long = ap length is ∙ set_long old at n;
         others = λ j other. ap (λ (hs : List (Shutting T)). slice_get hs j) is ∙ get_set old at j n other;
-        unended = subst (λ (l : List (Shutting T)). AreOpen l) (sym is) (open_set old at n same.1 all);
+        unended = subst (λ (l : List (Shutting T)). AreUnended l) (sym is) (open_set old at n same.1 all);
         same = λ u k p ss a. subst (λ (l : List (Shutting T)). Q u k p ss l) (sym is) (same_set u k p ss old at d n same.0 lt a);
       }
 

@@ -63,9 +63,9 @@ module _ {T : Type 0} where
   EndsUpTo (suc k) _ _ = ⊥
 
   -- no end mark is there yet
-  abbrev pub AreOpen : List (Shutting T) → Type 0
-  AreOpen [] = Unit {0}
-  AreOpen (s ∷ ss) = (s.ended ≡ false) × AreOpen ss
+  abbrev pub AreUnended : List (Shutting T) → Type 0
+  AreUnended [] = Unit {0}
+  AreUnended (s ∷ ss) = (s.ended ≡ false) × AreUnended ss
 
   -- producer p of each pipe from number k on, by whether it is used
   abbrev pub AreShutters : (uses : ℕ → Bool) → (k p : ℕ) → List Shape → List (Shutting T) → Type 0
@@ -103,7 +103,7 @@ module _ {T : Type 0} where
     pub closed : closed_at new at ≡ is_there
     pub long : length new ≡ length old
     pub others : (j : ℕ) → (j ≡ at → ⊥) → slice_get new j ≡ slice_get old j
-    pub unended : AreOpen new
+    pub unended : AreUnended new
     pub same : (uses : ℕ → Bool) (k p : ℕ) (shapes : List Shape) → AreShutters uses k p shapes old → AreShutters uses k p shapes new
 
 -- Shutters that got their end marks have ended.

@@ -1,7 +1,7 @@
 //! Ends that push marks alone, all of one worker.
 
 ghost use Rattle.std.specs.Prelude.{◌≡◌, ◌≤◌, ◌<◌, [], length, true, slice_index_or};
-ghost use Rattle.pipe_ends.specs.Shutting.{AreMarking, AreOpen, ClosesAt, EachEnds, PushMarks, Shutting, shutter_ends};
+ghost use Rattle.pipe_ends.specs.Shutting.{AreMarking, AreUnended, ClosesAt, EachEnds, PushMarks, Shutting, shutter_ends};
 
 use crate::ends::Ends;
 use crate::shutter::Shutter;
@@ -11,7 +11,7 @@ use std::sync::Wait;
 pub fn close_at<T: Drop, R: Wait>(rt: &R, shutters: &mut Vec<Shutter<T>>, at: usize) -> bool
     requires there { at < length shutters.old.items }
     requires used { (d : Shutting T) → (slice_index_or shutters.old.items at d).used ≡ true }
-    requires unended { AreOpen shutters.old.items }
+    requires unended { AreUnended shutters.old.items }
     ensures { ClosesAt at result shutters.old.items shutters.new.items }
 {
     shutters[at].close(rt)
@@ -19,7 +19,7 @@ pub fn close_at<T: Drop, R: Wait>(rt: &R, shutters: &mut Vec<Shutter<T>>, at: us
 
 /// Tries the end mark of each pipe that is used until it is accepted.
 pub fn mark_all<T: Drop, R: Wait>(rt: &R, shutters: &mut Vec<Shutter<T>>)
-    requires { AreOpen shutters.old.items }
+    requires { AreUnended shutters.old.items }
     ensures { EachEnds shutters.old.items shutters.new.items }
 {
     for k in 0..shutters.len() {

@@ -10,7 +10,7 @@ use Rattle.router_laws.specs.Heard.{Heard, Gave, WasQuiet, HadFailed, WasAtEnd, 
 use Rattle.router_laws.specs.Keeping.{IsReceiving}
 use Rattle.stage_laws.specs.Forwards.{AddsTo}
 use Rattle.stage_parts.specs.Outlet.{Offering}
-use Rattle.stage_parts.specs.Outlets.{AreOpen, Trying, senders}
+use Rattle.stage_parts.specs.Outlets.{AreUnended, Trying, senders}
 use Rattle.stage_parts.specs.Turn.{ending}
 use Rattle.receiver_stage.specs.Pool.{stock}
 use Rattle.receiver_stage.specs.Intake.{Intake, PassedIn}
@@ -107,6 +107,6 @@ module _ {S : Type 0} where
 -- the law of a receiver, which goes on until its end
 pub record KeepsReceiving (told : Option (List Heard)) (number : ℕ) (ended : Bool) (side : Intake) : Type 0 where
   pub law : IsReceiving side.config side.link side.interface number told side.stock.free.looks (senders side.processors) side.share
-  pub unended : ended ≡ false → AreOpen side.processors
+  pub unended : ended ≡ false → AreUnended side.processors
   pub few : ended ≡ false → number < last_number
   pub quiet : ended ≡ true → EndsQuietly number told

@@ -7,7 +7,7 @@ ghost use Rattle.receiver_stage.specs.Intake.{PassedIn};
 ghost use Rattle.receiver_stage.specs.Receiving.{with_processors, with_share};
 ghost use Rattle.stage_laws.specs.Forwards.{AddsTo};
 ghost use Rattle.stage_parts.specs.Heard.{failures_of, fits, heard};
-ghost use Rattle.stage_parts.specs.Outlets.{AreOpen, Trying};
+ghost use Rattle.stage_parts.specs.Outlets.{AreUnended, Trying};
 
 use crate::pool::Pool;
 use packet_ledger::{Book, Share};
@@ -76,7 +76,7 @@ impl<N: Router> Intake<N> {
     pub fn pass_in<R: Wait>(&mut self, rt: &R, number: u64, from: Underlay, now: u64, len: usize)
         requires len { len ≤ 9217 }
         requires room { MayRaise self.old.side.share.counts }
-        requires unended { AreOpen self.old.side.processors }
+        requires unended { AreUnended self.old.side.processors }
         ensures some { 0 < length self.old.side.processors }
         ensures passed { PassedIn (arrival self.old.side.link self.old.side.interface number from now (take len self.old.room)) self.old.side self.new.side }
     {

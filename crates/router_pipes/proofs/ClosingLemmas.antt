@@ -6,7 +6,7 @@ use Rattle.ruled_pipe.specs.Pipe.{Shape}
 use Rattle.process_packet.specs.Network.{has_link, network}
 use Rattle.router_rules.specs.Links.{has_two_bands, link_count, link_index}
 use Rattle.router_rules.proofs.LinkLemmas.{index_within}
-use Rattle.pipe_ends.specs.Shutting.{AreOpen, AreShutters, Closes, ClosesAt, Shutting, closed_at}
+use Rattle.pipe_ends.specs.Shutting.{AreUnended, AreShutters, Closes, ClosesAt, Shutting, closed_at}
 use Rattle.router_pipes.specs.declared.closing.CloseFault.{CloseFault}
 use Rattle.router_pipes.specs.declared.closing.CloseFault.TheVariants.{Full, Unknown, AlreadyClosed}
 use Rattle.router_pipes.specs.Closing.{AreClosed, Closing, ClosesMarks, StayEnds, TriesAt, TriesMarks}
@@ -47,7 +47,7 @@ module _ {T : Type 0} where
   pub ends_stay : (at : ℕ) (is_there : Bool) (old new : List (Shutting T)) → ClosesAt at is_there old new → StayEnds old new
   ends_stay at is_there old new c = record { unended = c.unended; same = c.same }
 
-  pub same_stay : (hs : List (Shutting T)) → AreOpen hs → StayEnds hs hs
+  pub same_stay : (hs : List (Shutting T)) → AreUnended hs → StayEnds hs hs
   same_stay hs are = record { unended = are; same = λ uses k p shapes is. is }
 
   pub stay_then : (a b c : List (Shutting T)) → StayEnds a b → StayEnds b c → StayEnds a c

@@ -3,7 +3,7 @@ use Rattle.std.specs.Prelude.{◌≡◌, ◌+◌, ◌*◌, ◌<◌, ℕ, Bool, t
 use Rattle.process_packet.specs.declared.config.Config.{Config}
 use Rattle.router_rules.specs.Links.{has_two_bands, link_count, link_index}
 use Rattle.ruled_pipe.specs.Pipe.{Shape}
-use Rattle.pipe_ends.specs.Shutting.{AreOpen, AreShutters, Closes, Shutting, closed_at}
+use Rattle.pipe_ends.specs.Shutting.{AreUnended, AreShutters, Closes, Shutting, closed_at}
 use Rattle.router_pipes.specs.declared.closing.CloseFault.{CloseFault}
 use Rattle.router_pipes.specs.declared.closing.CloseFault.TheVariants.{Full, Unknown, AlreadyClosed}
 
@@ -32,7 +32,7 @@ module _ {T : Type 0} where
 
   -- the same ends of the same pipes, none ended
   pub record StayEnds (old new : List (Shutting T)) : Type 0 where
-    pub unended : AreOpen new
+    pub unended : AreUnended new
     pub same : (uses : ℕ → Bool) (k p : ℕ) (shapes : List Shape) → AreShutters uses k p shapes old → AreShutters uses k p shapes new
 
 -- The link with an interface is closed so, if there is one.

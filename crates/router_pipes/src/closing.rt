@@ -3,7 +3,7 @@
 ghost use Rattle.std.specs.Prelude.{◌≡◌, ◌+◌, ◌*◌, ◌<◌, ℕ, length, slice_index_or, true, false};
 ghost use Rattle.std.specs.Arc.{arc_value};
 ghost use Rattle.pipeline_laws.specs.Item.{Outgoing};
-ghost use Rattle.pipe_ends.specs.Shutting.{AreOpen, Shutting};
+ghost use Rattle.pipe_ends.specs.Shutting.{AreUnended, Shutting};
 ghost use Rattle.router_rules.specs.Links.{has_two_bands, link_count};
 ghost use Rattle.router_rules.specs.Rules.{kinds};
 ghost use Rattle.stage_parts.specs.Outlets.{are_used};
@@ -35,7 +35,7 @@ fn close_single<T: Drop, R: Wait>(
 ) -> Result<(), CloseFault>
     requires there { low < length shutters.old.items }
     requires used { (d : Shutting T) → (slice_index_or shutters.old.items low d).used ≡ true }
-    requires unended { AreOpen shutters.old.items }
+    requires unended { AreUnended shutters.old.items }
     ensures closes { ClosesMarks false low result shutters.old.items shutters.new.items }
     ensures stay { StayEnds shutters.old.items shutters.new.items }
 {
@@ -58,7 +58,7 @@ fn close_double<T: Drop, R: Wait>(
     requires there { low + 1 < length shutters.old.items }
     requires used { (d : Shutting T) → (slice_index_or shutters.old.items low d).used ≡ true }
     requires high_used { (d : Shutting T) → (slice_index_or shutters.old.items (low + 1) d).used ≡ true }
-    requires unended { AreOpen shutters.old.items }
+    requires unended { AreUnended shutters.old.items }
     ensures closes { ClosesMarks true low result shutters.old.items shutters.new.items }
     ensures stay { StayEnds shutters.old.items shutters.new.items }
 {
@@ -86,7 +86,7 @@ fn close_both<T: Drop, R: Wait>(
     requires there { number < link_count shared.now.config }
     requires count { length shutters.old.items ≡ 2 * link_count shared.now.config }
     requires used { (j : ℕ) (d : Shutting T) → j < length shutters.old.items → (slice_index_or shutters.old.items j d).used ≡ are_used shared.now.config j }
-    requires unended { AreOpen shutters.old.items }
+    requires unended { AreUnended shutters.old.items }
     ensures closes { ClosesMarks (has_two_bands shared.now.config number) (2 * number) result shutters.old.items shutters.new.items }
     ensures stay { StayEnds shutters.old.items shutters.new.items }
 {
@@ -111,7 +111,7 @@ impl<N: Router> Controller<N> {
     pub fn close<R: Wait>(&mut self, rt: &R, link: u16) -> Result<(), CloseFault>
         requires count { length self.old.shutters.items ≡ 2 * link_count (arc_value self.old.shared).config }
         requires used { (j : ℕ) (d : Shutting (Outgoing kinds)) → j < length self.old.shutters.items → (slice_index_or self.old.shutters.items j d).used ≡ are_used (arc_value self.old.shared).config j }
-        requires unended { AreOpen self.old.shutters.items }
+        requires unended { AreUnended self.old.shutters.items }
         ensures closing { Closing (arc_value self.old.shared).config link result self.old.shutters.items self.new.shutters.items }
         ensures stay { StayEnds self.old.shutters.items self.new.shutters.items }
         ensures shared { self.new.shared ≡ self.old.shared }

@@ -2,7 +2,7 @@
 
 ghost use Rattle.std.specs.Prelude.{◌≡◌, ◌≤◌, ◌<◌, ℕ, List, IfOk, length};
 ghost use Rattle.pipe_ends.specs.Rows.{AreEndsOf, IsBundle};
-ghost use Rattle.pipe_ends.specs.Shutting.{AreNew, AreOpen, AreShutters};
+ghost use Rattle.pipe_ends.specs.Shutting.{AreNew, AreUnended, AreShutters};
 ghost use Rattle.ruled_pipe.specs.Pipe.{Shape};
 ghost use Rattle.stage_parts.specs.Outlets.{are_used};
 
@@ -10,8 +10,8 @@ use pipe_ends::{Ends, Shutter};
 use router_rules::Shared;
 use std::alloc::{AllocError, Global};
 
-// Whether the pipe at this place is used: the low band's of a link, or the high band's of one with two.
-fn is_used(shared: &Shared, at: usize) -> bool
+/// Whether the pipe at this place is used: the low band's of a link, or the high band's of one with two.
+pub(crate) fn is_used(shared: &Shared, at: usize) -> bool
     requires { at < 66 }
     ensures { result ≡ are_used shared.now.config at }
 {
@@ -30,7 +30,7 @@ pub fn shutters<T: Drop>(
     requires fresh { IsBundle bundle.ends }
     requires few { length bundle.ends ≤ 66 }
     ensures new { IfOk result (λ s. AreNew (are_used shared.now.config) 0 bundle.ends s.items) }
-    ensures unended { IfOk result (λ s. AreOpen s.items) }
+    ensures unended { IfOk result (λ s. AreUnended s.items) }
     ensures ends { IfOk result (λ s. (p : ℕ) (shapes : List Shape) → AreEndsOf p shapes bundle.ends → AreShutters (are_used shared.now.config) 0 p shapes s.items) }
 {
     let items = bundle.into_items();

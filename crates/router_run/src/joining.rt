@@ -1,6 +1,6 @@
 //! The workers stopped and joined.
 
-ghost use Rattle.pipe_ends.specs.Shutting.{AreOpen, EachEnds};
+ghost use Rattle.pipe_ends.specs.Shutting.{AreUnended, EachEnds};
 ghost use Rattle.router_run.specs.Back.{IsBack};
 ghost use Rattle.run_report.specs.Crew.{crew_of};
 
@@ -17,7 +17,7 @@ use worker_threads::{Orders, join_all};
 
 // Marks the ends of the controller's pipes, and wakes the forwarders.
 fn marked<N: Router, R: Wait>(rt: &R, controller: Controller<N>) -> Vec<Shutter<EgressPacket<N>>>
-    requires unmarked { AreOpen controller.shutters.items }
+    requires unmarked { AreUnended controller.shutters.items }
     ensures { EachEnds controller.shutters.items result.items }
 {
     let Controller {
@@ -43,7 +43,7 @@ where
     K: Sink,
     G: Gate,
     R: Threads + Wait + Clock,
-    requires unmarked { AreOpen controller.shutters.items }
+    requires unmarked { AreUnended controller.shutters.items }
     ensures { IsBack (crew_of threads.receivers threads.processors threads.slow threads.forwarders controller.shutters.items) result }
 {
     let Threaded {

@@ -21,7 +21,7 @@ use Rattle.stage_laws.specs.Ends.{load_in}
 use Rattle.stage_laws.specs.Works.{deed}
 use Rattle.stage_laws.proofs.Answers.{did_reply, did_not_reply, did_withhold}
 use Rattle.stage_parts.specs.Outlet.{Offering}
-use Rattle.stage_parts.specs.Outlets.{AreFresh, AreOpen, Trying, senders}
+use Rattle.stage_parts.specs.Outlets.{AreFresh, AreUnended, Trying, senders}
 use Rattle.stage_parts.proofs.Marks.{ends_more}
 use Rattle.stage_parts.proofs.EndLemmas.{gave_sent, kept_away, gave_open, kept_open, senders_long, tried_each, fresh_open, fresh_senders}
 use Rattle.router_stages.specs.Exits.{Leaving, DroppedAs, SentAs, pipe_for, with_links, with_share}
@@ -63,11 +63,11 @@ module _ (taker : Taker (SlowPathRequest kinds)) (q : SlowPathRequest kinds) (fr
   replied_works new p = after_works (replied old.config q.arrival.datagram q.problem) refl new p
 
 -- the ends stay open, and the configuration the same
-module _ (q : SlowPathRequest kinds) (old : Leaving) (some : 0 < length old.links) (is : AreOpen old.links) where
-  same_open : (new : Leaving) → new.links ≡ old.links → AreOpen new.links
-  same_open new e = subst (λ (ls : List (Offering (Outgoing kinds))). AreOpen ls) (sym e) is
+module _ (q : SlowPathRequest kinds) (old : Leaving) (some : 0 < length old.links) (is : AreUnended old.links) where
+  same_open : (new : Leaving) → new.links ≡ old.links → AreUnended new.links
+  same_open new e = subst (λ (ls : List (Offering (Outgoing kinds))). AreUnended ls) (sym e) is
 
-  after_open : (r : Reply kinds) (new : Leaving) → AfterReply r q old new → AreOpen new.links × (new.config ≡ old.config)
+  after_open : (r : Reply kinds) (new : Leaving) → AfterReply r q old new → AreUnended new.links × (new.config ≡ old.config)
   after_open (Replies l y) new (inl s) =
       let o = answer_to q l y in
       (gave_open (pipe_for old.config o) o old.links new.links some is s.0, ap (λ (n : Leaving). n.config) s.1)
@@ -124,6 +124,6 @@ module _ (named : Option Config) (taker : Taker (SlowPathRequest kinds)) (side :
   -- a post
   pub keeps_posted : (new : Leaving) → IsPosted side.share new.share → new ≡ with_share new.share side → KeepsAnswering named taker new
   keeps_posted new (inl is) is_shared =
-      subst (λ (n : Leaving). KeepsAnswering named taker n) (sym (is_shared ∙ ap (λ (s : Held). with_share s side) is))
+      subst (λ (n : Leaving). KeepsAnswering named taker n) (sym (is_shared ∙ ap (λ (s : Held). with_share s side) is.1))
       (record { config = k.config; law = slow_posted side.config taker (senders side.links) (senders side.links) side.share k.law; unended = k.unended })
-  keeps_posted new (inr is) is_shared = subst (λ (n : Leaving). KeepsAnswering named taker n) (sym (is_shared ∙ ap (λ (s : Held). with_share s side) is.0)) k
+  keeps_posted new (inr is) is_shared = subst (λ (n : Leaving). KeepsAnswering named taker n) (sym (is_shared ∙ ap (λ (s : Held). with_share s side) is.1)) k

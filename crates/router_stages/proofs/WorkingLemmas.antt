@@ -26,7 +26,7 @@ use Rattle.stage_laws.specs.Works.{deed}
 use Rattle.stage_laws.proofs.Works.{did_send, did_refuse, did_ask, did_not_ask, did_drop}
 use Rattle.stage_parts.specs.Items.{asking}
 use Rattle.stage_parts.specs.Outlet.{Offering, Tried, gave, kept}
-use Rattle.stage_parts.specs.Outlets.{AreFresh, AreOpen, Trying, senders}
+use Rattle.stage_parts.specs.Outlets.{AreFresh, AreUnended, Trying, senders}
 use Rattle.stage_parts.proofs.Marks.{ends_more}
 use Rattle.stage_parts.proofs.EndLemmas.{gave_sent, kept_away, gave_open, kept_open, senders_long, tried_each, tried_once, fresh_open, fresh_senders}
 use Rattle.router_stages.specs.Exits.{Leaving, DroppedAs, SentAs, pipe_for, with_links, with_share}
@@ -85,15 +85,15 @@ module _ (taker : Taker (Arrival kinds)) (x : Arrival kinds) (old : Leaving) (sl
   passed_works new slow' p = after_works (decided old.config x.datagram) refl new slow' p
 
 -- the ends stay open, and the configuration the same
-module _ (x : Arrival kinds) (old : Leaving) (slow : Offering (SlowPathRequest kinds)) (some : 0 < length old.links) (is : AreOpen old.links) (going : slow.ended ≡ false) where
-  sent_open : (o : Outgoing kinds) (new : Leaving) → SentAs o old new → AreOpen new.links × (new.config ≡ old.config)
+module _ (x : Arrival kinds) (old : Leaving) (slow : Offering (SlowPathRequest kinds)) (some : 0 < length old.links) (is : AreUnended old.links) (going : slow.ended ≡ false) where
+  sent_open : (o : Outgoing kinds) (new : Leaving) → SentAs o old new → AreUnended new.links × (new.config ≡ old.config)
   sent_open o new (inl s) = (gave_open (pipe_for old.config o) o old.links new.links some is s.0, ap (λ (n : Leaving). n.config) s.1)
   sent_open o new (inr s) = (kept_open (pipe_for old.config o) o old.links new.links some is s.0, ap (λ (n : Leaving). n.config) s.1.1)
 
-  same_open : (new : Leaving) → new.links ≡ old.links → AreOpen new.links
-  same_open new e = subst (λ (ls : List (Offering (Outgoing kinds))). AreOpen ls) (sym e) is
+  same_open : (new : Leaving) → new.links ≡ old.links → AreUnended new.links
+  same_open new e = subst (λ (ls : List (Offering (Outgoing kinds))). AreUnended ls) (sym e) is
 
-  after_open : (d : Decision kinds) (new : Leaving) (slow' : Offering (SlowPathRequest kinds)) → After d x old new slow slow' → AreOpen new.links × (slow'.ended ≡ false) × (new.config ≡ old.config)
+  after_open : (d : Decision kinds) (new : Leaving) (slow' : Offering (SlowPathRequest kinds)) → After d x old new slow slow' → AreUnended new.links × (slow'.ended ≡ false) × (new.config ≡ old.config)
   after_open (Sends l y) new slow' a = let s = sent_open (out x l y) new a.0 in (s.0, ap (λ (o : Offering (SlowPathRequest kinds)). o.ended) a.1 ∙ going, s.1)
   after_open (Asks p) new slow' (inl a) = (same_open new (ap (λ (n : Leaving). n.links) a.1), ap (λ (o : Offering (SlowPathRequest kinds)). o.ended) a.0 ∙ going, ap (λ (n : Leaving). n.config) a.1)
   after_open (Asks p) new slow' (inr a) = (same_open new (ap (λ (n : Leaving). n.links) a.1.1), ap (λ (o : Offering (SlowPathRequest kinds)). o.ended) a.0 ∙ going, ap (λ (n : Leaving). n.config) a.1.1)
@@ -157,9 +157,9 @@ module _ (named : Option Config) (taker : Taker (Arrival kinds)) (hand : Option 
   -- a post
   pub keeps_posted : (new : Leaving) → IsPosted side.share new.share → new ≡ with_share new.share side → KeepsWorking named taker hand slow new
   keeps_posted new (inl is) is_shared =
-      subst (λ (n : Leaving). KeepsWorking named taker hand slow n) (sym (is_shared ∙ ap (λ (s : Held). with_share s side) is))
+      subst (λ (n : Leaving). KeepsWorking named taker hand slow n) (sym (is_shared ∙ ap (λ (s : Held). with_share s side) is.1))
       (record { config = k.config; law = works_posted side.config taker (senders side.links) (senders side.links) slow.sender slow.sender side.share hand k.law; unended = k.unended; busy = k.busy })
-  keeps_posted new (inr is) is_shared = subst (λ (n : Leaving). KeepsWorking named taker hand slow n) (sym (is_shared ∙ ap (λ (s : Held). with_share s side) is.0)) k
+  keeps_posted new (inr is) is_shared = subst (λ (n : Leaving). KeepsWorking named taker hand slow n) (sym (is_shared ∙ ap (λ (s : Held). with_share s side) is.1)) k
 
 pub nobody : {X : Type 0} (hand : Option X) → is_some hand ≡ false → hand ≡ None
 nobody None e = refl

@@ -12,7 +12,7 @@ use Rattle.ruled_pipe.specs.Producer.{entry}
 use Rattle.router_laws.specs.Keeping.{IsAnswering}
 use Rattle.router_rules.specs.Rules.{kinds, replied}
 use Rattle.stage_laws.specs.Answers.{answer_to}
-use Rattle.stage_parts.specs.Outlets.{AreOpen, Trying, are_used, senders}
+use Rattle.stage_parts.specs.Outlets.{AreUnended, Trying, are_used, senders}
 use Rattle.router_stages.specs.Exits.{Leaving, DroppedAs, SentAs, with_links, with_share}
 use Rattle.stage_parts.specs.Turn.{ending}
 use Rattle.stage_parts.specs.declared.turn.Turn.{Turn}
@@ -72,4 +72,4 @@ Answered turn old new =
 pub record KeepsAnswering (named : Option Config) (taker : Taker (SlowPathRequest kinds)) (side : Leaving) : Type 0 where
   pub config : named ≡ Some side.config
   pub law : IsAnswering side.config taker (senders side.links) side.share
-  pub unended : ends_in taker.taken < taker.producers → AreOpen side.links
+  pub unended : ends_in taker.taken < taker.producers → AreUnended side.links

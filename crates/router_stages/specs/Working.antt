@@ -17,7 +17,7 @@ use Rattle.router_rules.specs.declared.worker.Worker.{Worker}
 use Rattle.router_rules.specs.declared.worker.Worker.TheVariants as worker
 use Rattle.stage_parts.specs.Items.{asking}
 use Rattle.stage_parts.specs.Outlet.{Offering, Tried, gave, kept}
-use Rattle.stage_parts.specs.Outlets.{AreOpen, Trying, are_used, senders}
+use Rattle.stage_parts.specs.Outlets.{AreUnended, Trying, are_used, senders}
 use Rattle.router_stages.specs.Exits.{Leaving, DroppedAs, SentAs, with_links, with_share}
 use Rattle.stage_parts.specs.Turn.{ending}
 use Rattle.stage_parts.specs.declared.turn.Turn.{Turn}
@@ -112,5 +112,5 @@ module _ {G : Type 0} where
 pub record KeepsWorking (named : Option Config) (taker : Taker (Arrival kinds)) (hand : Option (Arrival kinds)) (slow : Offering (SlowPathRequest kinds)) (side : Leaving) : Type 0 where
   pub config : named ≡ Some side.config
   pub law : IsWorking side.config taker hand (senders side.links) slow.sender side.share
-  pub unended : ends_in taker.taken < taker.producers → AreOpen side.links × (slow.ended ≡ false)
+  pub unended : ends_in taker.taken < taker.producers → AreUnended side.links × (slow.ended ≡ false)
   pub busy : (x : Arrival kinds) → hand ≡ Some x → ends_in taker.taken < taker.producers

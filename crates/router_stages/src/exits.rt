@@ -4,7 +4,7 @@ ghost use Rattle.std.specs.Prelude.{◌≡◌, false, ◌+◌, ◌*◌, ◌<◌,
 ghost use Rattle.packet_ledger.specs.Share.{HasRoom, IsPosted, MayRaise};
 ghost use Rattle.router_rules.specs.Links.{link_count};
 ghost use Rattle.router_stages.specs.Exits.{DroppedAs, SentAs, TriedLink, pipe_for, with_links, with_share};
-ghost use Rattle.stage_parts.specs.Outlets.{AreOpen, Trying, are_used};
+ghost use Rattle.stage_parts.specs.Outlets.{AreUnended, Trying, are_used};
 ghost use Rattle.router_stages.specs.Working.{AskedAs, PassedOn};
 ghost use Rattle.stage_parts.specs.Items.{StandsIn};
 
@@ -101,7 +101,7 @@ impl<N: Router> Exits<N> {
     /// Offers what leaves to its pipe; where that is full, it is dropped.
     pub fn send<R: Wait>(&mut self, rt: &R, egress_packet: EgressPacket<N>)
         requires link { egress_packet.link < link_count self.old.config }
-        requires unended { AreOpen self.old.links }
+        requires unended { AreUnended self.old.links }
         requires room { MayRaise self.old.share.counts }
         ensures { SentAs egress_packet self.old self.new }
     {
@@ -120,7 +120,7 @@ impl<N: Router> Exits<N> {
         slow: &mut Outlet<SlowPathRequest<N>>,
         packet: Packet<N>,
     )
-        requires unended { AreOpen self.old.links × (slow.old.ended ≡ false) }
+        requires unended { AreUnended self.old.links × (slow.old.ended ≡ false) }
         requires room { MayRaise self.old.share.counts }
         ensures some { 0 < length self.old.links }
         ensures passed { PassedOn packet self.old self.new slow.old slow.new }

@@ -7,7 +7,7 @@ ghost use Rattle.router_laws.specs.Keeping.{IsAnswering};
 ghost use Rattle.router_rules.specs.Links.{link_count};
 ghost use Rattle.router_stages.specs.Answering.{EndsAnswering, IsDone, RepliedTo, first_answering};
 ghost use Rattle.router_stages.specs.Working.{first_leaving};
-ghost use Rattle.stage_parts.specs.Outlets.{AreFresh, AreOpen, senders};
+ghost use Rattle.stage_parts.specs.Outlets.{AreFresh, AreUnended, senders};
 
 use crate::exits::Exits;
 use packet_ledger::{Book, Share};
@@ -47,7 +47,7 @@ impl<N: Router> Drop for SlowPath<N> {
 impl<N: Router> Exits<N> {
     // Sends the answer to a request, or drops its packet where there is none.
     fn reply<R: Wait>(&mut self, rt: &R, request: SlowPathRequest<N>)
-        requires unended { AreOpen self.old.links }
+        requires unended { AreUnended self.old.links }
         requires room { MayRaise self.old.share.counts }
         ensures some { 0 < length self.old.links }
         ensures replied { RepliedTo request self.old self.new }

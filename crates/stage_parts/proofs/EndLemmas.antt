@@ -8,7 +8,7 @@ use Rattle.stage_laws.specs.Works.{SentOn, TurnedAway}
 use Rattle.stage_laws.specs.Marks.{HasTried, EachHasTried}
 use Rattle.stage_laws.proofs.Works.{set_length, got_same, got_other}
 use Rattle.stage_parts.specs.Outlet.{Offering, Tried, offering, gave, kept}
-use Rattle.stage_parts.specs.Outlets.{senders, AreFresh, AreOpen, GaveAt, KeptAt, TriedAt, TriedIf, TriedWhere, HaveEnded, Trying}
+use Rattle.stage_parts.specs.Outlets.{senders, AreFresh, AreUnended, GaveAt, KeptAt, TriedAt, TriedIf, TriedWhere, HaveEnded, Trying}
 
 or_false : (b : Bool) → (b || false) ≡ b
 or_false true = refl
@@ -19,30 +19,30 @@ or_true true = refl
 or_true false = refl
 
 module _ {T : Type 0} where
-  pub open_at : (ends : List (Offering T)) (k : ℕ) (d : Offering T) → AreOpen ends → k < length ends → (get_or ends k d).ended ≡ false
+  pub open_at : (ends : List (Offering T)) (k : ℕ) (d : Offering T) → AreUnended ends → k < length ends → (get_or ends k d).ended ≡ false
   open_at [] k d is lt = absurd (omega arith)
   open_at (o ∷ ends) zero d is lt = is.0
   open_at (o ∷ ends) (suc k) d is lt = open_at ends k d is.1 (omega arith)
 
-  open_set : (ends : List (Offering T)) (k : ℕ) (t : Offering T) → t.ended ≡ false → AreOpen ends → AreOpen (slice_set ends k t)
+  open_set : (ends : List (Offering T)) (k : ℕ) (t : Offering T) → t.ended ≡ false → AreUnended ends → AreUnended (slice_set ends k t)
   open_set [] k t e is = tt
   open_set (o ∷ ends) zero t e is = (e, is.1)
   open_set (o ∷ ends) (suc k) t e is = (is.0, open_set ends k t e is.1)
 
-  open_or : (ends : List (Offering T)) (k : ℕ) (d : Offering T) → AreOpen ends → d.ended ≡ false → (slice_index_or ends k d).ended ≡ false
+  open_or : (ends : List (Offering T)) (k : ℕ) (d : Offering T) → AreUnended ends → d.ended ≡ false → (slice_index_or ends k d).ended ≡ false
   open_or [] k d is e = e
   open_or (o ∷ ends) zero d is e = is.0
   open_or (o ∷ ends) (suc k) d is e = open_or ends k d is.1 e
 
-  pub gave_open : (k : ℕ) (x : T) (old new : List (Offering T)) → 0 < length old → AreOpen old → GaveAt k x old new → AreOpen new
+  pub gave_open : (k : ℕ) (x : T) (old new : List (Offering T)) → 0 < length old → AreUnended old → GaveAt k x old new → AreUnended new
   gave_open k x [] new some is g = absurd (omega arith)
-  gave_open k x (o ∷ old) new some is g = subst (λ (xs : List (Offering T)). AreOpen xs) (sym (g o)) (open_set (o ∷ old) k (gave (slice_index_or (o ∷ old) k o) x) (open_or (o ∷ old) k o is is.0) is)
+  gave_open k x (o ∷ old) new some is g = subst (λ (xs : List (Offering T)). AreUnended xs) (sym (g o)) (open_set (o ∷ old) k (gave (slice_index_or (o ∷ old) k o) x) (open_or (o ∷ old) k o is is.0) is)
 
-  pub kept_open : (k : ℕ) (x : T) (old new : List (Offering T)) → 0 < length old → AreOpen old → KeptAt k x old new → AreOpen new
+  pub kept_open : (k : ℕ) (x : T) (old new : List (Offering T)) → 0 < length old → AreUnended old → KeptAt k x old new → AreUnended new
   kept_open k x [] new some is g = absurd (omega arith)
-  kept_open k x (o ∷ old) new some is g = subst (λ (xs : List (Offering T)). AreOpen xs) (sym (g o)) (open_set (o ∷ old) k (kept (slice_index_or (o ∷ old) k o) x) (open_or (o ∷ old) k o is is.0) is)
+  kept_open k x (o ∷ old) new some is g = subst (λ (xs : List (Offering T)). AreUnended xs) (sym (g o)) (open_set (o ∷ old) k (kept (slice_index_or (o ∷ old) k o) x) (open_or (o ∷ old) k o is is.0) is)
 
-  pub fresh_open : (ends : List (Offering T)) → AreFresh ends → AreOpen ends
+  pub fresh_open : (ends : List (Offering T)) → AreFresh ends → AreUnended ends
   fresh_open [] is = tt
   fresh_open (o ∷ ends) is = (is.0, fresh_open ends is.3)
 

@@ -10,9 +10,9 @@ module _ {T : Type 0} where
   senders ends = map (λ (o : Offering T). o.sender) ends
 
   -- no end mark is there yet
-  abbrev pub AreOpen : List (Offering T) → Type 0
-  AreOpen [] = Unit {0}
-  AreOpen (o ∷ ends) = (o.ended ≡ false) × AreOpen ends
+  abbrev pub AreUnended : List (Offering T) → Type 0
+  AreUnended [] = Unit {0}
+  AreUnended (o ∷ ends) = (o.ended ≡ false) × AreUnended ends
 
   -- nothing was pushed yet
   abbrev pub AreFresh : List (Offering T) → Type 0

@@ -1,7 +1,7 @@
 //! A worker's ends of many pipes.
 
 ghost use Rattle.std.specs.Prelude.{◌≡◌, ◌<◌, MatchResult, length, true, ◌&&◌};
-ghost use Rattle.stage_parts.specs.Outlets.{AreOpen, GaveAt, KeptAt, TriedAt, Trying};
+ghost use Rattle.stage_parts.specs.Outlets.{AreUnended, GaveAt, KeptAt, TriedAt, Trying};
 
 use crate::outlet::Outlet;
 use ruled_pipe::Full;
@@ -15,7 +15,7 @@ pub fn offer_at<T: Drop, R: Wait>(
     item: T,
 ) -> Result<(), T>
     requires there { at < length ends.old.items }
-    requires unended { AreOpen ends.old.items }
+    requires unended { AreUnended ends.old.items }
     ensures { MatchResult result (λ _. GaveAt at item ends.old.items ends.new.items) (λ back. (back ≡ item) × KeptAt at item ends.old.items ends.new.items) }
 {
     match ends[at].offer(rt, item) {

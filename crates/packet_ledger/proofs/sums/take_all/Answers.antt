@@ -2,7 +2,7 @@ use Rattle.std.proofs.Common.{[], ◌∷◌, length, ap, ◌∙◌, sym, append_
 use Rattle.crossbeam_utils.specs.Seq.{cell_view}
 use Rattle.packet_ledger.specs.Amounts.{count_at, plus}
 use Rattle.packet_ledger.proofs.Counting.{plus_at}
-use Rattle.packet_ledger.proofs.Closing.{gathered_next, counts_next}
+use Rattle.packet_ledger.proofs.Closing.{gathered_next, counts_next, posted_most}
 use Rattle.packet_ledger.proofs.sums.take_all.Goals as goal
 
 pub loop-share-preserved : goal.loop-share-preserved
@@ -17,6 +17,7 @@ loop-share-preserved g c =
       (λ i.
           let a = at.invariant.3 i in let b = then.few i in let p = plus_at i at.counts x.counts in let e = ap (count_at i) then.counts in
           omega (arith, length-append at.yielded (x ∷ []))),
-      append_assoc at.yielded (x ∷ []) _ ∙ rw (← steps) at.invariant.4,
-      (let was = at.invariant.5 in let gone = c.in-Some.ensures.steps.1 in let short = ap length steps in omega arith),
+      (λ i. posted_most at.yielded x i (at.invariant.4 i) (then.posted i)),
+      append_assoc at.yielded (x ∷ []) _ ∙ rw (← steps) at.invariant.5,
+      (let was = at.invariant.6 in let gone = c.in-Some.ensures.steps.1 in let short = ap length steps in omega arith),
     )

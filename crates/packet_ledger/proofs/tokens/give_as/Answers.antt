@@ -12,5 +12,5 @@ split_pass-requires g c =
     let by = c.args.keeper.now.id in
     let P : ℕ → Type 0 = λ n. Forks Balanced by v (kept n c.args.counts.now v) (given n c.args.counts.now v) in
     let Q : Totals → Type 0 = λ t. Forks Balanced by v (kept g.K.Amount.parts t v) (given g.K.Amount.parts t v) in
-    let move = gives by v c.args.parts c.args.counts.now c.requires.keeps c.requires.parts c.requires.none c.requires.long in
+    let move = gives by v c.args.parts c.args.counts.now c.requires.keeps c.requires.parts c.requires.few c.requires.long in
     (search rules, (search rules, (c.requires.own, subst Q (sym c.requires.pick.1) (subst P (sym c.requires.pick.0) move))))
