@@ -16,7 +16,7 @@ use Rattle.stage_laws.specs.Receives.{Passed, was_lacked}
 use Rattle.stage_laws.specs.Works.{deed}
 use Rattle.stage_laws.proofs.Receives.{passed_on, passed_full, passed_none, passed_fault}
 use Rattle.stage_parts.specs.Outlet.{Offering}
-use Rattle.stage_parts.specs.Outlets.{AreFresh, AreOpen, Trying, senders}
+use Rattle.stage_parts.specs.Outlets.{AreFresh, AreUnended, Trying, senders}
 use Rattle.stage_parts.proofs.EndLemmas.{gave_sent, kept_away, gave_open, kept_open, senders_long, tried_each, fresh_open, fresh_senders}
 use Rattle.receiver_stage.specs.Intake.{Intake, EndedAs, PassedIn, place}
 use Rattle.receiver_stage.specs.Receiving.{KeepsReceiving, is_datagram, last_number, with_processors, with_share}
@@ -29,7 +29,7 @@ module _ (x : Arrival kinds) (old new : Intake) (some : 0 < length old.processor
   passed_of : (o : Ending Cause) → EndedAs x o old new → Passed R (deed x o) (senders old.processors) (senders new.processors)
   passed_of (Counted why) e =
       subst (λ (ps : List (Offering (Arrival kinds))). Passed R (deed x (Counted why)) (senders old.processors) (senders ps)) (sym e.1) (passed_fault R x why (senders old.processors) e.0)
-  passed_of Lacked e = subst (λ (ps : List (Offering (Arrival kinds))). Passed R (deed x Lacked) (senders old.processors) (senders ps)) (sym e.1) (passed_none R x (senders old.processors))
+  passed_of Lacked e = subst (λ (ps : List (Offering (Arrival kinds))). Passed R (deed x Lacked) (senders old.processors) (senders ps)) (sym e.1) (passed_none R x (senders old.processors) e.0)
   passed_of Accepted e =
       passed_on R x (senders old.processors) (place old.config x) e.0 refl (let l = senders_long old.processors in omega arith) (senders new.processors) (gave_sent (place old.config x) x old.processors new.processors e.1)
   passed_of Refused e =
@@ -41,9 +41,9 @@ module _ (x : Arrival kinds) (old new : Intake) (some : 0 < length old.processor
   looks_of Accepted e = let s = another_looks e.2.0 old.stock new.stock e.2.1 in omega arith
   looks_of Refused e = let s = another_looks e.2.0 old.stock e.2.1 e.2.2 in let t = ap (λ st. length st.free.looks) e.2.3.1 in omega arith
 
-  open_of : (o : Ending Cause) → EndedAs x o old new → AreOpen old.processors → AreOpen new.processors
-  open_of (Counted why) e is = subst (λ (ps : List (Offering (Arrival kinds))). AreOpen ps) (sym e.1) is
-  open_of Lacked e is = subst (λ (ps : List (Offering (Arrival kinds))). AreOpen ps) (sym e.1) is
+  open_of : (o : Ending Cause) → EndedAs x o old new → AreUnended old.processors → AreUnended new.processors
+  open_of (Counted why) e is = subst (λ (ps : List (Offering (Arrival kinds))). AreUnended ps) (sym e.1) is
+  open_of Lacked e is = subst (λ (ps : List (Offering (Arrival kinds))). AreUnended ps) (sym e.1) is
   open_of Accepted e is = gave_open (place old.config x) x old.processors new.processors some is e.1
   open_of Refused e is = kept_open (place old.config x) x old.processors new.processors some is e.1
 
@@ -60,7 +60,7 @@ module _ (told told' : Option (List Heard)) (number : ℕ) where
         subst (λ (c : Config). P c new.link new.interface new.share) (sym passed.same.0)
         (subst (λ (l : ℕ). P mid.config l new.interface new.share) (sym passed.same.1)
         (subst (λ (i : ℕ). P mid.config mid.link i new.share) (sym passed.same.2) (subst (λ (s : Held). P mid.config mid.link mid.interface s) (sym passed.share) law)));
-    unended = λ e. open_of (arrival mid.link mid.interface (number + 1) from now bytes) mid new some passed.outcome passed.ended (subst (λ (i : Intake). AreOpen i.processors) (sym is) (k.unended going));
+    unended = λ e. open_of (arrival mid.link mid.interface (number + 1) from now bytes) mid new some passed.outcome passed.ended (subst (λ (i : Intake). AreUnended i.processors) (sym is) (k.unended going));
     few = λ e. let f = k.few going in grind arith;
     quiet = λ e. inl (grind arith);
   }
@@ -92,9 +92,9 @@ keeps_ending told number ended all old new met tried same k =
 -- a post
 pub keeps_posted : (told : Option (List Heard)) (number : ℕ) (ended : Bool) (old new : Intake) → IsPosted old.share new.share → new ≡ with_share new.share old → KeepsReceiving told number ended old → KeepsReceiving told number ended new
 keeps_posted told number ended old new (inl is) is_shared k =
-    subst (λ (i : Intake). KeepsReceiving told number ended i) (sym (is_shared ∙ ap (λ (s : Held). with_share s old) is))
+    subst (λ (i : Intake). KeepsReceiving told number ended i) (sym (is_shared ∙ ap (λ (s : Held). with_share s old) is.1))
     (record { law = hears_posted old.config old.link old.interface number told told old.stock.free.looks (senders old.processors) (senders old.processors) old.share k.law; unended = k.unended; few = k.few; quiet = k.quiet })
-keeps_posted told number ended old new (inr is) is_shared k = subst (λ (i : Intake). KeepsReceiving told number ended i) (sym (is_shared ∙ ap (λ (s : Held). with_share s old) is.0)) k
+keeps_posted told number ended old new (inr is) is_shared k = subst (λ (i : Intake). KeepsReceiving told number ended i) (sym (is_shared ∙ ap (λ (s : Held). with_share s old) is.1)) k
 
 -- nothing came yet
 pub keeps_first : (told : Option (List Heard)) (side : Intake) → side.stock.free.looks ≡ [] → side.share ≡ new_share → AreFresh side.processors → ToldNothing told → KeepsReceiving told 0 false side

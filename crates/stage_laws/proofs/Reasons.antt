@@ -89,7 +89,7 @@ module _ {K : Kinds} (R : Rules K) (v : Views K) (s : SlowViews K) (went : ℕ �
       (each_map (λ (d : Deed K.RuleCause (Arrival K)) k. each_refused (IsAskedOf R v) d.end (to_slow R d.item) (asked_right R v s went closed lawful e d.item k.1)) (v.worked i) (known R v lawful e.settled i lt)))
 
   pub has_reasons : HasReasons R v s
-  has_reasons = record { receivers = receivers; processors = processors; slow = slow; full_processor = full_processor; full_link = full_link; full_answer = full_answer; full_slow = full_slow }
+  has_reasons = record { receivers = receivers; processors = processors; slow = slow; clear = e.clear; full_processor = full_processor; full_link = full_link; full_answer = full_answer; full_slow = full_slow }
 
   -- ---- bands
 

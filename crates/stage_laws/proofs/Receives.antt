@@ -56,8 +56,8 @@ lost_none : {K : Kinds} (R : Rules K) (i : ℕ) (x : Arrival K) (s : Sender (Arr
 lost_none R i x s o a r = ([], [], sym (append-nil s.offers), sym (append-nil s.refusals), sym a, sym r)
 
 -- no buffer was there
-pub passed_none : {K : Kinds} (R : Rules K) (x : Arrival K) (old : List (Sender (Arrival K))) → Passed R (deed x Lacked) old old
-passed_none R x old = record { just = tt; clear = tt; ends = λ i t at. (t, at, lost_none R i x t Lacked refl refl); same = refl }
+pub passed_none : {K : Kinds} (R : Rules K) (x : Arrival K) (old : List (Sender (Arrival K))) → R.inspect x ≡ None → Passed R (deed x Lacked) old old
+passed_none R x old clear = record { just = tt; clear = clear; ends = λ i t at. (t, at, lost_none R i x t Lacked refl refl); same = refl }
 
 pub passed_fault : {K : Kinds} (R : Rules K) (x : Arrival K) (c : K.RuleCause) (old : List (Sender (Arrival K))) → R.inspect x ≡ Some c → Passed R (deed x (Counted c)) old old
 passed_fault R x c old is = record { just = is; clear = tt; ends = λ i t at. (t, at, lost_none R i x t (Counted c) refl refl); same = refl }

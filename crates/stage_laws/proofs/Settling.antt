@@ -186,6 +186,8 @@ module _ {K : Kinds} (R : Rules K) (v : Views K) (s : SlowViews K) (went : ℕ �
     packets = λ q at. each_map (λ o h. h.0) (v.handed q ++ v.swept q) (right_at q at);
     answers = λ q at. each_map (λ o h. h.1) (v.handed q ++ v.swept q) (right_at q at);
     own_pipe = λ q at. each_map (λ o h. h.2) (v.handed q ++ v.swept q) (right_at q at);
+    low_shut = e.low_shut;
+    high_shut = e.high_shut;
     low_open = low_open;
     high_open = high_open;
   }

@@ -116,7 +116,7 @@ module _ (id : TableId) where
       record {
         numbered = (refl, refl, (refl, refl, (refl, refl, (refl, refl, (refl, refl, (refl, refl, (refl, refl, (refl, refl, (refl, refl, (refl, refl, (refl, refl, tt)))))))))));
         just = (tt, (tt, (tt, (tt, (refl, (tt, (tt, (tt, (tt, (tt, (tt, tt)))))))))));
-        clear = (refl, (refl, (refl, (tt, (tt, (refl, (refl, (refl, (refl, (refl, (refl, tt)))))))))));
+        clear = (refl, (refl, (refl, (refl, (tt, (refl, (refl, (refl, (refl, (refl, (refl, tt)))))))))));
         ends = one (λ i s. EndTells {C = ℕ} (to_processor rules i) received s) _ (refl, refl);
       },
       refl,

@@ -53,6 +53,9 @@ pub record HasEnded {K : Kinds} (R : Rules K) (v : Views K) (s : SlowViews K) (w
   pub answers : (q : ℕ) → IsLinkPipe R q → Each (IsAnswerTo R v) (v.handed q ++ v.swept q)
   -- each in the pipe of its link and its band
   pub own_pipe : (q : ℕ) → IsLinkPipe R q → Each (λ (o : Outgoing K). home R (Out o) ≡ q) (v.handed q ++ v.swept q)
+  -- of each closed band the mark was taken, of no other one
+  pub low_shut : (l : ℕ) → l < R.links → v.shut (link_pipe R false l) ≡ closed (2 * l)
+  pub high_shut : (l : ℕ) → l < R.links → v.shut (link_pipe R true l) ≡ closed (2 * l + 1)
   -- of a band that was never closed nothing is swept
   pub low_open : (l : ℕ) → l < R.links → closed (2 * l) ≡ false → v.swept (link_pipe R false l) ≡ []
   pub high_open : (l : ℕ) → l < R.links → closed (2 * l + 1) ≡ false → v.swept (link_pipe R true l) ≡ []

@@ -9,6 +9,7 @@ use Rattle.pipeline_laws.specs.Deeds.{Each, Deed, if_counted}
 use Rattle.pipeline_laws.specs.Settled.{SlowPathRequest, Views, IsTold, IsLinkPipe}
 use Rattle.pipeline_laws.specs.Counted.{SlowViews}
 use Rattle.stage_laws.specs.Forwards.{Handed, handed_items}
+use Rattle.stage_laws.specs.Receives.{IsClear}
 use Rattle.stage_laws.specs.Ended.{Ended, IsAnswerTo, IsPacketOf}
 
 module _ {K : Kinds} where
@@ -28,6 +29,8 @@ pub record HasReasons {K : Kinds} (R : Rules K) (v : Views K) (s : SlowViews K) 
   pub receivers : (p : ℕ) → p < R.links → Each (IsDropped R v) (v.received p)
   pub processors : (i : ℕ) → i < R.processors → Each (IsDropped R v) (v.worked i)
   pub slow : Each (IsUnanswered R v) s.worked
+  -- a receiver drops for want of a buffer, and for a full queue, only what has no fault
+  pub clear : (p : ℕ) → p < R.links → Each (IsClear R) (v.received p)
   -- what was refused is what the pipe was for
   pub full_processor : (p i : ℕ) → p < R.links → i < R.processors → Each (λ (x : Arrival K). IsTold v x × (R.processor (R.key x) ≡ i)) (v.arrived_full p i)
   pub full_link : (i q : ℕ) → i < R.processors → IsLinkPipe R q → Each (λ (o : Outgoing K). IsPacketOf R v o × (home R (Out o) ≡ q)) (v.leaving_full i q)

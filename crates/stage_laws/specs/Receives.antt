@@ -7,16 +7,22 @@ use Rattle.pipeline_laws.specs.Rules.{Rules}
 use Rattle.pipeline_laws.specs.Counts.{total}
 use Rattle.pipeline_laws.specs.Deeds.{Each, Deed, Ending, Accepted, Refused, Lacked, Counted, if_counted, done_items}
 use Rattle.pipeline_laws.specs.Settled.{to_processor, AreNumbered}
-use Rattle.pipeline_laws.specs.Counted.{is_offer}
 use Rattle.stage_laws.specs.Ends.{EndTells, IsGrown}
+
+module _ {C : Type 0} where
+  abbrev pub unless_counted : Ending C → Type 0 → Type 0
+  unless_counted Accepted P = P
+  unless_counted Refused P = P
+  unless_counted Lacked P = P
+  unless_counted (Counted c) P = Unit {0}
 
 module _ {K : Kinds} where
   abbrev pub IsSeen : Rules K → Deed K.RuleCause (Arrival K) → Type 0
   IsSeen R d = if_counted d.end (λ c. R.inspect d.item ≡ Some c)
 
-  -- nothing was offered but what has no fault
+  -- all but what was counted for its fault has none: what was offered, and what lacked a buffer
   abbrev pub IsClear : Rules K → Deed K.RuleCause (Arrival K) → Type 0
-  IsClear R d = is_offer d.end (R.inspect d.item ≡ None)
+  IsClear R d = unless_counted d.end (R.inspect d.item ≡ None)
 
 module _ {C : Type 0} where
   abbrev pub was_lacked : Ending C → ℕ
