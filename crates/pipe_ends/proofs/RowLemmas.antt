@@ -4,7 +4,7 @@ use mathlib.Core.List.{reverse_aux}
 use Rattle.ruled_pipe.specs.Consumer.{Taker, new_taker}
 use Rattle.ruled_pipe.specs.Producer.{Sender}
 use Rattle.ruled_pipe.specs.Pipe.{Shape, AreNew}
-use Rattle.pipe_ends.specs.Rows.{Row, AreFull, Rowed, IsAt, HaveLeft, DealsLast, DealtDown, AreDealt, AreFor, AreWide, new_takers, fresh_row, fresh_ends, fresh_end}
+use Rattle.pipe_ends.specs.Rows.{Row, AreFull, Rowed, IsAt, HaveLeft, DealsLast, DealtDown, AreDealt, AreFor, AreWide, AreWideAs, new_takers, fresh_row, fresh_ends, fresh_end}
 
 pub nothing_left : {X : Type 0} (l : List X) → length l ≡ 0 → l ≡ []
 nothing_left [] h = refl
@@ -30,6 +30,10 @@ for_more n (x ∷ ss) s m p = (m.0, for_more n ss s m.1 p)
 pub wide_more : (n : ℕ) (shapes : List Shape) (s : Shape) → AreWide n shapes → s.capacity ≡ n → AreWide n (shapes ++ s ∷ [])
 wide_more n [] s m p = (p, tt)
 wide_more n (x ∷ ss) s m p = (m.0, wide_more n ss s m.1 p)
+
+pub wide_as_more : (capacity : ℕ → ℕ) (k n : ℕ) (shapes : List Shape) (s : Shape) → AreWideAs capacity k shapes → n ≡ k + length shapes → s.capacity ≡ capacity n → AreWideAs capacity k (shapes ++ s ∷ [])
+wide_as_more capacity k n [] s m at is = let same : n ≡ k = omega arith in (is ∙ ap capacity same, tt)
+wide_as_more capacity k n (x ∷ ss) s m at is = (m.0, wide_as_more capacity (suc k) n ss s m.1 (omega arith) is)
 
 module _ {T : Type 0} where
   pub at_next : (k : ℕ) (olds news : List (Row T)) (row : List (Sender T)) (n : Row T) (x : Sender T) (d : Row T) → IsAt k olds news row → k < length olds

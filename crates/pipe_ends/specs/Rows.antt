@@ -19,6 +19,11 @@ abbrev pub AreWide : ℕ → List Shape → Type 0
 AreWide capacity [] = Unit {0}
 AreWide capacity (s ∷ ss) = (s.capacity ≡ capacity) × AreWide capacity ss
 
+-- each pipe holds the number of entries of its place, from place k on
+abbrev pub AreWideAs : (ℕ → ℕ) → ℕ → List Shape → Type 0
+AreWideAs capacity k [] = Unit {0}
+AreWideAs capacity k (s ∷ ss) = (s.capacity ≡ capacity k) × AreWideAs capacity (suc k) ss
+
 module _ {T : Type 0} where
   abbrev pub rows_of : List (Row T) → List (List (Sender T))
   rows_of rows = map (λ (r : Row T). r.ends) rows

@@ -1,32 +1,64 @@
--- The pipes of free buffers, dealt.
-use Rattle.std.proofs.Common.{◌≡◌, ℕ, suc, ◌+◌, List, [], ◌∷◌, ◌++◌, length, refl, sym, ◌∙◌, ap, subst, arith, length-append}
+-- The pipes of free buffers, dealt and filled.
+use Rattle.std.proofs.Common.{◌≡◌, ℕ, suc, ◌+◌, ◌-◌, List, [], ◌∷◌, ◌++◌, length, map, refl, sym, ◌∙◌, ap, subst, arith, length-append}
+use Rattle.std.proofs.lemmas.Grind.{flat_map-append}
+use Rattle.std.proofs.lemmas.List.{map-append}
 use Rattle.process_packet.specs.declared.config.Config.{Config}
+use Rattle.pipeline_laws.specs.Deeds.{Pushed, payload_of, payloads}
+use Rattle.ruled_pipe.specs.declared.entry.Entry.{Entry}
+use Rattle.ruled_pipe.specs.declared.entry.Load.TheVariants.{Payload}
 use Rattle.ruled_pipe.specs.Consumer.{Taker}
+use Rattle.ruled_pipe.specs.Producer.{Sender, entry}
 use Rattle.ruled_pipe.specs.Pipe.{Shape}
-use Rattle.router_laws.specs.Returned.{AllAt}
 use Rattle.router_rules.specs.Links.{link_count}
-use Rattle.pipe_ends.specs.Rows.{AreDealt, Row, new_takers}
-use Rattle.router_pipes.specs.Dealing.{AreFree, IsLong, IsUnlooked}
-use Rattle.router_pipes.proofs.Fresh.{fresh_long, takers_long}
+use Rattle.stage_laws.specs.Ends.{pushed_in, pushes}
+use Rattle.stage_parts.specs.Back.{AreBack}
+use Rattle.stage_parts.specs.Same.{IsSameEnd}
+use Rattle.pipe_ends.specs.Rows.{AreDealt, AreFor, AreWide, DealsLast, Row, fresh_ends, new_takers}
+use Rattle.router_pipes.specs.Dealing.{AreFilled, AreFree}
+use Rattle.router_pipes.proofs.Fresh.{bundles_are}
 
-unlooked : (n : ℕ) (ss : List Shape) → AllAt IsUnlooked n (new_takers ss)
-unlooked n [] = tt
-unlooked n (s ∷ ss) = (refl, unlooked (n + 1) ss)
+-- one payload more
+pub payload_more : {T : Type 0} (es : List (Entry T)) (n : ℕ) (x : T) → length (payloads (pushes (es ++ entry n (Payload x) ∷ []))) ≡ length (payloads (pushes es)) + 1
+payload_more {T = T} es n x =
+    let more : pushes (es ++ entry n (Payload x) ∷ []) ≡ pushes es ++ pushed_in (entry n (Payload x)) ∷ [] = map-append pushed_in es (entry n (Payload x) ∷ []) in
+    ap (λ (ps : List (Pushed T)). length (payloads ps)) more ∙ (ap length (flat_map-append (λ (e : Pushed T). payload_of e.load) (pushes es) (pushed_in (entry n (Payload x)) ∷ [])) ∙ length-append (payloads (pushes es)) (x ∷ []))
 
-all_long : (ss : List Shape) (p : ℕ) (bs : List (Row (List ℕ))) (b : Row (List ℕ)) → AreDealt ss p (bs ++ b ∷ []) → AllAt (IsLong (length ss)) p bs
-all_long ss p [] b all = tt
-all_long ss p (x ∷ bs) b all =
-    let e : suc p ≡ p + 1 = omega arith in
-    (ap length all.0 ∙ fresh_long (List ℕ) p ss, subst (λ (k : ℕ). AllAt (IsLong (length ss)) k bs) e (all_long ss (suc p) bs b all.1))
+-- the same end, with so many buffers put into its pipe
+abbrev pub HasPut : ℕ → Sender (List ℕ) → Sender (List ℕ) → Type 0
+HasPut buffers old new = IsSameEnd old new × (length (payloads (pushes new.offers)) ≡ buffers)
 
-pub free_are : (c : Config) (pipes : List Shape) (n : ℕ) (ts : List (Taker (List ℕ))) (all bs : List (Row (List ℕ))) (b : Row (List ℕ)) → length pipes ≡ link_count c → n ≡ c.processors + 2 + link_count c → ts ≡ new_takers pipes → length all ≡ n → AreDealt pipes 0 all → all ≡ bs ++ b ∷ [] → AreFree c ts bs
-free_are c pipes n ts all bs b links count are long dealt split = record {
-  unlooked = record {
-    each = subst (λ (xs : List (Taker (List ℕ))). AllAt IsUnlooked 0 xs) (sym are) (unlooked 0 pipes);
-    count = let x = ap length are in let y = takers_long (List ℕ) pipes in omega arith;
-  };
-  long = record {
-    each = subst (λ (k : ℕ). AllAt (IsLong k) 0 bs) links (all_long pipes 0 bs b (subst (λ (xs : List (Row (List ℕ))). AreDealt pipes 0 xs) split dealt));
-    count = let x = ap length split in let y = length-append bs (b ∷ []) in omega arith;
-  };
-}
+pub back_more : {X Y : Type 0} (R : X → Y → Type 0) (xs : List X) (ys : List Y) (x : X) (y : Y) → AreBack R xs ys → R x y → AreBack R (xs ++ x ∷ []) (ys ++ y ∷ [])
+back_more R [] [] x y all r = (r, tt)
+back_more R [] (b ∷ ys) x y all r = absurd all
+back_more R (a ∷ xs) [] x y all r = absurd all
+back_more R (a ∷ xs) (b ∷ ys) x y all r = (all.0, back_more R xs ys x y all.1 r)
+
+pub back_length : {X Y : Type 0} (R : X → Y → Type 0) (xs : List X) (ys : List Y) → AreBack R xs ys → length ys ≡ length xs
+back_length R [] [] all = refl
+back_length R [] (b ∷ ys) all = absurd all
+back_length R (a ∷ xs) [] all = absurd all
+back_length R (a ∷ xs) (b ∷ ys) all = ap suc (back_length R xs ys all.1)
+
+put_all : (number buffers : ℕ) (ss : List Shape) (fs : List (Sender (List ℕ))) → AreBack (HasPut buffers) (fresh_ends number ss) fs → AreFilled number buffers ss fs
+put_all number buffers [] [] all = tt
+put_all number buffers [] (f ∷ fs) all = absurd all
+put_all number buffers (s ∷ ss) [] all = absurd all
+put_all number buffers (s ∷ ss) (f ∷ fs) all = ((all.0.0, all.0.1), put_all number buffers ss fs all.1)
+
+pub filled : (number buffers : ℕ) (ss : List Shape) (es fs : List (Sender (List ℕ))) → es ≡ fresh_ends number ss → AreBack (HasPut buffers) es fs → AreFilled number buffers ss fs
+filled number buffers ss es fs is all = put_all number buffers ss fs (subst (λ (xs : List (Sender (List ℕ))). AreBack (HasPut buffers) xs fs) is all)
+
+pub free_are : (c : Config) (pipes : List Shape) (n b : ℕ) (ts : List (Taker (List ℕ))) (all bs : List (Row (List ℕ))) (last : Row (List ℕ)) (fs : List (Sender (List ℕ))) → DealsLast (List ℕ)
+    → length pipes ≡ link_count c → AreWide c.buffers pipes → AreFor n pipes → n ≡ c.processors + 2 + link_count c → b ≡ c.buffers - 1 → ts ≡ new_takers pipes → length all ≡ n → AreDealt pipes 0 all → all ≡ bs ++ last ∷ []
+    → ((number : ℕ) (ss : List Shape) → last.ends ≡ fresh_ends number ss → AreFilled number b ss fs) → AreFree c pipes ts bs fs
+free_are c pipes n b ts all bs last fs deals links wide for count some are long dealt split fills =
+    let apart = deals pipes bs last (subst (λ (xs : List (Row (List ℕ))). AreDealt pipes 0 xs) split dealt) in
+    let number : length bs ≡ c.processors + 1 + link_count c = let x = ap length split in let y = length-append bs (last ∷ []) in omega arith in
+    let put : AreFilled (length bs) b pipes fs = fills (length bs) pipes apart.1 in record {
+      measure = subst (λ (k : ℕ). AreFor k pipes) count for;
+      count = links;
+      wide = wide;
+      untaken = are;
+      dealt = bundles_are pipes (c.processors + 1 + link_count c) bs number apart.0;
+      full = subst (λ (k : ℕ). AreFilled (c.processors + 1 + link_count c) k pipes fs) some (subst (λ (k : ℕ). AreFilled k b pipes fs) number put);
+    }

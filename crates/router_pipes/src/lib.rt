@@ -12,6 +12,6 @@ mod waking;
 pub use closing::{CloseFault, Controller};
 pub use handing::{bare, outlets};
 pub use laws::finishes;
-pub use pipes::{AllPipes, FreePipes, Inputs, Pipes, all_pipes};
+pub use pipes::{AllPipes, Inputs, Pipes, all_pipes};
 pub use shutting::shutters;
 pub use waking::{Events, events_for, notify_all, notify_one};

@@ -1,12 +1,18 @@
 //! The pipes of a router.
 
-ghost use Rattle.std.specs.Prelude.{◌≡◌, ◌+◌, ◌*◌, ◌<◌, ◌≤◌, IfOk, [], length};
+ghost use Rattle.std.specs.Prelude.{◌≡◌, ◌+◌, ◌-◌, ◌*◌, ◌<◌, ◌≤◌, ℕ, List, IfOk, [], length};
+ghost use Rattle.pipeline_laws.specs.Deeds.{payloads};
+ghost use Rattle.stage_laws.specs.Ends.{pushes};
+ghost use Rattle.pipe_ends.specs.Rows.{AreWide, AreWideAs, IsBundle, fresh_ends};
+ghost use Rattle.ruled_pipe.specs.Pipe.{Shape};
 ghost use Rattle.router_rules.specs.Links.{link_count};
-ghost use Rattle.router_pipes.specs.Piping.{IsTakerOf};
-ghost use Rattle.router_pipes.specs.Dealing.{AreFree, IsDealing, IsNewEnd};
+ghost use Rattle.router_pipes.specs.Piping.{IsTakerOf, outer_capacity};
+ghost use Rattle.router_pipes.specs.Dealing.{AreFilled, AreFree, IsDealing, IsNewEnd};
 ghost use Rattle.router_pipes.specs.Rest.{IsRest};
+ghost use Rattle.stage_parts.specs.Same.{IsSameEnd};
 
-use pipe_ends::{Dealt, Ends, Opened, deal, open_pipes, take_last};
+use crate::shutting::is_used;
+use pipe_ends::{Dealt, Ends, Opened, deal, deals_last, open_pipes, take_last};
 use router_rules::{Shared, link_count};
 use ruled_pipe::{Consumer, Pipe, Producer};
 use stage_parts::{Buffer, EgressPacket, Packet, Router, SlowPathRequest, both};
@@ -15,7 +21,8 @@ use std::sync::Wait;
 
 /// The processors' pipes, with the receivers as their producers.
 fn inner_pipes<N: Router>(alloc: Global, shared: &Shared) -> Result<Dealt<Packet<N>>, AllocError>
-    ensures { IfOk result (λ d. IsDealing (link_count shared.now.config) shared.now.config.processors d.pipes.items d.rooms.items d.takers.items d.bundles.items) }
+    ensures wide { IfOk result (λ d. AreWide shared.now.config.capacity d.pipes.items) }
+    ensures dealing { IfOk result (λ d. IsDealing (link_count shared.now.config) shared.now.config.processors d.pipes.items d.rooms.items d.takers.items d.bundles.items) }
 {
     let links = link_count(&shared.config);
     let processors = usize::from(shared.config.processors);
@@ -27,9 +34,10 @@ fn inner_pipes<N: Router>(alloc: Global, shared: &Shared) -> Result<Dealt<Packet
 // The capacity of the pipe at a place. One that isn't used holds one entry.
 fn capacity_at(shared: &Shared, at: usize) -> usize
     requires { at < 66 }
-    ensures { (0 < result) × (result ≤ 65536) }
+    ensures few { (0 < result) × (result ≤ 65536) }
+    ensures capacity { result ≡ outer_capacity shared.now.config at }
 {
-    if at % 2 == 0 || shared.ports.two_bands((at / 2) as u16) {
+    if is_used(shared, at) {
         shared.config.capacity as usize
     } else {
         1
@@ -42,6 +50,7 @@ fn open_outer<N: Router>(
 ) -> Result<Opened<EgressPacket<N>>, AllocError>
     ensures producers { IfOk result (λ o. o.producers ≡ shared.now.config.processors + 2) }
     ensures count { IfOk result (λ o. length o.pipes ≡ 2 * link_count shared.now.config) }
+    ensures wide { IfOk result (λ o. AreWideAs (outer_capacity shared.now.config) 0 o.pipes) }
 {
     let links = link_count(&shared.config);
     let processors = usize::from(shared.config.processors);
@@ -58,50 +67,65 @@ fn outer_pipes<N: Router>(
     alloc: Global,
     shared: &Shared,
 ) -> Result<Dealt<EgressPacket<N>>, AllocError>
-    ensures { IfOk result (λ d. IsDealing (shared.now.config.processors + 2) (2 * link_count shared.now.config) d.pipes.items d.rooms.items d.takers.items d.bundles.items) }
+    ensures wide { IfOk result (λ d. AreWideAs (outer_capacity shared.now.config) 0 d.pipes.items) }
+    ensures dealing { IfOk result (λ d. IsDealing (shared.now.config.processors + 2) (2 * link_count shared.now.config) d.pipes.items d.rooms.items d.takers.items d.bundles.items) }
 {
     let opened = open_outer(alloc, shared)?;
     deal(alloc, opened)
 }
 
-/// The ends of the pipes of free buffers, one a link: their consumers, and the bundles of the processors,
-/// the slow path and the forwarders. All buffers of a link but one are there.
+// The pipes of free buffers, one a link, with their consumers, the bundles of the processors, the slow path
+// and the forwarders, and the ends that filled them. All buffers of a link but one are there.
 #[derive(Drop)]
-pub struct FreePipes {
-    pub takers: Vec<Consumer<Buffer>>,
-    pub bundles: Vec<Ends<Buffer>>,
+struct FreePipes {
+    pipes: Vec<Pipe<Buffer>>,
+    takers: Vec<Consumer<Buffer>>,
+    bundles: Vec<Ends<Buffer>>,
+    fillers: Vec<Producer<Buffer>>,
 }
 
 /// The pipes of free buffers, filled.
 fn free_pipes<R: Wait>(rt: &R, alloc: Global, shared: &Shared) -> Result<FreePipes, AllocError>
-    ensures { IfOk result (λ f. AreFree shared.now.config f.takers.items f.bundles.items) }
+    ensures { IfOk result (λ f. AreFree shared.now.config f.pipes.items f.takers.items f.bundles.items f.fillers.items) }
 {
     let links = link_count(&shared.config);
     let processors = usize::from(shared.config.processors);
     let buffers = shared.config.buffers as usize;
     let opened = open_pipes(alloc, links, buffers, processors + 2 + links)?;
     let Dealt {
-        pipes: _,
+        pipes,
         rooms: _,
         takers,
         mut bundles,
     } = deal(alloc, opened)?;
-    let filler = take_last(&mut bundles);
-    fill(rt, alloc, filler, buffers - 1)?;
-    Ok(FreePipes { takers, bundles })
+    let last = take_last(&mut bundles);
+    deals_last::<Buffer>();
+    let fillers = fill(rt, alloc, last, buffers - 1)?;
+    Ok(FreePipes {
+        pipes,
+        takers,
+        bundles,
+        fillers,
+    })
 }
 
-// Puts a number of buffers into each pipe.
+// Puts a number of buffers into each pipe, by these new ends.
 fn fill<R: Wait>(
     rt: &R,
     alloc: Global,
     ends: Ends<Buffer>,
     buffers: usize,
-) -> Result<(), AllocError> {
-    for end in ends.into_items() {
-        fill_one(rt, alloc, end, buffers)?;
+) -> Result<Vec<Producer<Buffer>>, AllocError>
+    requires { IsBundle ends.ends }
+    ensures { IfOk result (λ f. (number : ℕ) (pipes : List Shape) → ends.ends ≡ fresh_ends number pipes → AreFilled number buffers pipes f.items) }
+{
+    let items = ends.into_items();
+    let mut fillers = Vec::with_capacity(alloc, items.len())?;
+    for end in items {
+        let filler = fill_one(rt, alloc, end, buffers)?;
+        fillers.push_reserved(filler);
     }
-    Ok(())
+    Ok(fillers)
 }
 
 fn fill_one<R: Wait>(
@@ -109,16 +133,25 @@ fn fill_one<R: Wait>(
     alloc: Global,
     end: Producer<Buffer>,
     buffers: usize,
-) -> Result<(), AllocError> {
+) -> Result<Producer<Buffer>, AllocError>
+    requires { end.offers ≡ [] }
+    ensures same { IfOk result (λ f. IsSameEnd end f) }
+    ensures filled { IfOk result (λ f. length (payloads (pushes f.offers)) ≡ buffers) }
+{
     let mut end = end;
-    for _ in 0..buffers {
+    for put in 0..buffers {
+        let _ = put;
         let buffer = Buffer::new(alloc)?;
-        let _ = end.offer(rt, buffer);
+        // Nobody else pushes yet, so none is refused; a pool that lacks one would be no pool of this size.
+        if end.offer(rt, buffer).is_err() {
+            return Err(AllocError);
+        }
     }
-    Ok(())
+    Ok(end)
 }
 
-/// The pipes that are gathered in the end, with room for the ends of each.
+/// The pipes: those that are gathered in the end, with room for the ends of each, and those of free buffers
+/// with the ends that filled them.
 #[derive(Drop)]
 pub struct Pipes<N: Router> {
     pub inner: Vec<Pipe<Packet<N>>>,
@@ -126,6 +159,8 @@ pub struct Pipes<N: Router> {
     pub middle: Pipe<SlowPathRequest<N>>,
     pub outer: Vec<Pipe<EgressPacket<N>>>,
     pub outer_rooms: Vec<Ends<EgressPacket<N>>>,
+    pub free: Vec<Pipe<Buffer>>,
+    pub fillers: Vec<Producer<Buffer>>,
 }
 
 /// The slow path's pipe, with the processors as its producers.
@@ -140,7 +175,7 @@ fn middle_pipe<N: Router>(
     ),
     AllocError,
 >
-    ensures pipe { IfOk result (λ r. r.0.producers ≡ shared.now.config.processors) }
+    ensures pipe { IfOk result (λ r. (r.0.producers ≡ shared.now.config.processors) × (r.0.capacity ≡ shared.now.config.capacity)) }
     ensures ends { IfOk result (λ r. IsRest (IsNewEnd r.0) 0 shared.now.config.processors r.1.items) }
     ensures taker { IfOk result (λ r. IsTakerOf r.0 r.2 × (r.2.taken ≡ [])) }
 {
@@ -172,7 +207,10 @@ pub struct AllPipes<N: Router> {
     pub to_links: Vec<Ends<EgressPacket<N>>>,
     /// The forwarders' consumers.
     pub egress_packets: Vec<Consumer<EgressPacket<N>>>,
-    pub free: FreePipes,
+    /// The receivers' consumers of free buffers.
+    pub free_buffers: Vec<Consumer<Buffer>>,
+    /// The processors', the slow path's and the forwarders' ends of the pipes of free buffers.
+    pub to_free: Vec<Ends<Buffer>>,
 }
 
 /// Opens them all.
@@ -182,11 +220,13 @@ pub fn all_pipes<N: Router, R: Wait>(
     shared: &Shared,
 ) -> Result<AllPipes<N>, AllocError>
     ensures inner { IfOk result (λ a. IsDealing (link_count shared.now.config) shared.now.config.processors a.pipes.inner.items a.pipes.inner_rooms.items a.inputs.packets.items a.to_processors.items) }
-    ensures middle { IfOk result (λ a. a.pipes.middle.producers ≡ shared.now.config.processors) }
+    ensures inner_wide { IfOk result (λ a. AreWide shared.now.config.capacity a.pipes.inner.items) }
+    ensures middle { IfOk result (λ a. (a.pipes.middle.producers ≡ shared.now.config.processors) × (a.pipes.middle.capacity ≡ shared.now.config.capacity)) }
     ensures asking { IfOk result (λ a. IsRest (IsNewEnd a.pipes.middle) 0 shared.now.config.processors a.inputs.asking.items) }
     ensures asked { IfOk result (λ a. IsTakerOf a.pipes.middle a.inputs.asked × (a.inputs.asked.taken ≡ [])) }
     ensures outer { IfOk result (λ a. IsDealing (shared.now.config.processors + 2) (2 * link_count shared.now.config) a.pipes.outer.items a.pipes.outer_rooms.items a.egress_packets.items a.to_links.items) }
-    ensures free { IfOk result (λ a. AreFree shared.now.config a.free.takers.items a.free.bundles.items) }
+    ensures outer_wide { IfOk result (λ a. AreWideAs (outer_capacity shared.now.config) 0 a.pipes.outer.items) }
+    ensures free { IfOk result (λ a. AreFree shared.now.config a.pipes.free.items a.free_buffers.items a.to_free.items a.pipes.fillers.items) }
 {
     let free = free_pipes(rt, alloc, shared)?;
     let (middle, asking, asked) = middle_pipe(alloc, shared)?;
@@ -199,6 +239,8 @@ pub fn all_pipes<N: Router, R: Wait>(
             middle,
             outer: outer.pipes,
             outer_rooms: outer.rooms,
+            free: free.pipes,
+            fillers: free.fillers,
         },
         to_processors: inner.bundles,
         inputs: Inputs {
@@ -208,6 +250,7 @@ pub fn all_pipes<N: Router, R: Wait>(
         },
         to_links: outer.bundles,
         egress_packets: outer.takers,
-        free,
+        free_buffers: free.takers,
+        to_free: free.bundles,
     })
 }

@@ -1,5 +1,5 @@
 -- Workers made of what stood ready are a crew.
-use Rattle.std.proofs.Common.{◌≡◌, ℕ, suc, ◌+◌, ◌*◌, List, [], ◌∷◌, map, length, Some, Result, Ok, Err, MatchResult, slice_get, refl, sym, ◌∙◌, ap, subst, arith}
+use Rattle.std.proofs.Common.{◌≡◌, ℕ, suc, ◌+◌, ◌-◌, ◌*◌, List, [], ◌∷◌, map, length, Some, Result, Ok, Err, MatchResult, slice_get, refl, sym, ◌∙◌, ap, subst, arith}
 use Rattle.std.proofs.lemmas.List.{map-id}
 use Rattle.process_packet.specs.declared.config.Config.{Config}
 use Rattle.pipeline_laws.specs.Item.{Arrival, Outgoing}
@@ -11,15 +11,20 @@ use Rattle.router_stages.specs.Answering.{Answering}
 use Rattle.router_stages.specs.Forwarding.{Forwarding}
 use Rattle.router_stages.specs.Receiving.{Receiving}
 use Rattle.router_stages.specs.Working.{Working}
-use Rattle.pipe_ends.specs.Rows.{Row}
-use Rattle.pipe_ends.specs.Shutting.{Shutting}
+use Rattle.ruled_pipe.specs.Producer.{Sender}
+use Rattle.pipe_ends.specs.Rows.{Row, fresh_ends}
+use Rattle.pipe_ends.proofs.ShuttingLemmas.{new_open, shutters_of_new}
+use Rattle.router_pipes.proofs.Fresh.{fresh_are}
+use Rattle.router_pipes.specs.Dealing.{AreFilled}
+use Rattle.stage_parts.specs.Outlets.{are_used}
+use Rattle.pipe_ends.specs.Shutting.{AreNew, Shutting}
 use Rattle.router_run.specs.Wiring.{AreForwarding, AreWorking, IsCrew, IsReceivingAt}
 use Rattle.router_pipes.specs.Piping.{IsTakerOf, Piping}
 use Rattle.wired_workers.specs.Kits.{Entry, Exit, IsEnteringAt, IsLeavingAt, IsWorkingAt, IsWorkingThere, forwarding_over, forwardings, paired, receiving_over, receivings}
 use Rattle.router_run.specs.WorkerParts.{AreWorkerParts}
 use Rattle.router_run.specs.Run.{Run}
 use Rattle.run_report.specs.Crew.{crew_of}
-use Rattle.router_run.specs.Starting.{Begins, GivesBack}
+use Rattle.router_run.specs.Starting.{Begins, GivesBack, IsOneALink}
 use Rattle.router_run.specs.declared.fault.StartFault.{StartFault}
 use Rattle.router_run.specs.declared.fault.StartFault.TheVariants.{Thread}
 
@@ -27,18 +32,19 @@ some_same : {X : Type 0} (x y : X) → Some x ≡ Some y → x ≡ y
 some_same x y e = cc
 
 module _ {S : Type 0} (c : Config) (p : Piping) where
-  receiving_at : (n : ℕ) (e : Entry) (s : S) → IsEnteringAt c p.inner n e → AllAt (IsReceivingAt c p) n (receivings (e ∷ []) (s ∷ []))
+  receiving_at : (n : ℕ) (e : Entry) (s : S) → IsEnteringAt c p n e → AllAt (IsReceivingAt c p) n (receivings (e ∷ []) (s ∷ []))
   receiving_at n e s is = (
     record {
       config = is.config;
       link = is.link;
       interface = ap (λ (d : Config). interface_at d e.link) is.config ∙ ap (interface_at c) is.link;
       processors = is.processors;
+      free = is.free;
     },
     tt,
   )
 
-  pub receivings_at : (n : ℕ) (es : List Entry) (ss : List S) → AllAt (IsEnteringAt c p.inner) n es → length ss ≡ length es → AllAt (IsReceivingAt c p) n (receivings es ss)
+  pub receivings_at : (n : ℕ) (es : List Entry) (ss : List S) → AllAt (IsEnteringAt c p) n es → length ss ≡ length es → AllAt (IsReceivingAt c p) n (receivings es ss)
   receivings_at n [] ss all same = tt
   receivings_at n (e ∷ es) [] all same = absurd (omega arith)
   receivings_at n (e ∷ es) (s ∷ ss) all same = ((receiving_at n e s all.0).0, receivings_at (n + 1) es ss all.1 (omega arith))
@@ -57,8 +63,8 @@ module _ {X Y Z : Type 0} (make : X → Y → Z) where
   paired_has {V = V} f g each (x ∷ xs) (y ∷ ys) same = ap (λ (v : V). v ∷ map f (paired make xs ys)) (each x y) ∙ ap (λ (vs : List V). g y ∷ vs) (paired_has f g each xs ys (omega arith))
 
 module _ {K : Type 0} (failed : K → ℕ) where
-  forwarding_at : (c : Config) (outer : List Shape) (l : ℕ) (s t : Shape) (e : Exit) (k : K) → IsLeavingAt c outer l e → slice_get outer (2 * l) ≡ Some s → slice_get outer (2 * l + 1) ≡ Some t → AreForwarding c l (s ∷ t ∷ []) (forwardings failed (e ∷ []) (k ∷ []))
-  forwarding_at c outer l s t e k is first second =
+  forwarding_at : (c : Config) (p : Piping) (l : ℕ) (s t : Shape) (e : Exit) (k : K) → IsLeavingAt c p l e → slice_get p.outer (2 * l) ≡ Some s → slice_get p.outer (2 * l + 1) ≡ Some t → AreForwarding c p l (s ∷ t ∷ []) (forwardings failed (e ∷ []) (k ∷ []))
+  forwarding_at c p l s t e k is first second =
       let a : is.first ≡ s = some_same is.first s (sym is.first_there ∙ first) in
       let b : is.second ≡ t = some_same is.second t (sym is.second_there ∙ second) in (
         record {
@@ -66,22 +72,23 @@ module _ {K : Type 0} (failed : K → ℕ) where
           link = is.link;
           low = subst (λ (x : Shape). IsTakerOf x e.low.taker) a is.low;
           high = subst (λ (x : Shape). IsTakerOf x e.high.taker) b is.high;
+          free = is.free;
         },
         tt,
       )
 
-  pub forwardings_at : (c : Config) (outer : List Shape) (l : ℕ) (ss : List Shape) (es : List Exit) (ks : List K) → AllAt (IsLeavingAt c outer) l es → length ss ≡ 2 * length es → length ks ≡ length es
-      → ((j : ℕ) (s : Shape) → slice_get ss j ≡ Some s → slice_get outer (2 * l + j) ≡ Some s) → AreForwarding c l ss (forwardings failed es ks)
-  forwardings_at c outer l [] [] ks all long same at = tt
-  forwardings_at c outer l (s ∷ ss) [] ks all long same at = absurd (omega arith)
-  forwardings_at c outer l [] (e ∷ es) ks all long same at = absurd (omega arith)
-  forwardings_at c outer l (s ∷ []) (e ∷ es) ks all long same at = absurd (omega arith)
-  forwardings_at c outer l (s ∷ t ∷ ss) (e ∷ es) [] all long same at = absurd (omega arith)
-  forwardings_at c outer l (s ∷ t ∷ ss) (e ∷ es) (k ∷ ks) all long same at =
+  pub forwardings_at : (c : Config) (p : Piping) (l : ℕ) (ss : List Shape) (es : List Exit) (ks : List K) → AllAt (IsLeavingAt c p) l es → length ss ≡ 2 * length es → length ks ≡ length es
+      → ((j : ℕ) (s : Shape) → slice_get ss j ≡ Some s → slice_get p.outer (2 * l + j) ≡ Some s) → AreForwarding c p l ss (forwardings failed es ks)
+  forwardings_at c p l [] [] ks all long same at = tt
+  forwardings_at c p l (s ∷ ss) [] ks all long same at = absurd (omega arith)
+  forwardings_at c p l [] (e ∷ es) ks all long same at = absurd (omega arith)
+  forwardings_at c p l (s ∷ []) (e ∷ es) ks all long same at = absurd (omega arith)
+  forwardings_at c p l (s ∷ t ∷ ss) (e ∷ es) [] all long same at = absurd (omega arith)
+  forwardings_at c p l (s ∷ t ∷ ss) (e ∷ es) (k ∷ ks) all long same at =
       let first : 2 * l + 0 ≡ 2 * l = omega arith in (
-        (forwarding_at c outer l s t e k all.0 (subst (λ (j : ℕ). slice_get outer j ≡ Some s) first (at 0 s refl)) (at 1 t refl)).0,
-        forwardings_at c outer (l + 1) ss es ks all.1 (omega arith) (omega arith)
-            (λ j x got. let e : 2 * l + suc (suc j) ≡ 2 * (l + 1) + j = omega arith in subst (λ (i : ℕ). slice_get outer i ≡ Some x) e (at (suc (suc j)) x got)),
+        (forwarding_at c p l s t e k all.0 (subst (λ (j : ℕ). slice_get p.outer j ≡ Some s) first (at 0 s refl)) (at 1 t refl)).0,
+        forwardings_at c p (l + 1) ss es ks all.1 (omega arith) (omega arith)
+            (λ j x got. let e : 2 * l + suc (suc j) ≡ 2 * (l + 1) + j = omega arith in subst (λ (i : ℕ). slice_get p.outer i ≡ Some x) e (at (suc (suc j)) x got)),
       )
 
 module _ {G : Type 0} (c : Config) (p : Piping) where
@@ -97,9 +104,9 @@ module _ {G : Type 0} (c : Config) (p : Piping) where
         working_at (i + 1) ss ws all.1 (omega arith) (λ j x got. let e : i + suc j ≡ i + 1 + j = omega arith in subst (λ (k : ℕ). slice_get p.inner k ≡ Some x) e (at (suc j) x got)),
       )
 
-pub is_crew : {S G K : Type 0} (failed : K → ℕ) (c : Config) (p : Piping) (inner_rooms : List (Row (Arrival kinds))) (outer_rooms : List (Row (Outgoing kinds))) (es : List Entry) (ws : List (Working G)) (a : Answering) (xs : List Exit) (hs : List (Shutting (Outgoing kinds))) (ss : List S) (ks : List K)
-    → AreWorkerParts c p inner_rooms outer_rooms es ws a xs hs → length ss ≡ link_count c → length ks ≡ link_count c → IsCrew c p (crew_of (receivings es ss) ws (a ∷ []) (forwardings failed xs ks) hs)
-is_crew failed c p inner_rooms outer_rooms es ws a xs hs ss ks m sources sinks =
+pub is_crew : {S G K : Type 0} (failed : K → ℕ) (c : Config) (p : Piping) (inner_rooms : List (Row (Arrival kinds))) (outer_rooms : List (Row (Outgoing kinds))) (es : List Entry) (ws : List (Working G)) (a : Answering) (xs : List Exit) (hs : List (Shutting (Outgoing kinds))) (gs : List (Sender (List ℕ))) (ss : List S) (ks : List K)
+    → AreWorkerParts c p inner_rooms outer_rooms es ws a xs hs gs → length ss ≡ link_count c → length ks ≡ link_count c → IsCrew c p (crew_of (receivings es ss) ws (a ∷ []) (forwardings failed xs ks) hs)
+is_crew failed c p inner_rooms outer_rooms es ws a xs hs gs ss ks m sources sinks =
     let entries : length es ≡ link_count c = let q = m.entering.count in omega arith in
     let exits : length xs ≡ link_count c = let q = m.leaving.count in omega arith in
     let works : length ws ≡ c.processors = let q = m.working.count in omega arith in
@@ -109,9 +116,9 @@ is_crew failed c p inner_rooms outer_rooms es ws a xs hs ss ks m sources sinks =
       receiver_count = paired_long receiving_over es ss (sources ∙ sym entries) ∙ entries;
       processors = working_at c p 0 p.inner ws m.working.each (works ∙ sym m.pipes_are.processors) (λ j s got. let z : j ≡ 0 + j = omega arith in subst (λ (i : ℕ). slice_get p.inner i ≡ Some s) z got);
       slow = m.answering;
-      forwarders = forwardings_at failed c p.outer 0 p.outer xs ks m.leaving.each (let q = m.pipes_are.links in omega arith) (sinks ∙ sym exits) (λ j s got. let z : j ≡ 2 * 0 + j = omega arith in subst (λ (i : ℕ). slice_get p.outer i ≡ Some s) z got);
-      shutters = m.shutting;
-      unmarked = m.unmarked;
+      forwarders = forwardings_at failed c p 0 p.outer xs ks m.leaving.each (let q = m.pipes_are.links in omega arith) (sinks ∙ sym exits) (λ j s got. let z : j ≡ 2 * 0 + j = omega arith in subst (λ (i : ℕ). slice_get p.outer i ≡ Some s) z got);
+      shutters = shutters_of_new (are_used c) (fresh_ends (c.processors + 1) p.outer) hs m.shutting (c.processors + 1) p.outer (fresh_are (Outgoing kinds) (c.processors + 1) p.outer);
+      unended = new_open (are_used c) 0 (fresh_ends (c.processors + 1) p.outer) hs m.shutting;
     }
 
 -- the same crew, by other lists of the same workers
@@ -125,21 +132,29 @@ crew_by {S = S} {G = G} {K = K} c p rs qs ws vs ss ts fs es hs r w s f is =
 
 -- it has these devices
 pub begins : {S G K : Type 0} (failed : K → ℕ) (c : Config) (r : Run S G K) (es : List Entry) (xs : List Exit) (ss : List S) (ks : List K)
-    → r.config ≡ c → r.crew.receivers ≡ receivings es ss → r.crew.forwarders ≡ forwardings failed xs ks → length ss ≡ length es → length ks ≡ length xs → Begins failed c ss ks r
-begins {S = S} {K = K} failed c r es xs ss ks config rs fs sources sinks = record {
-  config = config;
-  sources_are = ap (map (λ (w : Receiving S). w.source)) rs ∙ (paired_has receiving_over (λ (w : Receiving S). w.source) (λ (s : S). s) (λ _ _. refl) es ss sources ∙ map-id ss);
-  sinks_are = ap (map (λ (f : Forwarding K). f.side.sink)) fs ∙ (paired_has (forwarding_over failed) (λ (f : Forwarding K). f.side.sink) (λ (k : K). k) (λ _ _. refl) xs ks sinks ∙ map-id ks);
-  began = ap (map (λ (f : Forwarding K). f.began)) fs ∙ paired_has (forwarding_over failed) (λ (f : Forwarding K). f.began) failed (λ _ _. refl) xs ks sinks;
-}
+    → r.config ≡ c → r.crew.receivers ≡ receivings es ss → r.crew.forwarders ≡ forwardings failed xs ks → length es ≡ link_count c → length xs ≡ link_count c → IsOneALink (link_count c) ss ks → IsCrew c r.pipes r.crew
+    → AreNew (are_used c) 0 (fresh_ends (c.processors + 1) r.pipes.outer) r.crew.shutters → AreFilled (c.processors + 1 + link_count c) (c.buffers - 1) r.pipes.free r.fillers → Begins failed c ss ks r
+begins {S = S} {K = K} failed c r es xs ss ks config rs fs entries exits one crew unmarked filled =
+    let sources : length ss ≡ length es = one.0 ∙ sym entries in
+    let sinks : length ks ≡ length xs = one.1 ∙ sym exits in
+    record {
+      config = config;
+      one_a_link = one;
+      sources_are = ap (map (λ (w : Receiving S). w.source)) rs ∙ (paired_has receiving_over (λ (w : Receiving S). w.source) (λ (s : S). s) (λ _ _. refl) es ss sources ∙ map-id ss);
+      sinks_are = ap (map (λ (f : Forwarding K). f.side.sink)) fs ∙ (paired_has (forwarding_over failed) (λ (f : Forwarding K). f.side.sink) (λ (k : K). k) (λ _ _. refl) xs ks sinks ∙ map-id ks);
+      began = ap (map (λ (f : Forwarding K). f.began)) fs ∙ paired_has (forwarding_over failed) (λ (f : Forwarding K). f.began) failed (λ _ _. refl) xs ks sinks;
+      crew = crew;
+      unmarked = unmarked;
+      filled = filled;
+    }
 
 -- what a run over ready parts answers is what a start of it answers
-pub starts : {S G K : Type 0} (failed : K → ℕ) (a b : Config) (links : ℕ) (ss : List S) (ks : List K) (r : Result (Run S G K) (StartFault S K))
-    → a ≡ b → MatchResult r (λ x. Begins failed a ss ks x) (λ f. f ≡ Thread) → MatchResult r (λ x. Begins failed b ss ks x) (λ f. GivesBack links f ss ks)
-starts failed a b links ss ks (Ok x) e ran = subst (λ (c : Config). Begins failed c ss ks x) e ran
-starts {S = S} {K = K} failed a b links ss ks (Err f) e ran = subst (λ (x : StartFault S K). GivesBack links x ss ks) (sym ran) tt
+pub starts : {S G K : Type 0} (failed : K → ℕ) (a b : Config) (ss : List S) (ks : List K) (r : Result (Run S G K) (StartFault S K))
+    → a ≡ b → IsOneALink (link_count b) ss ks → MatchResult r (λ x. Begins failed a ss ks x) (λ f. f ≡ Thread) → MatchResult r (λ x. Begins failed b ss ks x) (λ f. GivesBack (link_count b) f ss ks)
+starts failed a b ss ks (Ok x) e one ran = subst (λ (c : Config). Begins failed c ss ks x) e ran
+starts {S = S} {K = K} failed a b ss ks (Err f) e one ran = subst (λ (x : StartFault S K). GivesBack (link_count b) x ss ks) (sym ran) one
 
 -- what stands ready, by another name of its configuration
-pub parts_as : {G : Type 0} (a b : Config) (p : Piping) (inner_rooms : List (Row (Arrival kinds))) (outer_rooms : List (Row (Outgoing kinds))) (es : List Entry) (ws : List (Working G)) (s : Answering) (xs : List Exit) (hs : List (Shutting (Outgoing kinds)))
-    → a ≡ b → AreWorkerParts b p inner_rooms outer_rooms es ws s xs hs → AreWorkerParts a p inner_rooms outer_rooms es ws s xs hs
-parts_as a b p inner_rooms outer_rooms es ws s xs hs e are = subst (λ (c : Config). AreWorkerParts c p inner_rooms outer_rooms es ws s xs hs) (sym e) are
+pub parts_as : {G : Type 0} (a b : Config) (p : Piping) (inner_rooms : List (Row (Arrival kinds))) (outer_rooms : List (Row (Outgoing kinds))) (es : List Entry) (ws : List (Working G)) (s : Answering) (xs : List Exit) (hs : List (Shutting (Outgoing kinds))) (gs : List (Sender (List ℕ)))
+    → a ≡ b → AreWorkerParts b p inner_rooms outer_rooms es ws s xs hs gs → AreWorkerParts a p inner_rooms outer_rooms es ws s xs hs gs
+parts_as a b p inner_rooms outer_rooms es ws s xs hs gs e are = subst (λ (c : Config). AreWorkerParts c p inner_rooms outer_rooms es ws s xs hs gs) (sym e) are

@@ -137,12 +137,12 @@ module _ (c : Config) (p : Piping) (links : length p.outer ≡ 2 * link_count c)
 -- ---- forwarders and shutters
 
 module _ {K : Type 0} where
-  pub forwarding_long : (c : Config) (l : ℕ) (ss : List Shape) (fs : List (Forwarding K)) → AreForwarding c l ss fs → length ss ≡ 2 * length fs
-  forwarding_long c l [] [] are = refl
-  forwarding_long c l [] (f ∷ fs) are = absurd are
-  forwarding_long c l (s ∷ []) fs are = absurd are
-  forwarding_long c l (s ∷ t ∷ ss) [] are = absurd are
-  forwarding_long c l (s ∷ t ∷ ss) (f ∷ fs) are = let r = forwarding_long c (l + 1) ss fs are.1 in omega arith
+  pub forwarding_long : (c : Config) (p : Piping) (l : ℕ) (ss : List Shape) (fs : List (Forwarding K)) → AreForwarding c p l ss fs → length ss ≡ 2 * length fs
+  forwarding_long c p l [] [] are = refl
+  forwarding_long c p l [] (f ∷ fs) are = absurd are
+  forwarding_long c p l (s ∷ []) fs are = absurd are
+  forwarding_long c p l (s ∷ t ∷ ss) [] are = absurd are
+  forwarding_long c p l (s ∷ t ∷ ss) (f ∷ fs) are = let r = forwarding_long c p (l + 1) ss fs are.1 in omega arith
 
   low_at : (fs : List (Forwarding K)) (l : ℕ) (f : Forwarding K) → slice_get fs l ≡ Some f → slice_get (takers_of fs) (2 * l) ≡ Some f.low.taker
   low_at [] l f at = absurd cc
@@ -210,7 +210,7 @@ module _ {S G K : Type 0} (told : S → Option (List Heard)) (shown : K → Opti
   }
     where
       forwarders_long : length old.forwarders ≡ link_count c
-      forwarders_long = let x = forwarding_long c 0 p.outer old.forwarders is.forwarders in let y = is.pipes.links in omega arith
+      forwarders_long = let x = forwarding_long c p 0 p.outer old.forwarders is.forwarders in let y = is.pipes.links in omega arith
 
       column : (j : ℕ) (t : Taker (Outgoing kinds)) → slice_get (takers_of new.forwarders) j ≡ Some t → (row : List (Sender (Outgoing kinds))) × IsColumn j (link_rows b) row × TookAll row (pushes t.taken)
       column j t at = subst (λ (rows : List (List (Sender (Outgoing kinds)))). (row : List (Sender (Outgoing kinds))) × IsColumn j rows row × TookAll row (pushes t.taken)) outer_are

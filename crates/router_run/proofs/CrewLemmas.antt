@@ -33,5 +33,5 @@ module _ {S G K : Type 0} (c : Config) (p : Piping) (rs : List (Receiving S)) (w
     slow = is.slow;
     forwarders = is.forwarders;
     shutters = stay.same (are_used c) 0 (c.processors + 1) p.outer is.shutters;
-    unmarked = stay.unended;
+    unended = stay.unended;
   }

@@ -90,7 +90,7 @@ module _ {S G K : Type 0} (c : Config) (p : Piping) (old new : Crew S G K) (is :
   outer bs same = record {
     uses = are_used c;
     theirs = outer_bundles c p 0 p.inner old.processors new.processors (map (λ (a : Answering). senders a.side.links) new.slow ++ (shutter_ends new.shutters ∷ [])) bs is.processors back.processors marked.processors same last;
-    taken = subst (λ (n : ℕ). AreTaken (are_used c) 0 n p.outer (takers_of new.forwarders)) (outer_count bs same) (outer_taken c 0 (c.processors + 2) p.outer old.forwarders new.forwarders is.pipes.outer is.forwarders back.forwarders);
+    taken = subst (λ (n : ℕ). AreTaken (are_used c) 0 n p.outer (takers_of new.forwarders)) (outer_count bs same) (outer_taken c p 0 (c.processors + 2) p.outer old.forwarders new.forwarders is.pipes.outer is.forwarders back.forwarders);
   }
 
   pub crews_end : PipesEnd p new

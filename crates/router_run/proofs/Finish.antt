@@ -16,7 +16,10 @@ use Rattle.router_rules.specs.Links.{link_count}
 use Rattle.router_rules.specs.Rules.{kinds}
 use Rattle.router_stages.specs.Answering.{Answering}
 use Rattle.router_stages.specs.Forwarding.{Forwarding}
-use Rattle.router_stages.specs.Receiving.{Receiving}
+use Rattle.router_stages.specs.Receiving.{EndsQuietly, Receiving}
+use Rattle.router_stages.specs.SameReceiver.{IsSameReceiver, ReceiverEnded}
+use Rattle.stage_parts.specs.Back.{AreBack}
+use Rattle.pipeline_laws.specs.Deeds.{Each}
 use Rattle.router_stages.specs.Working.{Working}
 use Rattle.stage_parts.specs.Outlets.{senders}
 use Rattle.stage_parts.specs.Told.{Told, told_of}
@@ -37,6 +40,13 @@ one_of : {X : Type 0} (xs : List X) → length xs ≡ 1 → (x : X) × (xs ≡ x
 one_of [] e = absurd (omega arith)
 one_of (x ∷ []) e = (x, refl)
 one_of (x ∷ y ∷ xs) e = absurd (omega arith)
+
+-- receivers that came back, ended, had asked their sources to the end
+asked_quietly : {S : Type 0} (told : S → Option (List Heard)) (old new : List (Receiving S)) → AreBack (λ a b. IsSameReceiver a b × ReceiverEnded b) old new
+    → Each (λ (r : Receiving S). r.ended ≡ true → EndsQuietly r.number (told r.source)) new → Each (λ (r : Receiving S). EndsQuietly r.number (told r.source)) new
+asked_quietly told old [] back quiet = tt
+asked_quietly told [] (y ∷ ys) back quiet = absurd back
+asked_quietly told (x ∷ xs) (y ∷ ys) back quiet = (quiet.0 back.0.1.ended, asked_quietly told xs ys back.1 quiet.1)
 
 -- the only slow path
 pub the_slow : {S G K : Type 0} (links processors : ℕ) (w : Crew S G K) → IsSized links processors w → (a : Answering) × (w.slow ≡ a ∷ [])
@@ -120,6 +130,7 @@ module _ {S G K : Type 0} where
       one = one;
       back = back;
       settled = set;
+      asked = asked_quietly told r.crew.receivers w.receivers back.receivers kept.quiet;
       ran = runs told_of r.config (back_of told shown failed w a) _ (crews_return told shown failed r.config r.pipes r.crew w a is back kept set one);
       totals_are = counts ∙ ap totals_of (same ∙ shares_same w a one);
       sent_are = sends;

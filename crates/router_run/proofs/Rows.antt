@@ -196,14 +196,14 @@ module _ (c : Config) (p : Piping) where
 
 -- ---- forwarders
 
-module _ {K : Type 0} (c : Config) where
+module _ {K : Type 0} (c : Config) (p : Piping) where
   abbrev pub F : Forwarding K → Forwarding K → Type 0
   F a b = IsSameForwarder a b × ForwarderEnded b
 
-  low_taken : (l : ℕ) (low high : Shape) (a b : Forwarding K) → IsForwardingAt c l low high a → F a b → HasTaken (are_used c (2 * l)) low b.low.taker
+  low_taken : (l : ℕ) (low high : Shape) (a b : Forwarding K) → IsForwardingAt c p l low high a → F a b → HasTaken (are_used c (2 * l)) low b.low.taker
   low_taken l low high a b is back = has_taken (are_used c (2 * l)) low b.low.taker (taken_of low a.low.taker b.low.taker is.low back.0.low) (λ u. back.1.0)
 
-  high_taken : (l : ℕ) (low high : Shape) (a b : Forwarding K) → IsForwardingAt c l low high a → F a b → HasTaken (are_used c (suc (2 * l))) high b.high.taker
+  high_taken : (l : ℕ) (low high : Shape) (a b : Forwarding K) → IsForwardingAt c p l low high a → F a b → HasTaken (are_used c (suc (2 * l))) high b.high.taker
   high_taken l low high a b is back =
       let config : b.side.config ≡ c = back.0.config ∙ is.config in
       let link : b.link ≡ l = back.0.link ∙ is.link in
@@ -211,7 +211,7 @@ module _ {K : Type 0} (c : Config) where
       has_taken (are_used c (suc (2 * l))) high b.high.taker (taken_of high a.high.taker b.high.taker is.high back.0.high)
       (λ u. back.1.1 (ap (λ (d : Config). has_two_bands d b.link) config ∙ (ap (has_two_bands c) link ∙ (sym (used_high (has_two_bands c) l) ∙ (ap (are_used c) next ∙ u)))))
 
-  pub outer_taken : (l n : ℕ) (ss : List Shape) (xs ys : List (Forwarding K)) → AreFor n ss → AreForwarding c l ss xs → AreBack F xs ys → AreTaken (are_used c) (2 * l) n ss (takers_of ys)
+  pub outer_taken : (l n : ℕ) (ss : List Shape) (xs ys : List (Forwarding K)) → AreFor n ss → AreForwarding c p l ss xs → AreBack F xs ys → AreTaken (are_used c) (2 * l) n ss (takers_of ys)
   outer_taken l n [] [] [] for are back = tt
   outer_taken l n [] [] (y ∷ ys) for are back = absurd back
   outer_taken l n [] (x ∷ xs) ys for are back = absurd are

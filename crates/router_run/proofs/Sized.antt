@@ -58,7 +58,7 @@ module _ {S G K : Type 0} (c : Config) (p : Piping) (w : Crew S G K) (is : IsCre
   crew_processors = working_long c p 0 p.inner w.processors is.processors ∙ is.pipes.processors
 
   crew_forwarders : length w.forwarders ≡ link_count c
-  crew_forwarders = let x = forwarding_long c 0 p.outer w.forwarders is.forwarders in let y = is.pipes.links in omega arith
+  crew_forwarders = let x = forwarding_long c p 0 p.outer w.forwarders is.forwarders in let y = is.pipes.links in omega arith
 
 pub is_sized : {S G K : Type 0} (c : Config) (p : Piping) (old new : Crew S G K) → IsCrew c p old → IsBack old new → IsSized (link_count c) c.processors new
 is_sized {S = S} {G = G} c p old new is back =

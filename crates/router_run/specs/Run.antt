@@ -8,23 +8,28 @@ use Rattle.router_laws.specs.Returned as returned
 use Rattle.router_laws.specs.Totals.{totals_of}
 use Rattle.router_stages.specs.Answering.{Answering}
 use Rattle.router_stages.specs.Forwarding.{Forwarding}
-use Rattle.router_stages.specs.Receiving.{Receiving}
+use Rattle.router_stages.specs.Receiving.{EndsQuietly, Receiving}
+use Rattle.ruled_pipe.specs.Producer.{Sender}
+use Rattle.pipeline_laws.specs.Deeds.{Each}
 use Rattle.stage_parts.specs.Told.{Told, told_of}
 use Rattle.pipe_ends.specs.Shutting.{closed_at}
 use Rattle.run_report.specs.Crew.{Crew}
 use Rattle.router_pipes.specs.Piping.{Piping}
 use Rattle.router_run.specs.Back.{IsBack, HasSettled, back_of}
 
--- a run: its configuration, its pipes, and its workers and the controller's ends as they began
+-- a run: its configuration, its pipes, the ends that filled those of free buffers, and its workers and the controller's ends as
+-- they began
 pub record Run (S G K : Type 0) : Type 0 where
   pub config : Config
   pub pipes : Piping
+  pub fillers : List (Sender (List ℕ))
   pub crew : Crew S G K
 
 -- the same router, but for the controller's ends
 pub record IsSameRun {S G K : Type 0} (old new : Run S G K) : Type 0 where
   pub config : new.config ≡ old.config
   pub pipes : new.pipes ≡ old.pipes
+  pub fillers : new.fillers ≡ old.fillers
   pub receivers : new.crew.receivers ≡ old.crew.receivers
   pub processors : new.crew.processors ≡ old.crew.processors
   pub slow : new.crew.slow ≡ old.crew.slow
@@ -39,6 +44,8 @@ module _ {S G K : Type 0} (told : S → Option (List Heard)) (shown : K → Opti
     pub one : crew.slow ≡ slow ∷ []
     pub back : IsBack r.crew crew
     pub settled : HasSettled r.pipes crew
+    -- each source that tells was asked to an answer that is no datagram, or gave 2^56 datagrams
+    pub asked : Each (λ (w : Receiving S). EndsQuietly w.number (told w.source)) crew.receivers
     pub ran : returned.HasRun told_of r.config (back_of told shown failed crew slow) (closed_at crew.shutters)
     pub totals_are : totals ≡ totals_of (returned.shares_of (back_of told shown failed crew slow))
     pub sent_are : sent ≡ map (λ (f : Forwarding K). forwarded f.side.share) crew.forwarders

@@ -141,7 +141,7 @@ where
     requires config { N.config ≡ Some config }
     requires workers { N.workers ≡ 2 * link_count config + config.processors + 1 }
     ensures shared { IfOk result (λ p. (arc_value p.base.common.shared).config ≡ config) }
-    ensures worker_parts { IfOk result (λ p. AreWorkerParts config (piping p.worker_parts.pipes.inner.items p.worker_parts.pipes.middle p.worker_parts.pipes.outer.items) p.worker_parts.pipes.inner_rooms.items p.worker_parts.pipes.outer_rooms.items p.worker_parts.receivers.items p.worker_parts.processors.items p.worker_parts.slow p.worker_parts.forwarders.items p.worker_parts.shutters.items) }
+    ensures worker_parts { IfOk result (λ p. AreWorkerParts config (piping p.worker_parts.pipes.inner.items p.worker_parts.pipes.middle p.worker_parts.pipes.outer.items p.worker_parts.pipes.free.items) p.worker_parts.pipes.inner_rooms.items p.worker_parts.pipes.outer_rooms.items p.worker_parts.receivers.items p.worker_parts.processors.items p.worker_parts.slow p.worker_parts.forwarders.items p.worker_parts.shutters.items p.worker_parts.pipes.fillers.items) }
     ensures teams { IfOk result (λ p. AreTeamsFor (link_count config) config.processors p.teams.receivers p.teams.processors p.teams.slow p.teams.forwarders) }
     ensures space { IfOk result (λ p. HaveSpace (link_count config) config.processors p.space) }
 {

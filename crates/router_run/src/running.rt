@@ -34,7 +34,7 @@ use wired_workers::Common;
 use worker_threads::Orders;
 
 /// A running router. It has no `Drop`: it can only be finished. Contracts see its configuration, its pipes,
-/// and its workers and the controller's ends as they began.
+/// the ends that filled those of free buffers, and its workers and the controller's ends as they began.
 pub struct Running<N, S, K, G, R>
 where
     N: Router,
@@ -69,9 +69,9 @@ where
 
     ghost Value = { Run S G K };
 
-    ghost view = { λ r. record { config = (arc_value r.controller.shared).config; pipes = piping r.pipes.inner.items r.pipes.middle r.pipes.outer.items; crew = crew_of r.threads.receivers r.threads.processors r.threads.slow r.threads.forwarders r.controller.shutters.items } };
+    ghost view = { λ r. record { config = (arc_value r.controller.shared).config; pipes = piping r.pipes.inner.items r.pipes.middle r.pipes.outer.items r.pipes.free.items; fillers = r.pipes.fillers.items; crew = crew_of r.threads.receivers r.threads.processors r.threads.slow r.threads.forwarders r.controller.shutters.items } };
 
-    ghost invariant = { λ r. (N.workers ≡ 2 * link_count (arc_value r.controller.shared).config + (arc_value r.controller.shared).config.processors + 1) × IsCrew (arc_value r.controller.shared).config (piping r.pipes.inner.items r.pipes.middle r.pipes.outer.items) (crew_of r.threads.receivers r.threads.processors r.threads.slow r.threads.forwarders r.controller.shutters.items) × HaveLeft (link_count (arc_value r.controller.shared).config) 0 r.pipes.inner.items r.pipes.inner_rooms.items × HaveLeft ((arc_value r.controller.shared).config.processors + 2) 0 r.pipes.outer.items r.pipes.outer_rooms.items × HaveSpace (link_count (arc_value r.controller.shared).config) (arc_value r.controller.shared).config.processors r.space };
+    ghost invariant = { λ r. (N.workers ≡ 2 * link_count (arc_value r.controller.shared).config + (arc_value r.controller.shared).config.processors + 1) × IsCrew (arc_value r.controller.shared).config (piping r.pipes.inner.items r.pipes.middle r.pipes.outer.items r.pipes.free.items) (crew_of r.threads.receivers r.threads.processors r.threads.slow r.threads.forwarders r.controller.shutters.items) × HaveLeft (link_count (arc_value r.controller.shared).config) 0 r.pipes.inner.items r.pipes.inner_rooms.items × HaveLeft ((arc_value r.controller.shared).config.processors + 2) 0 r.pipes.outer.items r.pipes.outer_rooms.items × HaveSpace (link_count (arc_value r.controller.shared).config) (arc_value r.controller.shared).config.processors r.space };
 }
 
 // Whether there is one source and one sink a link.
@@ -133,7 +133,7 @@ where
     K: Sink + Send + Drop + 'static,
     G: Gate + Send + Sync + Drop + 'static,
     R: Threads + Wait + Clock + Copy + Send + 'static,
-    requires worker_parts { AreWorkerParts (arc_value prepared.base.common.shared).config (piping prepared.worker_parts.pipes.inner.items prepared.worker_parts.pipes.middle prepared.worker_parts.pipes.outer.items) prepared.worker_parts.pipes.inner_rooms.items prepared.worker_parts.pipes.outer_rooms.items prepared.worker_parts.receivers.items prepared.worker_parts.processors.items prepared.worker_parts.slow prepared.worker_parts.forwarders.items prepared.worker_parts.shutters.items }
+    requires worker_parts { AreWorkerParts (arc_value prepared.base.common.shared).config (piping prepared.worker_parts.pipes.inner.items prepared.worker_parts.pipes.middle prepared.worker_parts.pipes.outer.items prepared.worker_parts.pipes.free.items) prepared.worker_parts.pipes.inner_rooms.items prepared.worker_parts.pipes.outer_rooms.items prepared.worker_parts.receivers.items prepared.worker_parts.processors.items prepared.worker_parts.slow prepared.worker_parts.forwarders.items prepared.worker_parts.shutters.items prepared.worker_parts.pipes.fillers.items }
     requires teams { AreTeamsFor (link_count (arc_value prepared.base.common.shared).config) (arc_value prepared.base.common.shared).config.processors prepared.teams.receivers prepared.teams.processors prepared.teams.slow prepared.teams.forwarders }
     requires space { HaveSpace (link_count (arc_value prepared.base.common.shared).config) (arc_value prepared.base.common.shared).config.processors prepared.space }
     requires workers { N.workers ≡ 2 * link_count (arc_value prepared.base.common.shared).config + (arc_value prepared.base.common.shared).config.processors + 1 }

@@ -2,13 +2,13 @@
 
 ghost use Rattle.std.specs.Prelude.{◌≡◌, ◌+◌, ◌*◌, IfOk, Some, [], length};
 ghost use Rattle.std.specs.Arc.{arc_value};
-ghost use Rattle.pipe_ends.specs.Rows.{AreFor, new_takers};
-ghost use Rattle.pipe_ends.specs.Shutting.{AreOpen, AreShutters};
+ghost use Rattle.pipe_ends.specs.Rows.{AreFor, fresh_ends, new_takers};
+ghost use Rattle.pipe_ends.specs.Shutting.{AreNew};
 ghost use Rattle.router_rules.specs.Links.{link_count};
 ghost use Rattle.stage_parts.specs.Outlets.{are_used};
 ghost use Rattle.wired_workers.specs.Kits.{IsAnsweringAt, IsLeavingAt, IsWorkingThere};
 ghost use Rattle.router_pipes.specs.Piping.{IsTakerOf};
-ghost use Rattle.router_pipes.specs.Dealing.{IsBundleOf, IsLong, IsNewEnd, piping};
+ghost use Rattle.router_pipes.specs.Dealing.{IsBundleOf, IsNewEnd, piping};
 ghost use Rattle.router_run.specs.WorkerParts.{AreWorkerParts};
 ghost use Rattle.wired_workers.specs.Shares.{AreNewShares};
 ghost use Rattle.router_pipes.specs.Rest.{IsRest};
@@ -55,7 +55,7 @@ fn after_receivers<N: Router, G: Gate + Drop>(
     remaining: Remaining<N>,
 ) -> Result<AfterReceivers<N, G>, AllocError>
     requires config { N.config ≡ Some (arc_value common.now.shared).config }
-    requires pipes { (length pipes.now.inner.items ≡ (arc_value common.now.shared).config.processors) × AreFor (link_count (arc_value common.now.shared).config) pipes.now.inner.items × (length pipes.now.outer.items ≡ 2 * link_count (arc_value common.now.shared).config) }
+    requires pipes { (length pipes.now.inner.items ≡ (arc_value common.now.shared).config.processors) × AreFor (link_count (arc_value common.now.shared).config) pipes.now.inner.items × (length pipes.now.outer.items ≡ 2 * link_count (arc_value common.now.shared).config) × (length pipes.now.free.items ≡ link_count (arc_value common.now.shared).config) }
     requires outer { AreFor ((arc_value common.now.shared).config.processors + 2) pipes.now.outer.items }
     requires packets { inputs.packets.items ≡ new_takers pipes.now.inner.items }
     requires middle { pipes.now.middle.producers ≡ (arc_value common.now.shared).config.processors }
@@ -63,20 +63,19 @@ fn after_receivers<N: Router, G: Gate + Drop>(
     requires asked { IsTakerOf pipes.now.middle inputs.asked × (inputs.asked.taken ≡ []) }
     requires egress_packets { egress_packets.items ≡ new_takers pipes.now.outer.items }
     requires links { IsRest (IsBundleOf pipes.now.outer.items) 0 ((arc_value common.now.shared).config.processors + 2) remaining.links }
-    requires free { IsRest (IsLong (link_count (arc_value common.now.shared).config)) 0 ((arc_value common.now.shared).config.processors + 1 + link_count (arc_value common.now.shared).config) remaining.free }
+    requires free { IsRest (IsBundleOf pipes.now.free.items) 0 ((arc_value common.now.shared).config.processors + 1 + link_count (arc_value common.now.shared).config) remaining.free }
     requires shares { AreNewShares ((arc_value common.now.shared).config.processors + 1 + link_count (arc_value common.now.shared).config) remaining.shares }
-    ensures working { IfOk result (λ a. IsRest (IsWorkingThere (arc_value common.now.shared).config (piping pipes.now.inner.items pipes.now.middle pipes.now.outer.items)) 0 (arc_value common.now.shared).config.processors a.deciding.processors.items) }
-    ensures answering { IfOk result (λ a. IsAnsweringAt (arc_value common.now.shared).config (piping pipes.now.inner.items pipes.now.middle pipes.now.outer.items) a.deciding.slow) }
-    ensures leaving { IfOk result (λ a. IsRest (IsLeavingAt (arc_value common.now.shared).config pipes.now.outer.items) 0 (link_count (arc_value common.now.shared).config) a.forwarders.items) }
-    ensures shutting { IfOk result (λ a. AreShutters (are_used (arc_value common.now.shared).config) 0 ((arc_value common.now.shared).config.processors + 1) pipes.now.outer.items a.shutters.items) }
-    ensures unmarked { IfOk result (λ a. AreOpen a.shutters.items) }
+    ensures working { IfOk result (λ a. IsRest (IsWorkingThere (arc_value common.now.shared).config (piping pipes.now.inner.items pipes.now.middle pipes.now.outer.items pipes.now.free.items)) 0 (arc_value common.now.shared).config.processors a.deciding.processors.items) }
+    ensures answering { IfOk result (λ a. IsAnsweringAt (arc_value common.now.shared).config (piping pipes.now.inner.items pipes.now.middle pipes.now.outer.items pipes.now.free.items) a.deciding.slow) }
+    ensures leaving { IfOk result (λ a. IsRest (IsLeavingAt (arc_value common.now.shared).config (piping pipes.now.inner.items pipes.now.middle pipes.now.outer.items pipes.now.free.items)) 0 (link_count (arc_value common.now.shared).config) a.forwarders.items) }
+    ensures shutting { IfOk result (λ a. AreNew (are_used (arc_value common.now.shared).config) 0 (fresh_ends ((arc_value common.now.shared).config.processors + 1) pipes.now.outer.items) a.shutters.items) }
 {
     // At most 33, which bounds the controller's ends.
     let _ = link_count(&common.shared.config);
     let mut remaining = remaining;
     let deciding = deciding_of(alloc, common, gate, pipes, inputs, &mut remaining)?;
     let closing = shutters(alloc, &common.shared, remaining.links.next());
-    let leaving = all_leaving(alloc, common, &pipes.outer, egress_packets, &mut remaining);
+    let leaving = all_leaving(alloc, common, pipes, egress_packets, &mut remaining);
     let (forwarders, shutters) = both(leaving, closing)?;
     Ok(AfterReceivers {
         deciding,
@@ -95,7 +94,7 @@ pub fn make_all<N: Router, G: Gate + Drop, R: Wait>(
 ) -> Result<WorkerParts<N, G>, AllocError>
     requires config { N.config ≡ Some (arc_value common.now.shared).config }
     requires shares { AreNewShares (2 * link_count (arc_value common.now.shared).config + (arc_value common.now.shared).config.processors + 1) shares.items }
-    ensures { IfOk result (λ m. AreWorkerParts (arc_value common.now.shared).config (piping m.pipes.inner.items m.pipes.middle m.pipes.outer.items) m.pipes.inner_rooms.items m.pipes.outer_rooms.items m.receivers.items m.processors.items m.slow m.forwarders.items m.shutters.items) }
+    ensures { IfOk result (λ m. AreWorkerParts (arc_value common.now.shared).config (piping m.pipes.inner.items m.pipes.middle m.pipes.outer.items m.pipes.free.items) m.pipes.inner_rooms.items m.pipes.outer_rooms.items m.receivers.items m.processors.items m.slow m.forwarders.items m.shutters.items m.pipes.fillers.items) }
 {
     let AllPipes {
         pipes,
@@ -103,19 +102,20 @@ pub fn make_all<N: Router, G: Gate + Drop, R: Wait>(
         inputs,
         to_links,
         egress_packets,
-        free,
+        free_buffers,
+        to_free,
     } = all_pipes(rt, alloc, &common.shared)?;
     let mut remaining = Remaining {
         links: Line::of(to_links),
-        free: Line::of(free.bundles),
+        free: Line::of(to_free),
         shares: Line::of(shares),
     };
     let receivers = all_entering(
         alloc,
         common,
-        &pipes.inner,
+        &pipes,
         to_processors,
-        free.takers,
+        free_buffers,
         &mut remaining.shares,
     )?;
     let after = after_receivers(

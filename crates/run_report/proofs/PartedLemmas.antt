@@ -1,5 +1,5 @@
 -- Workers taken apart: how many of each there are, and that nothing of them is lost.
-use Rattle.std.proofs.Common.{◌≡◌, ℕ, ◌+◌, ◌≤◌, ◌<◌, List, [], ◌∷◌, ◌++◌, map, length, Option, sym, ◌∙◌, ap, subst, arith, append_assoc, length-append}
+use Rattle.std.proofs.Common.{◌≡◌, ℕ, true, ◌+◌, ◌≤◌, ◌<◌, List, [], ◌∷◌, ◌++◌, map, length, Option, sym, ◌∙◌, ap, subst, arith, append_assoc, length-append}
 use Rattle.std.proofs.lemmas.List.{length-map}
 use Rattle.packet_ledger.specs.Share.{Held}
 use Rattle.pipeline_laws.specs.Deeds.{Each}
@@ -12,7 +12,7 @@ use Rattle.router_laws.specs.Keeping.{IsAnswering, IsForwarding, IsReceiving, Is
 use Rattle.router_rules.specs.Rules.{kinds}
 use Rattle.router_stages.specs.Answering.{Answering}
 use Rattle.router_stages.specs.Forwarding.{Forwarding}
-use Rattle.router_stages.specs.Receiving.{Receiving}
+use Rattle.router_stages.specs.Receiving.{EndsQuietly, Receiving}
 use Rattle.router_stages.specs.Working.{Working}
 use Rattle.stage_parts.specs.Outlet.{IsMarked}
 use Rattle.stage_parts.specs.Outlets.{senders}
@@ -157,13 +157,14 @@ module _ {S G K : Type 0} where
         → Each (λ (p : Working G). IsWorking p.side.config p.taker p.hand (senders p.side.links) p.slow.sender p.side.share × NeverClosed (senders p.side.links)) v.processors
         → IsAnswering x.side.config x.taker (senders x.side.links) x.side.share × NeverClosed (senders x.side.links)
         → Each (λ (f : Forwarding K). IsForwarding told_of f.low.taker f.high.taker f.low.shut f.high.shut (shown f.side.sink) f.began (failed f.side.sink) f.side.share) v.forwarders
-        → PushMarks v.shutters → HasKept told shown failed w
-    has_kept v w x seen one rs ps a fs hs =
+        → PushMarks v.shutters → Each (λ (r : Receiving S). r.ended ≡ true → EndsQuietly r.number (told r.source)) v.receivers → HasKept told shown failed w
+    has_kept v w x seen one rs ps a fs hs qs =
         let kept : HasKept told shown failed v = record {
           receivers = rs;
           processors = ps;
           slow = subst (λ (xs : List Answering). Each (λ (b : Answering). IsAnswering b.side.config b.taker (senders b.side.links) b.side.share × NeverClosed (senders b.side.links)) xs) (sym one) (a, tt);
           forwarders = fs;
           controller = hs;
+          quiet = qs;
         } in
         subst (λ (y : Crew S G K). HasKept told shown failed y) seen kept

@@ -1,5 +1,5 @@
 -- Workers that came back, and what is left of them.
-use Rattle.std.specs.Prelude.{◌≡◌, ℕ, List, [], ◌∷◌, map, Option, length, ◌++◌, ◌*◌}
+use Rattle.std.specs.Prelude.{◌≡◌, ℕ, true, List, [], ◌∷◌, map, Option, length, ◌++◌, ◌*◌}
 use Rattle.pipeline_laws.specs.Deeds.{Each}
 use Rattle.pipeline_laws.specs.Settled.{SlowPathRequest}
 use Rattle.ruled_pipe.specs.Consumer.{Taker}
@@ -8,7 +8,7 @@ use Rattle.router_laws.specs.Heard.{Heard}
 use Rattle.router_laws.specs.Keeping.{IsReceiving, IsWorking, IsAnswering, IsForwarding}
 use Rattle.router_stages.specs.Answering.{Answering}
 use Rattle.router_stages.specs.Forwarding.{Forwarding}
-use Rattle.router_stages.specs.Receiving.{Receiving}
+use Rattle.router_stages.specs.Receiving.{EndsQuietly, Receiving}
 use Rattle.router_stages.specs.Working.{Working}
 use Rattle.stage_parts.specs.Outlets.{senders}
 use Rattle.stage_parts.specs.Told.{Told, told_of}
@@ -57,3 +57,5 @@ module _ {S G K : Type 0} (told : S → Option (List Heard)) (shown : K → Opti
     pub slow : Each (λ (a : Answering). IsAnswering a.side.config a.taker (senders a.side.links) a.side.share × NeverClosed (senders a.side.links)) w.slow
     pub forwarders : Each (λ (f : Forwarding K). IsForwarding told_of f.low.taker f.high.taker f.low.shut f.high.shut (shown f.side.sink) f.began (failed f.side.sink) f.side.share) w.forwarders
     pub controller : PushMarks w.shutters
+    -- a receiver that ended had asked its source to an answer that is no datagram, or had numbered all that it may
+    pub quiet : Each (λ (r : Receiving S). r.ended ≡ true → EndsQuietly r.number (told r.source)) w.receivers

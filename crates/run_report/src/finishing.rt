@@ -154,6 +154,8 @@ pub fn gather_pipes<N: Router>(pipes: Pipes<N>, ends: Parted<N>)
         middle,
         outer,
         outer_rooms,
+        free: _,
+        fillers: _,
     } = pipes;
     let Parted {
         inner_bundles,

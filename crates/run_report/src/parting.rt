@@ -1,9 +1,10 @@
 //! Workers that came back, taken apart.
 
-ghost use Rattle.std.specs.Prelude.{◌≡◌, ◌≤◌, ◌<◌, ◌+◌, ◌*◌, ◌++◌, ◌∷◌, [], length, map, vec_capacity};
+ghost use Rattle.std.specs.Prelude.{◌≡◌, ◌≤◌, ◌<◌, ◌+◌, ◌*◌, ◌++◌, ◌∷◌, [], length, map, true, vec_capacity};
 ghost use Rattle.packet_ledger.specs.Share.{forwarded};
 ghost use Rattle.pipeline_laws.specs.Deeds.{Each};
 ghost use Rattle.router_laws.specs.Keeping.{IsAnswering, IsForwarding, IsReceiving, IsWorking};
+ghost use Rattle.router_stages.specs.Receiving.{EndsQuietly};
 ghost use Rattle.stage_parts.specs.Outlet.{IsMarked};
 ghost use Rattle.stage_parts.specs.Outlets.{senders};
 ghost use Rattle.stage_parts.specs.Told.{told_of};
@@ -47,6 +48,7 @@ pub fn part_receivers<N: Router, S: Source>(
     ensures shares { (result.shares.items ≡ shares.items ++ map (λ r. r.side.share) receivers.items) × (vec_capacity result.shares ≡ vec_capacity shares) }
     ensures laws { Each (λ r. IsReceiving r.side.config r.side.link r.side.interface r.number (S.told r.source) r.side.stock.free.looks (senders r.side.processors) r.side.share × NeverClosed (senders r.side.processors)) receivers.items }
     ensures marks { Each (λ r. AreMarked r.side.processors) receivers.items }
+    ensures quiet { Each (λ r. r.ended ≡ true → EndsQuietly r.number (S.told r.source)) receivers.items }
 {
     let mut bundles = bundles;
     let mut sources = sources;

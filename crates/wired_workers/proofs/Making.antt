@@ -13,8 +13,8 @@ use Rattle.router_laws.specs.Returned.{AllAt}
 use Rattle.router_rules.specs.Rules.{kinds}
 use Rattle.router_stages.specs.Working.{Working}
 use Rattle.stage_parts.specs.Outlets.{AreFresh, senders}
-use Rattle.pipe_ends.specs.Rows.{AreEndsOf, AreFor, Row, fresh_ends}
-use Rattle.router_pipes.specs.Dealing.{IsLong, IsNewEnd, IsTakerThere, piping}
+use Rattle.pipe_ends.specs.Rows.{AreEndsOf, AreFor, fresh_ends}
+use Rattle.router_pipes.specs.Dealing.{IsNewEnd, IsTakerThere, piping}
 use Rattle.wired_workers.specs.Kits.{IsWorkingThere, paired}
 use Rattle.wired_workers.specs.Shares.{AreNewShares, HaveGone}
 use Rattle.router_pipes.specs.Rest.{IsRest}
@@ -56,20 +56,22 @@ module _ {T : Type 0} where
   bundle_long n p k pipes ends same is long = same ∙ (ap length is ∙ (fresh_long T p pipes ∙ long))
 
 module _ {G : Type 0} where
-  pub working_there : (c : Config) (inner outer : List Shape) (middle : Shape) (i : ℕ) (t : Taker (Arrival kinds)) (s : Sender (SlowPathRequest kinds)) (w : Working G)
-      → IsTakerThere inner i t → IsNewEnd middle i s → AreEndsOf i outer (senders w.side.links)
-      → w.side.config ≡ c → (w.taker ≡ t) × (w.slow.sender ≡ s) → AreFresh w.side.links → IsWorkingThere c (piping inner middle outer) i w
-  working_there c inner outer middle i t s w there end are config same fresh =
+  pub working_there : (c : Config) (inner outer free : List Shape) (middle : Shape) (i : ℕ) (t : Taker (Arrival kinds)) (s : Sender (SlowPathRequest kinds)) (w : Working G)
+      → IsTakerThere inner i t → IsNewEnd middle i s → AreEndsOf i outer (senders w.side.links) → w.side.free ≡ fresh_ends i free
+      → w.side.config ≡ c → w.index ≡ i → (w.taker ≡ t) × (w.slow.sender ≡ s) → AreFresh w.side.links → IsWorkingThere c (piping inner middle outer free) i w
+  working_there c inner outer free middle i t s w there end are back config index same fresh =
       let is = same.0 ∙ there.fresh in
       record {
         own = there.own;
         there = there.there;
         works = record {
           config = config;
+          index = index;
           taker = (ap (λ (x : Taker (Arrival kinds)). x.pipe) is, ap (λ (x : Taker (Arrival kinds)). x.producers) is, ap (λ (x : Taker (Arrival kinds)). x.capacity) is);
           slow = subst (λ (x : Sender (SlowPathRequest kinds)). IsEndOf middle i x) (sym same.1) end.0;
           links = are;
           fresh = fresh;
+          free = back;
         };
       }
 
@@ -111,9 +113,6 @@ module _ {X Y Z : Type 0} (make : X → Y → Z) where
   pub paired_last : (made : List Z) (xs : List X) (ys : List Y) (all : List Z) → length xs ≡ 0 → made ++ paired make xs ys ≡ all → made ≡ all
   paired_last made [] ys all long is = sym (append-nil made) ∙ is
   paired_last made (x ∷ xs) ys all long is = absurd (omega arith)
-
-pub long_as : (k l n a b : ℕ) (xs : List (Row (List ℕ))) → k ≡ l → a ≡ b → IsRest (IsLong l) n (b + l) xs → IsRest (IsLong k) n (a + k) xs
-long_as k l n a b xs same total r = record { each = subst (λ (j : ℕ). AllAt (IsLong j) n xs) (sym same) r.each; count = let c = r.count in omega arith }
 
 -- new ends of these pipes, by another name
 pub ends_of : {T : Type 0} (p : ℕ) (pipes : List Shape) (ends : List (Sender T)) → ends ≡ fresh_ends p pipes → AreEndsOf p pipes ends

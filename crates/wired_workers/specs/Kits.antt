@@ -13,7 +13,8 @@ use Rattle.router_stages.specs.Receiving.{Receiving, first_receiving}
 use Rattle.router_stages.specs.Working.{Working}
 use Rattle.stage_parts.specs.Outlet.{Offering}
 use Rattle.stage_parts.specs.Outlets.{AreFresh, senders}
-use Rattle.pipe_ends.specs.Rows.{AreEndsOf}
+use Rattle.pipe_ends.specs.Rows.{AreEndsOf, fresh_ends}
+use Rattle.router_pipes.specs.Dealing.{IsTakerThere}
 use Rattle.router_pipes.specs.Piping.{IsTakerOf, Piping}
 
 -- what each of a list makes with its own of another
@@ -28,10 +29,12 @@ pub record Entry : Type 0 where
   pub free : Taker (List ℕ)
   pub processors : List (Offering (Arrival kinds))
 
-pub record IsEnteringAt (c : Config) (inner : List Shape) (a : ℕ) (e : Entry) : Type 0 where
+-- it has the producers of its number of the processors' pipes, and takes from its link's pipe of free buffers
+pub record IsEnteringAt (c : Config) (p : Piping) (a : ℕ) (e : Entry) : Type 0 where
   pub config : e.config ≡ c
   pub link : e.link ≡ a
-  pub processors : AreEndsOf a inner (senders e.processors)
+  pub processors : AreEndsOf a p.inner (senders e.processors)
+  pub free : IsTakerThere p.free a e.free
 
 module _ {S : Type 0} where
   -- the receiver over a source, and all over theirs
@@ -49,16 +52,17 @@ pub record Exit : Type 0 where
   pub high : Band
   pub free : List (Sender (List ℕ))
 
--- its pipes are those of its link
-pub record IsLeavingAt (c : Config) (outer : List Shape) (l : ℕ) (e : Exit) : Type 0 where
+-- its pipes are those of its link; it has the producers after the slow path's of the pipes of free buffers
+pub record IsLeavingAt (c : Config) (p : Piping) (l : ℕ) (e : Exit) : Type 0 where
   pub config : e.config ≡ c
   pub link : e.link ≡ l
   pub first : Shape
   pub second : Shape
-  pub first_there : slice_get outer (2 * l) ≡ Some first
-  pub second_there : slice_get outer (2 * l + 1) ≡ Some second
+  pub first_there : slice_get p.outer (2 * l) ≡ Some first
+  pub second_there : slice_get p.outer (2 * l + 1) ≡ Some second
   pub low : IsTakerOf first e.low.taker
   pub high : IsTakerOf second e.high.taker
+  pub free : e.free ≡ fresh_ends (c.processors + 1 + l) p.free
 
 module _ {K : Type 0} (failed : K → ℕ) where
   -- the forwarder over a sink, and all over theirs
@@ -69,13 +73,15 @@ module _ {K : Type 0} (failed : K → ℕ) where
   forwardings es ks = paired forwarding_over es ks
 
 module _ {G : Type 0} where
-  -- a processor takes from its pipe, and has the producers of its number
+  -- a processor has its number, takes from its pipe, and has the producers of its number
   pub record IsWorkingAt (c : Config) (p : Piping) (i : ℕ) (s : Shape) (w : Working G) : Type 0 where
     pub config : w.side.config ≡ c
+    pub index : w.index ≡ i
     pub taker : IsTakerOf s w.taker
     pub slow : IsEndOf p.middle i w.slow.sender
     pub links : AreEndsOf i p.outer (senders w.side.links)
     pub fresh : AreFresh w.side.links
+    pub free : w.side.free ≡ fresh_ends i p.free
 
 -- the slow path has the producers after the processors'
 pub record IsAnsweringAt (c : Config) (p : Piping) (a : Answering) : Type 0 where
@@ -83,6 +89,7 @@ pub record IsAnsweringAt (c : Config) (p : Piping) (a : Answering) : Type 0 wher
   pub taker : IsTakerOf p.middle a.taker
   pub links : AreEndsOf c.processors p.outer (senders a.side.links)
   pub fresh : AreFresh a.side.links
+  pub free : a.side.free ≡ fresh_ends c.processors p.free
 
 -- the processor of a number
 pub record IsWorkingThere {G : Type 0} (c : Config) (p : Piping) (i : ℕ) (w : Working G) : Type 0 where

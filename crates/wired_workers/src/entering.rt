@@ -6,8 +6,8 @@ ghost use Rattle.packet_ledger.specs.Share.{new_share};
 ghost use Rattle.router_rules.specs.Links.{link_count};
 ghost use Rattle.ruled_pipe.specs.Pipe.{Shape};
 ghost use Rattle.stage_parts.specs.Outlets.{senders};
-ghost use Rattle.pipe_ends.specs.Rows.{AreDealt, AreEndsOf, IsBundle, fresh_ends};
-ghost use Rattle.router_pipes.specs.Dealing.{IsUnlooked};
+ghost use Rattle.pipe_ends.specs.Rows.{AreDealt, AreEndsOf, IsBundle, fresh_ends, new_takers};
+ghost use Rattle.router_pipes.specs.Dealing.{piping};
 ghost use Rattle.wired_workers.specs.Kits.{IsEnteringAt};
 ghost use Rattle.wired_workers.specs.Shares.{AreNewShares, HaveGone};
 ghost use Rattle.router_pipes.specs.Rest.{IsRest};
@@ -16,10 +16,10 @@ use crate::common::Common;
 use crate::over::Over;
 use packet_ledger::Share;
 use pipe_ends::{Ends, Line};
-use router_pipes::outlets;
+use router_pipes::{Pipes, outlets};
 use router_rules::{Shared, link_count};
 use router_stages::Receiver;
-use ruled_pipe::{Consumer, Pipe};
+use ruled_pipe::Consumer;
 use stage_parts::{Buffer, Outlet, Packet, Router, Source, all_three};
 use std::alloc::{AllocError, Global};
 use std::marker::Model;
@@ -103,6 +103,7 @@ fn entering_at<N: Router>(
     requires free { free.looks ≡ [] }
     requires share { share ≡ new_share }
     ensures config { IfOk result (λ e. (e.config ≡ (arc_value common.now.shared).config) × (e.link ≡ link)) }
+    ensures free { IfOk result (λ e. e.free ≡ free) }
     ensures processors { IfOk result (λ e. (p : ℕ) (shapes : List Shape) → bundle.ends ≡ fresh_ends p shapes → AreEndsOf p shapes (senders e.processors)) }
 {
     let stop = Arc::try_clone(&common.stop)?;
@@ -124,18 +125,18 @@ fn entering_at<N: Router>(
 pub fn all_entering<N: Router>(
     alloc: Global,
     common: &Common,
-    pipes: &Vec<Pipe<Packet<N>>>,
+    pipes: &Pipes<N>,
     bundles: Vec<Ends<Packet<N>>>,
     free: Vec<Consumer<Buffer>>,
     shares: &mut Line<Share<N>>,
 ) -> Result<Vec<Entering<N>>, AllocError>
     requires config { N.config ≡ Some (arc_value common.now.shared).config }
-    requires pipes { length pipes.now.items ≡ (arc_value common.now.shared).config.processors }
-    requires bundles { (length bundles.items ≡ link_count (arc_value common.now.shared).config) × AreDealt pipes.now.items 0 bundles.items }
-    requires free { IsRest IsUnlooked 0 (link_count (arc_value common.now.shared).config) free.items }
+    requires pipes { (length pipes.now.inner.items ≡ (arc_value common.now.shared).config.processors) × (length pipes.now.free.items ≡ link_count (arc_value common.now.shared).config) }
+    requires bundles { (length bundles.items ≡ link_count (arc_value common.now.shared).config) × AreDealt pipes.now.inner.items 0 bundles.items }
+    requires free { free.items ≡ new_takers pipes.now.free.items }
     requires shares { AreNewShares (link_count (arc_value common.now.shared).config) shares.old }
     ensures shares { IfOk result (λ _. HaveGone (link_count (arc_value common.now.shared).config) shares.old shares.new) }
-    ensures made { IfOk result (λ v. IsRest (IsEnteringAt (arc_value common.now.shared).config pipes.now.items) 0 (link_count (arc_value common.now.shared).config) v.items) }
+    ensures made { IfOk result (λ v. IsRest (IsEnteringAt (arc_value common.now.shared).config (piping pipes.now.inner.items pipes.now.middle pipes.now.outer.items pipes.now.free.items)) 0 (link_count (arc_value common.now.shared).config) v.items) }
 {
     let links = link_count(&common.shared.config);
     let mut made = Vec::with_capacity(alloc, links)?;

@@ -6,7 +6,7 @@ ghost use Rattle.packet_ledger.specs.Share.{new_share};
 ghost use Rattle.router_rules.specs.Links.{link_count};
 ghost use Rattle.router_stages.specs.Forwarding.{band};
 ghost use Rattle.pipe_ends.specs.Rows.{AreFor, new_takers};
-ghost use Rattle.router_pipes.specs.Dealing.{IsLong};
+ghost use Rattle.router_pipes.specs.Dealing.{IsBundleOf, piping};
 ghost use Rattle.wired_workers.specs.Kits.{IsLeavingAt};
 ghost use Rattle.wired_workers.specs.Shares.{AreNewShares};
 ghost use Rattle.router_pipes.specs.Rest.{IsRest};
@@ -16,9 +16,10 @@ use crate::over::Over;
 use crate::remaining::Remaining;
 use packet_ledger::Share;
 use pipe_ends::{Ends, Line};
+use router_pipes::Pipes;
 use router_rules::{Shared, link_count};
 use router_stages::{Band, Forwarder};
-use ruled_pipe::{Consumer, Pipe, Producer};
+use ruled_pipe::{Consumer, Producer};
 use stage_parts::{Buffer, EgressPacket, Router, Sink};
 use std::alloc::{AllocError, Global};
 use std::marker::Model;
@@ -98,6 +99,7 @@ fn leaving_at<N: Router>(
     requires free { length free.ends ≡ link_count (arc_value shared).config }
     requires share { share ≡ new_share }
     ensures config { (result.config ≡ (arc_value shared).config) × (result.link ≡ link) }
+    ensures free { result.free ≡ free.ends }
     ensures bands { (result.low ≡ band low false) × (result.high ≡ band high false) }
 {
     Leaving {
@@ -114,16 +116,16 @@ fn leaving_at<N: Router>(
 pub fn all_leaving<N: Router>(
     alloc: Global,
     common: &Common,
-    pipes: &Vec<Pipe<EgressPacket<N>>>,
+    pipes: &Pipes<N>,
     takers: Vec<Consumer<EgressPacket<N>>>,
     remaining: &mut Remaining<N>,
 ) -> Result<Vec<Leaving<N>>, AllocError>
     requires config { N.config ≡ Some (arc_value common.now.shared).config }
-    requires pipes { (length pipes.now.items ≡ 2 * link_count (arc_value common.now.shared).config) × AreFor ((arc_value common.now.shared).config.processors + 2) pipes.now.items }
-    requires takers { takers.items ≡ new_takers pipes.now.items }
-    requires free { IsRest (IsLong (link_count (arc_value common.now.shared).config)) ((arc_value common.now.shared).config.processors + 1) ((arc_value common.now.shared).config.processors + 1 + link_count (arc_value common.now.shared).config) remaining.old.free }
+    requires pipes { (length pipes.now.outer.items ≡ 2 * link_count (arc_value common.now.shared).config) × AreFor ((arc_value common.now.shared).config.processors + 2) pipes.now.outer.items × (length pipes.now.free.items ≡ link_count (arc_value common.now.shared).config) }
+    requires takers { takers.items ≡ new_takers pipes.now.outer.items }
+    requires free { IsRest (IsBundleOf pipes.now.free.items) ((arc_value common.now.shared).config.processors + 1) ((arc_value common.now.shared).config.processors + 1 + link_count (arc_value common.now.shared).config) remaining.old.free }
     requires shares { AreNewShares (link_count (arc_value common.now.shared).config) remaining.old.shares }
-    ensures made { IfOk result (λ v. IsRest (IsLeavingAt (arc_value common.now.shared).config pipes.now.items) 0 (link_count (arc_value common.now.shared).config) v.items) }
+    ensures made { IfOk result (λ v. IsRest (IsLeavingAt (arc_value common.now.shared).config (piping pipes.now.inner.items pipes.now.middle pipes.now.outer.items pipes.now.free.items)) 0 (link_count (arc_value common.now.shared).config) v.items) }
 {
     let links = link_count(&common.shared.config);
     let producers = usize::from(common.shared.config.processors) + 2;

@@ -9,7 +9,7 @@ ghost use Rattle.wired_workers.specs.Kits.{IsAnsweringAt, IsWorkingThere};
 ghost use Rattle.router_pipes.specs.Piping.{IsTakerOf};
 ghost use Rattle.stage_parts.specs.Outlets.{AreFresh, senders};
 ghost use Rattle.pipe_ends.specs.Rows.{AreEndsOf, AreFor, IsBundle, fresh_ends, new_takers};
-ghost use Rattle.router_pipes.specs.Dealing.{IsBundleOf, IsLong, IsNewEnd, piping};
+ghost use Rattle.router_pipes.specs.Dealing.{IsBundleOf, IsNewEnd, piping};
 ghost use Rattle.wired_workers.specs.Shares.{AreNewShares, HaveGone};
 ghost use Rattle.router_pipes.specs.Rest.{IsRest};
 
@@ -41,6 +41,8 @@ fn processor_of<N: Router, G: Gate + Drop>(
     requires free { length portion.free.ends ≡ link_count (arc_value common.now.shared).config }
     requires share { portion.share ≡ new_share }
     ensures config { IfOk result (λ w. w.side.config ≡ (arc_value common.now.shared).config) }
+    ensures index { IfOk result (λ w. w.index ≡ index) }
+    ensures free { IfOk result (λ w. w.side.free ≡ portion.free.ends) }
     ensures ends { IfOk result (λ w. (w.taker ≡ taker) × (w.slow.sender ≡ asking)) }
     ensures links { IfOk result (λ w. (p : ℕ) (shapes : List Shape) → portion.links.ends ≡ fresh_ends p shapes → AreEndsOf p shapes (senders w.side.links)) }
     ensures fresh { IfOk result (λ w. AreFresh w.side.links) }
@@ -77,16 +79,16 @@ fn processors_of<N: Router, G: Gate + Drop>(
     remaining: &mut Remaining<N>,
 ) -> Result<Vec<Processor<N, G>>, AllocError>
     requires config { N.config ≡ Some (arc_value common.now.shared).config }
-    requires pipes { (length pipes.now.inner.items ≡ (arc_value common.now.shared).config.processors) × AreFor (link_count (arc_value common.now.shared).config) pipes.now.inner.items × (length pipes.now.outer.items ≡ 2 * link_count (arc_value common.now.shared).config) }
+    requires pipes { (length pipes.now.inner.items ≡ (arc_value common.now.shared).config.processors) × AreFor (link_count (arc_value common.now.shared).config) pipes.now.inner.items × (length pipes.now.outer.items ≡ 2 * link_count (arc_value common.now.shared).config) × (length pipes.now.free.items ≡ link_count (arc_value common.now.shared).config) }
     requires takers { takers.items ≡ new_takers pipes.now.inner.items }
     requires asking { IsRest (IsNewEnd pipes.now.middle) 0 (arc_value common.now.shared).config.processors asking.items }
     requires links { IsRest (IsBundleOf pipes.now.outer.items) 0 ((arc_value common.now.shared).config.processors + 2) remaining.old.links }
-    requires free { IsRest (IsLong (link_count (arc_value common.now.shared).config)) 0 ((arc_value common.now.shared).config.processors + 1 + link_count (arc_value common.now.shared).config) remaining.old.free }
+    requires free { IsRest (IsBundleOf pipes.now.free.items) 0 ((arc_value common.now.shared).config.processors + 1 + link_count (arc_value common.now.shared).config) remaining.old.free }
     requires shares { AreNewShares (arc_value common.now.shared).config.processors remaining.old.shares }
     ensures links { IfOk result (λ _. IsRest (IsBundleOf pipes.now.outer.items) (arc_value common.now.shared).config.processors ((arc_value common.now.shared).config.processors + 2) remaining.new.links) }
-    ensures free { IfOk result (λ _. IsRest (IsLong (link_count (arc_value common.now.shared).config)) (arc_value common.now.shared).config.processors ((arc_value common.now.shared).config.processors + 1 + link_count (arc_value common.now.shared).config) remaining.new.free) }
+    ensures free { IfOk result (λ _. IsRest (IsBundleOf pipes.now.free.items) (arc_value common.now.shared).config.processors ((arc_value common.now.shared).config.processors + 1 + link_count (arc_value common.now.shared).config) remaining.new.free) }
     ensures shares { IfOk result (λ _. HaveGone (arc_value common.now.shared).config.processors remaining.old.shares remaining.new.shares) }
-    ensures made { IfOk result (λ v. IsRest (IsWorkingThere (arc_value common.now.shared).config (piping pipes.now.inner.items pipes.now.middle pipes.now.outer.items)) 0 (arc_value common.now.shared).config.processors v.items) }
+    ensures made { IfOk result (λ v. IsRest (IsWorkingThere (arc_value common.now.shared).config (piping pipes.now.inner.items pipes.now.middle pipes.now.outer.items pipes.now.free.items)) 0 (arc_value common.now.shared).config.processors v.items) }
 {
     let count = usize::from(common.shared.config.processors);
     let mut made = Vec::with_capacity(alloc, count)?;
@@ -117,6 +119,7 @@ fn slow_path_of<N: Router>(
     requires share { portion.share ≡ new_share }
     ensures config { IfOk result (λ a. a.side.config ≡ (arc_value common.now.shared).config) }
     ensures taker { IfOk result (λ a. a.taker ≡ taker) }
+    ensures free { IfOk result (λ a. a.side.free ≡ portion.free.ends) }
     ensures links { IfOk result (λ a. (p : ℕ) (shapes : List Shape) → portion.links.ends ≡ fresh_ends p shapes → AreEndsOf p shapes (senders a.side.links)) }
     ensures fresh { IfOk result (λ a. AreFresh a.side.links) }
 {
@@ -146,19 +149,19 @@ pub fn deciding_of<N: Router, G: Gate + Drop>(
     remaining: &mut Remaining<N>,
 ) -> Result<Deciding<N, G>, AllocError>
     requires config { N.config ≡ Some (arc_value common.now.shared).config }
-    requires pipes { (length pipes.now.inner.items ≡ (arc_value common.now.shared).config.processors) × AreFor (link_count (arc_value common.now.shared).config) pipes.now.inner.items × (length pipes.now.outer.items ≡ 2 * link_count (arc_value common.now.shared).config) }
+    requires pipes { (length pipes.now.inner.items ≡ (arc_value common.now.shared).config.processors) × AreFor (link_count (arc_value common.now.shared).config) pipes.now.inner.items × (length pipes.now.outer.items ≡ 2 * link_count (arc_value common.now.shared).config) × (length pipes.now.free.items ≡ link_count (arc_value common.now.shared).config) }
     requires packets { inputs.packets.items ≡ new_takers pipes.now.inner.items }
     requires middle { pipes.now.middle.producers ≡ (arc_value common.now.shared).config.processors }
     requires asking { IsRest (IsNewEnd pipes.now.middle) 0 (arc_value common.now.shared).config.processors inputs.asking.items }
     requires asked { IsTakerOf pipes.now.middle inputs.asked × (inputs.asked.taken ≡ []) }
     requires links { IsRest (IsBundleOf pipes.now.outer.items) 0 ((arc_value common.now.shared).config.processors + 2) remaining.old.links }
-    requires free { IsRest (IsLong (link_count (arc_value common.now.shared).config)) 0 ((arc_value common.now.shared).config.processors + 1 + link_count (arc_value common.now.shared).config) remaining.old.free }
+    requires free { IsRest (IsBundleOf pipes.now.free.items) 0 ((arc_value common.now.shared).config.processors + 1 + link_count (arc_value common.now.shared).config) remaining.old.free }
     requires shares { AreNewShares ((arc_value common.now.shared).config.processors + 1) remaining.old.shares }
     ensures links { IfOk result (λ _. IsRest (IsBundleOf pipes.now.outer.items) ((arc_value common.now.shared).config.processors + 1) ((arc_value common.now.shared).config.processors + 2) remaining.new.links) }
-    ensures free { IfOk result (λ _. IsRest (IsLong (link_count (arc_value common.now.shared).config)) ((arc_value common.now.shared).config.processors + 1) ((arc_value common.now.shared).config.processors + 1 + link_count (arc_value common.now.shared).config) remaining.new.free) }
+    ensures free { IfOk result (λ _. IsRest (IsBundleOf pipes.now.free.items) ((arc_value common.now.shared).config.processors + 1) ((arc_value common.now.shared).config.processors + 1 + link_count (arc_value common.now.shared).config) remaining.new.free) }
     ensures shares { IfOk result (λ _. HaveGone ((arc_value common.now.shared).config.processors + 1) remaining.old.shares remaining.new.shares) }
-    ensures working { IfOk result (λ d. IsRest (IsWorkingThere (arc_value common.now.shared).config (piping pipes.now.inner.items pipes.now.middle pipes.now.outer.items)) 0 (arc_value common.now.shared).config.processors d.processors.items) }
-    ensures answering { IfOk result (λ d. IsAnsweringAt (arc_value common.now.shared).config (piping pipes.now.inner.items pipes.now.middle pipes.now.outer.items) d.slow) }
+    ensures working { IfOk result (λ d. IsRest (IsWorkingThere (arc_value common.now.shared).config (piping pipes.now.inner.items pipes.now.middle pipes.now.outer.items pipes.now.free.items)) 0 (arc_value common.now.shared).config.processors d.processors.items) }
+    ensures answering { IfOk result (λ d. IsAnsweringAt (arc_value common.now.shared).config (piping pipes.now.inner.items pipes.now.middle pipes.now.outer.items pipes.now.free.items) d.slow) }
 {
     let gate = Arc::new(alloc, gate)?;
     let Inputs {

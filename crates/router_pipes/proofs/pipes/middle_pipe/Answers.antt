@@ -9,4 +9,4 @@ returns-clause-ends g c =
     subst (λ (n : ℕ). IsRest (IsNewEnd c.in_ok-made.made.0) 0 n c.in_ok-made.made.1.items) c.from-processors.ensures (new_ends _ _ _ _ c.in_ok-made.ensures.pipe.1 c.in_ok-made.ensures.pipe.0 c.in_ok-made.ensures.producers)
 
 pub returns-clause-pipe : goal.returns-clause-pipe
-returns-clause-pipe g c = c.in_ok-made.ensures.pipe.1 ∙ c.from-processors.ensures
+returns-clause-pipe g c = (c.in_ok-made.ensures.pipe.1 ∙ c.from-processors.ensures, c.in_ok-made.ensures.pipe.0)

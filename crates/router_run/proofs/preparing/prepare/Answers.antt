@@ -20,4 +20,4 @@ pub returns-clause-worker_parts : goal.returns-clause-worker_parts
 returns-clause-worker_parts g c =
     let w = c.in_ok-worker_parts.worker_parts in
     let made = of_ok _ c.make_all-worker_parts.result w c.in_ok-worker_parts.ensures.0 c.make_all-worker_parts.ensures in
-    subst (λ (k : Config). AreWorkerParts k (piping w.pipes.inner.items w.pipes.middle w.pipes.outer.items) w.pipes.inner_rooms.items w.pipes.outer_rooms.items w.receivers.items w.processors.items w.slow w.forwarders.items w.shutters.items) c.in_ok-base.ensures.shared made
+    subst (λ (k : Config). AreWorkerParts k (piping w.pipes.inner.items w.pipes.middle w.pipes.outer.items w.pipes.free.items) w.pipes.inner_rooms.items w.pipes.outer_rooms.items w.receivers.items w.processors.items w.slow w.forwarders.items w.shutters.items w.pipes.fillers.items) c.in_ok-base.ensures.shared made

@@ -35,9 +35,9 @@ invariant_of-result g c =
     let rear = c.start_rear-slow.ensures c.if-are_all.true in
     let front = c.start_front-receivers.ensures rear.0 in (
       c.requires.workers,
-      crew_by (arc_value c.args.prepared.base.common.shared).config (piping made.pipes.inner.items made.pipes.middle made.pipes.outer.items) _ _ _ _ _ _ _ _ made.shutters.items
+      crew_by (arc_value c.args.prepared.base.common.shared).config (piping made.pipes.inner.items made.pipes.middle made.pipes.outer.items made.pipes.free.items) _ _ _ _ _ _ _ _ made.shutters.items
           front.0 front.1 rear.1 rear.2
-          (is_crew g.K.Sink.failed _ _ made.pipes.inner_rooms.items made.pipes.outer_rooms.items made.receivers.items made.processors.items made.slow made.forwarders.items made.shutters.items c.args.sources.items c.args.sinks.items c.requires.worker_parts c.requires.sources.1 c.requires.sinks.1),
+          (is_crew g.K.Sink.failed _ _ made.pipes.inner_rooms.items made.pipes.outer_rooms.items made.receivers.items made.processors.items made.slow made.forwarders.items made.shutters.items made.pipes.fillers.items c.args.sources.items c.args.sinks.items c.requires.worker_parts c.requires.sources.1 c.requires.sinks.1),
       c.requires.worker_parts.inner_room,
       c.requires.worker_parts.outer_room,
       c.requires.space,
@@ -46,11 +46,18 @@ invariant_of-result g c =
 pub returns-then-are_all : goal.returns-then-are_all
 returns-then-are_all g c =
     let made = c.args.prepared.worker_parts in
+    let config = (arc_value c.args.prepared.base.common.shared).config in
     let rear = c.start_rear-slow.ensures c.if-are_all.true in
     let front = c.start_front-receivers.ensures rear.0 in
-    begins g.K.Sink.failed (arc_value c.args.prepared.base.common.shared).config _ made.receivers.items made.forwarders.items c.args.sources.items c.args.sinks.items
+    begins g.K.Sink.failed config _ made.receivers.items made.forwarders.items c.args.sources.items c.args.sinks.items
     refl
     front.0
     rear.2
-    (let a = c.requires.sources.1 in let b = c.requires.worker_parts.entering.count in omega arith)
-    (let a = c.requires.sinks.1 in let b = c.requires.worker_parts.leaving.count in omega arith)
+    (let b = c.requires.worker_parts.entering.count in omega arith)
+    (let b = c.requires.worker_parts.leaving.count in omega arith)
+    (c.requires.sources.1, c.requires.sinks.1)
+    (crew_by config (piping made.pipes.inner.items made.pipes.middle made.pipes.outer.items made.pipes.free.items) _ _ _ _ _ _ _ _ made.shutters.items
+    front.0 front.1 rear.1 rear.2
+    (is_crew g.K.Sink.failed _ _ made.pipes.inner_rooms.items made.pipes.outer_rooms.items made.receivers.items made.processors.items made.slow made.forwarders.items made.shutters.items made.pipes.fillers.items c.args.sources.items c.args.sinks.items c.requires.worker_parts c.requires.sources.1 c.requires.sinks.1))
+    c.requires.worker_parts.shutting
+    c.requires.worker_parts.filled

@@ -16,7 +16,7 @@ pub prepare-requires-clause-workers : goal.prepare-requires-clause-workers
 prepare-requires-clause-workers g c = c.requires.workers
 
 pub run-requires-clause-worker_parts : goal.run-requires-clause-worker_parts
-run-requires-clause-worker_parts g c κs within = parts_as _ _ _ _ _ _ _ _ _ _ c.in-Ok.ensures.shared c.in-Ok.ensures.worker_parts
+run-requires-clause-worker_parts g c κs within = parts_as _ _ _ _ _ _ _ _ _ _ _ c.in-Ok.ensures.shared c.in-Ok.ensures.worker_parts
 
 pub run-requires-clause-teams : goal.run-requires-clause-teams
 run-requires-clause-teams g c κs within = let same = c.in-Ok.ensures.shared in teams_as _ _ _ _ _ _ _ _ c.in-Ok.ensures.teams (ap link_count same) (ap (λ (k : Config). k.processors) same)
@@ -34,7 +34,7 @@ pub run-requires-clause-workers : goal.run-requires-clause-workers
 run-requires-clause-workers g c κs within = c.requires.workers ∙ ap (λ (k : Config). 2 * link_count k + k.processors + 1) (sym c.in-Ok.ensures.shared)
 
 pub returns-in-Ok : goal.returns-in-Ok
-returns-in-Ok g c = starts g.K.Sink.failed _ _ _ _ _ _ c.in-Ok.ensures.shared c.run.ensures
+returns-in-Ok g c = starts g.K.Sink.failed _ _ _ _ _ c.in-Ok.ensures.shared c.if-not-is_one_a_link.ensures c.run.ensures
 
 pub returns-in-Err : goal.returns-in-Err
-returns-in-Err g c = (refl, refl)
+returns-in-Err g c = (refl, refl, c.if-not-is_one_a_link.ensures)

@@ -1,14 +1,17 @@
-use Rattle.std.proofs.Common.{◌≡◌, ◌+◌, ◌*◌, length, refl, ◌∙◌, ap, subst, arith}
+use Rattle.std.proofs.Common.{◌≡◌, ◌+◌, ◌*◌, List, length, refl, ◌∙◌, ap, subst, arith}
 use Rattle.std.specs.Arc.{arc_value}
 use Rattle.pipe_ends.specs.Rows.{fresh_ends}
-use Rattle.pipe_ends.specs.Shutting.{AreShutters}
+use Rattle.ruled_pipe.specs.Producer.{Sender}
+use Rattle.pipeline_laws.specs.Item.{Outgoing}
+use Rattle.router_rules.specs.Rules.{kinds}
+use Rattle.pipe_ends.specs.Shutting.{AreNew}
 use Rattle.router_rules.specs.Links.{link_count}
 use Rattle.router_rules.specs.declared.shared.Shared.{Shared}
 use Rattle.stage_parts.specs.Outlets.{are_used}
-use Rattle.router_pipes.specs.Dealing.{IsBundleOf}
+use Rattle.router_pipes.specs.Dealing.{IsBundleOf, piping}
 use Rattle.wired_workers.specs.Kits.{IsLeavingAt}
 use Rattle.router_pipes.specs.Rest.{IsRest}
-use Rattle.wired_workers.proofs.Making.{bundle_long, ends_of}
+use Rattle.wired_workers.proofs.Making.{bundle_long}
 use Rattle.router_pipes.proofs.OkLemmas.{of_ok}
 use Rattle.wired_workers.proofs.RestLemmas.{rest_first}
 use Rattle.router_run.proofs.worker_parts.after_receivers.Goals as goal
@@ -46,10 +49,7 @@ returns-clause-answering g c = c.in_ok-deciding.ensures.answering
 pub returns-clause-leaving : goal.returns-clause-leaving
 returns-clause-leaving g c =
     let config = (arc_value c.args.common.now.shared).config in
-    of_ok (λ v. IsRest (IsLeavingAt config c.args.pipes.now.outer.items) 0 (link_count config) v.items) c.all_leaving-leaving.result c.in_ok-forwarders.forwarders c.in_ok-forwarders.ensures.0 c.all_leaving-leaving.ensures.made
-
-pub returns-clause-unmarked : goal.returns-clause-unmarked
-returns-clause-unmarked g c = of_ok _ c.shutters-closing.result c.in_ok-forwarders.shutters c.in_ok-forwarders.ensures.1 c.shutters-closing.ensures.unended
+    of_ok (λ v. IsRest (IsLeavingAt config (piping c.args.pipes.now.inner.items c.args.pipes.now.middle c.args.pipes.now.outer.items c.args.pipes.now.free.items)) 0 (link_count config) v.items) c.all_leaving-leaving.result c.in_ok-forwarders.forwarders c.in_ok-forwarders.ensures.0 c.all_leaving-leaving.ensures.made
 
 pub returns-clause-shutting : goal.returns-clause-shutting
 returns-clause-shutting g c =
@@ -57,6 +57,6 @@ returns-clause-shutting g c =
     let shapes = c.args.pipes.now.outer.items in
     let made = c.in_ok-forwarders.shutters in
     let is : c.next.result.ends ≡ fresh_ends (config.processors + 1) shapes = rest_first (IsBundleOf shapes) (config.processors + 1) (config.processors + 2) c.deciding_of.new.remaining.links c.next.new.self c.next.result c.next.ensures c.in_ok-deciding.ensures.links in
-    let shut = of_ok _ c.shutters-closing.result made c.in_ok-forwarders.ensures.1 c.shutters-closing.ensures.ends in
-    subst (λ (s : Shared). AreShutters (are_used s.config) 0 (config.processors + 1) shapes made.items) c.deref-2.ensures
-    (shut (config.processors + 1) shapes (ends_of (config.processors + 1) shapes c.next.result.ends is))
+    let shut = of_ok (λ v. AreNew (are_used c.deref-2.result.now.config) 0 c.next.result.ends v.items) c.shutters-closing.result made c.in_ok-forwarders.ensures.1 c.shutters-closing.ensures.new in
+    subst (λ (s : Shared). AreNew (are_used s.config) 0 (fresh_ends (config.processors + 1) shapes) made.items) c.deref-2.ensures
+    (subst (λ (es : List (Sender (Outgoing kinds))). AreNew (are_used c.deref-2.result.now.config) 0 es made.items) is shut)

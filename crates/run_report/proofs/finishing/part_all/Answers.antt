@@ -177,7 +177,7 @@ pub returns-clause-kept : goal.returns-clause-kept
 returns-clause-kept g c =
     let sized = sized_as _ _ _ _ c.joined.view_is c.requires.sized in
     let one = only_one _ _ _ _ sized.slow.1 c.of-slow.ensures c.next.ensures in
-    has_kept g.S.Source.told g.K.Sink.told g.K.Sink.failed _ _ _ c.joined.view_is one c.part_receivers-front.ensures.laws c.part_processors-middle.ensures.laws c.part_slow_path-rest.ensures.laws c.part_forwarders-rear.ensures.laws c.part_slow_path-rest.ensures.pushes
+    has_kept g.S.Source.told g.K.Sink.told g.K.Sink.failed _ _ _ c.joined.view_is one c.part_receivers-front.ensures.laws c.part_processors-middle.ensures.laws c.part_slow_path-rest.ensures.laws c.part_forwarders-rear.ensures.laws c.part_slow_path-rest.ensures.pushes c.part_receivers-front.ensures.quiet
 
 pub returns-clause-shares : goal.returns-clause-shares
 returns-clause-shares g c =

@@ -21,6 +21,7 @@ loop-k-init g c =
       shares = same_after _ _ _ _ e;
       share_room = (let a = ap length e in let r = c.requires.shares in omega arith, refl);
       laws = λ all. each_same _ _ _ (sym e) all;
+      quiet = λ all. each_same _ _ _ (sym e) all;
       marks = λ all. each_same _ _ _ (sym e) all;
     }
 
@@ -63,6 +64,7 @@ loop-k-preserved g c =
       shares = grown _ _ shares.items _ _ _ _ _ is shared.items parts.3 inv.shares;
       share_room = (room_kept _ shares.items _ _ _ _ _ (vec_capacity shares) shared.items is shared.capacity inv.share_room.0, shared.capacity ∙ inv.share_room.1);
       laws = each_back _ _ _ _ _ is inv.laws (c.into_parts-source.ensures.law, subst (λ xs. NeverClosed xs) ends c.bare.ensures.unclosed);
+      quiet = each_back _ _ _ _ _ is inv.quiet c.into_parts-source.ensures.quiet;
       marks = each_back _ _ _ _ _ is inv.marks (subst (λ xs. AreMarked xs) parts.1 c.bare.ensures.marks);
     }
 
@@ -80,6 +82,9 @@ returns-clause-shares g c = (all_done _ _ _ _ (none_left _ _ _ _ c.loop-k-test.f
 
 pub returns-clause-laws : goal.returns-clause-laws
 returns-clause-laws g c = c.loop-k.invariant.laws (each_none _ _ (none_left _ _ _ _ c.loop-k-test.false (c.len-count.ensures ∙ c.args.receivers.ok.0) c.loop-k.invariant.left))
+
+pub returns-clause-quiet : goal.returns-clause-quiet
+returns-clause-quiet g c = c.loop-k.invariant.quiet (each_none _ _ (none_left _ _ _ _ c.loop-k-test.false (c.len-count.ensures ∙ c.args.receivers.ok.0) c.loop-k.invariant.left))
 
 pub returns-clause-marks : goal.returns-clause-marks
 returns-clause-marks g c = c.loop-k.invariant.marks (each_none _ _ (none_left _ _ _ _ c.loop-k-test.false (c.len-count.ensures ∙ c.args.receivers.ok.0) c.loop-k.invariant.left))

@@ -1,6 +1,7 @@
-use Rattle.std.proofs.Common.{◌≡◌, ◌+◌, ◌++◌, ◌≤◌, length, map, vec_capacity}
+use Rattle.std.proofs.Common.{◌≡◌, ◌+◌, ◌++◌, ◌≤◌, length, map, true, vec_capacity}
 use Rattle.pipeline_laws.specs.Deeds.{Each}
 use Rattle.router_laws.specs.Keeping.{IsReceiving}
+use Rattle.router_stages.specs.Receiving.{EndsQuietly}
 use Rattle.stage_parts.specs.Outlets.{senders}
 use Rattle.router_pipes.specs.Handing.{AreMarked, NeverClosed}
 use Rattle.pipe_ends.specs.Rows.{rows_of}
@@ -20,5 +21,6 @@ invariant-loop-k g l = record {
   share_room : (length l.shares.items + length l.receivers ≤ vec_capacity l.shares) × (vec_capacity l.shares ≡ vec_capacity l.fn.shares);
   laws : Each (λ r. IsReceiving r.side.config r.side.link r.side.interface r.number (g.S.Source.told r.source) r.side.stock.free.looks (senders r.side.processors) r.side.share × NeverClosed (senders r.side.processors)) l.receivers
       → Each (λ r. IsReceiving r.side.config r.side.link r.side.interface r.number (g.S.Source.told r.source) r.side.stock.free.looks (senders r.side.processors) r.side.share × NeverClosed (senders r.side.processors)) l.fn.receivers.items;
+  quiet : Each (λ r. r.ended ≡ true → EndsQuietly r.number (g.S.Source.told r.source)) l.receivers → Each (λ r. r.ended ≡ true → EndsQuietly r.number (g.S.Source.told r.source)) l.fn.receivers.items;
   marks : Each (λ r. AreMarked r.side.processors) l.receivers → Each (λ r. AreMarked r.side.processors) l.fn.receivers.items;
 }

@@ -2,7 +2,7 @@ use Rattle.std.proofs.Common.{◌≡◌, ◌+◌, ◌*◌, length, subst, sym, r
 use Rattle.std.specs.Arc.{arc_value}
 use Rattle.pipe_ends.specs.Rows.{fresh_ends}
 use Rattle.router_rules.specs.Links.{link_count}
-use Rattle.router_pipes.specs.Dealing.{IsBundleOf, IsLong}
+use Rattle.router_pipes.specs.Dealing.{IsBundleOf}
 use Rattle.router_pipes.specs.Piping.{IsTakerOf}
 use Rattle.wired_workers.proofs.Making.{bundle_long, next_new, one_gone}
 use Rattle.wired_workers.proofs.RestLemmas.{rest_first, rest_next}
@@ -40,7 +40,10 @@ slow_path_of-requires-clause-share g c = next_new (arc_value c.args.common.now.s
 pub slow_path_of-requires-clause-free : goal.slow_path_of-requires-clause-free
 slow_path_of-requires-clause-free g c =
     let config = (arc_value c.args.common.now.shared).config in
-    rest_first (IsLong (link_count config)) config.processors (config.processors + 1 + link_count config) c.processors_of.new.remaining.free c.next.new.self.free c.next.result.free c.next.ensures.free c.in_ok-processors.ensures.free
+    let shapes = c.args.pipes.now.free.items in
+    let free = c.next.result.free in
+    let is : free.ends ≡ fresh_ends config.processors shapes = rest_first (IsBundleOf shapes) config.processors (config.processors + 1 + link_count config) c.processors_of.new.remaining.free c.next.new.self.free free c.next.ensures.free c.in_ok-processors.ensures.free in
+    bundle_long (link_count config) config.processors (length free.ends) shapes free.ends refl is c.requires.pipes.3
 
 pub returns-clause-links : goal.returns-clause-links
 returns-clause-links g c =
@@ -50,7 +53,7 @@ returns-clause-links g c =
 pub returns-clause-free : goal.returns-clause-free
 returns-clause-free g c =
     let config = (arc_value c.args.common.now.shared).config in
-    rest_next (IsLong (link_count config)) config.processors (config.processors + 1 + link_count config) c.processors_of.new.remaining.free c.next.new.self.free c.next.result.free c.next.ensures.free c.in_ok-processors.ensures.free
+    rest_next (IsBundleOf c.args.pipes.now.free.items) config.processors (config.processors + 1 + link_count config) c.processors_of.new.remaining.free c.next.new.self.free c.next.result.free c.next.ensures.free c.in_ok-processors.ensures.free
 
 pub returns-clause-shares : goal.returns-clause-shares
 returns-clause-shares g c = one_gone (arc_value c.args.common.now.shared).config.processors c.args.remaining.now.shares c.processors_of.new.remaining.shares c.next.new.self.shares c.next.result.share c.next.ensures.shares c.in_ok-processors.ensures.shares
@@ -67,4 +70,5 @@ returns-clause-answering g c =
       taker = subst (λ t. IsTakerOf c.args.pipes.now.middle t) (sym made.taker) c.requires.asked.0;
       links = made.links config.processors shapes is;
       fresh = made.fresh;
+      free = made.free ∙ rest_first (IsBundleOf c.args.pipes.now.free.items) config.processors (config.processors + 1 + link_count config) c.processors_of.new.remaining.free c.next.new.self.free c.next.result.free c.next.ensures.free c.in_ok-processors.ensures.free;
     }

@@ -53,6 +53,12 @@ new-processor-requires-clause-share g c = c.requires.share
 pub returns-clause-config : goal.returns-clause-config
 returns-clause-config g c = ap (λ w. w.side.config) c.new-processor.ensures ∙ ap (λ (s : Shared). s.config) (of_ok _ c.try_clone-shared.result c.in_ok-links.shared c.in_ok-links.ensures.1 c.try_clone-shared.ensures)
 
+pub returns-clause-index : goal.returns-clause-index
+returns-clause-index g c = ap (λ w. w.index) c.new-processor.ensures
+
+pub returns-clause-free : goal.returns-clause-free
+returns-clause-free g c = ap (λ w. w.side.free) c.new-processor.ensures ∙ c.into_items.ensures.ends
+
 pub returns-clause-ends : goal.returns-clause-ends
 returns-clause-ends g c = (ap (λ w. w.taker) c.new-processor.ensures ∙ c.of-from.ensures, ap (λ w. w.slow.sender) c.new-processor.ensures ∙ ap (λ o. o.sender) c.of-slow.ensures)
 

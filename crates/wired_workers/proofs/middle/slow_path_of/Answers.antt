@@ -45,6 +45,9 @@ new-slow_path-requires-clause-share g c = c.requires.share
 pub returns-clause-config : goal.returns-clause-config
 returns-clause-config g c = ap (λ a. a.side.config) c.new-slow_path.ensures ∙ ap (λ (s : Shared). s.config) (of_ok _ c.try_clone.result c.in_ok-links.shared c.in_ok-links.ensures.1 c.try_clone.ensures)
 
+pub returns-clause-free : goal.returns-clause-free
+returns-clause-free g c = ap (λ a. a.side.free) c.new-slow_path.ensures ∙ c.into_items.ensures.ends
+
 pub returns-clause-links : goal.returns-clause-links
 returns-clause-links g c = λ p shapes is. subst (λ xs. AreEndsOf p shapes (senders xs)) (sym (ap (λ a. a.side.links) c.new-slow_path.ensures)) (of_ok _ c.outlets-links.result c.in_ok-links.links c.in_ok-links.ensures.0 c.outlets-links.ensures.ends p shapes is)
 

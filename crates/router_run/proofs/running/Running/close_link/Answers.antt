@@ -16,7 +16,7 @@ pub close-requires-clause-used : goal.close-requires-clause-used
 close-requires-clause-used g c = λ j d lt. controller_used _ _ _ _ _ _ c.self.inside.controller.shutters.items c.self.invariant.1 j d lt
 
 pub close-requires-clause-unended : goal.close-requires-clause-unended
-close-requires-clause-unended g c = c.self.invariant.1.unmarked
+close-requires-clause-unended g c = c.self.invariant.1.unended
 
 pub invariant_of-self : goal.invariant_of-self
 invariant_of-self g c =
@@ -41,6 +41,7 @@ returns-clause-same g c =
     record {
       config = ap (λ (s : Shared). s.config) value ∙ ap (λ (r : Run _ _ _). r.config) is;
       pipes = ap (λ (r : Run _ _ _). r.pipes) is;
+      fillers = ap (λ (r : Run _ _ _). r.fillers) is;
       receivers = ap (λ (r : Run _ _ _). r.crew.receivers) is;
       processors = ap (λ (r : Run _ _ _). r.crew.processors) is;
       slow = ap (λ (r : Run _ _ _). r.crew.slow) is;

@@ -7,7 +7,7 @@ use Rattle.router_run.proofs.Sized.{is_sized}
 use Rattle.router_run.proofs.running.Running.finish.Goals as goal
 
 pub join_workers-joined-requires : goal.join_workers-joined-requires
-join_workers-joined-requires g c = record { unmarked = c.self.invariant.1.unmarked }
+join_workers-joined-requires g c = record { unmarked = c.self.invariant.1.unended }
 
 pub part_all-ends-requires-clause-sized : goal.part_all-ends-requires-clause-sized
 part_all-ends-requires-clause-sized g c = own_size _ _ _ (is_sized _ _ _ _ c.self.invariant.1 c.join_workers-joined.ensures)
