@@ -1,2 +1,3 @@
 pub mod BeaconingLemmas
 pub mod InputLemmas
+pub mod ExactLemmas

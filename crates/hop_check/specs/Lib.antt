@@ -3,3 +3,4 @@ pub mod Mac
 pub mod Beaconing
 pub use Rattle.cmac_core.specs.Cmac
 pub mod OneInput
+pub mod Exact

@@ -13,5 +13,5 @@ mod mac;
 
 pub use beaconing::beacon;
 pub use expiry::expired;
-pub use laws::inputs_are_one_to_one;
+pub use laws::{hops_expire_on_time, inputs_are_one_to_one, macs_are_whole};
 pub use mac::{chain, mac_input, verify};

@@ -46,6 +46,13 @@ hop_set (s ∷ ss) zero id (suc j) i = refl
 hop_set (s ∷ ss) (suc k) id zero i = refl
 hop_set (s ∷ ss) (suc k) id (suc j) i = hop_set ss k id j i
 
+pub along_set : (ss : List Segment) (k id j i : ℕ) → (info_there (with_segment_id ss k id) (place_at j i)).along ≡ (info_there ss (place_at j i)).along
+along_set [] k id j i = refl
+along_set (s ∷ ss) zero id zero i = refl
+along_set (s ∷ ss) zero id (suc j) i = refl
+along_set (s ∷ ss) (suc k) id zero i = refl
+along_set (s ∷ ss) (suc k) id (suc j) i = along_set ss k id j i
+
 info_other : (ss : List Segment) (k id j i : ℕ) → j ≢ k → info_there (with_segment_id ss k id) (place_at j i) ≡ info_there ss (place_at j i)
 info_other [] k id j i other = refl
 info_other (s ∷ ss) zero id zero i other = absurd (other refl)

@@ -23,6 +23,7 @@ use Rattle.process_packet.specs.PacketState.{PacketState, arrives, chained, chai
 use Rattle.process_packet.specs.Ways.{IsSentBy}
 use Rattle.process_packet.specs.WhatLeaves.{LeavesWhole}
 use Rattle.process_packet.proofs.AlikeLemmas.{alike_set, info_set}
+use Rattle.process_packet.proofs.ConditionLemmas.{authentic_here}
 use Rattle.process_packet.proofs.LawLemmas.{came_in, told}
 use Rattle.process_packet.proofs.LawfulLemmas.{IsOnPath, lawful_exit}
 use Rattle.process_packet.proofs.RowsPassed.{turned_is}
@@ -174,13 +175,13 @@ module _ (n m : Network) (link link' : ℕ) (source source' : Underlay) (moment 
 
   verified : (p : Packet) → p ≡ whole.packet → is_authentic (turned_back (comes m link' source' moment' left p)) ≡ true
   verified p same =
-      subst (λ (q : Packet). is_authentic (turned_back (comes m link' source' moment' left q)) ≡ true) (whole.read ∙ sym same) (authorised m link' source' moment' left out' to' next).authentic
+      subst (λ (q : Packet). is_authentic (turned_back (comes m link' source' moment' left q)) ≡ true) (whole.read ∙ sym same) (authentic_here (arrives m link' source' moment' left) (authorised m link' source' moment' left out' to' next).authentic)
 
   exit_is : (u : PacketState) → StandsToLeave (turned s) u → at_exit n link source moment bytes ≡ u
   exit_is u leaves = ap past_switch (turned_is s) ∙ past_is leaves
 
   exit_authentic : (u : PacketState) → StandsToLeave (turned s) u → is_authentic u ≡ true
-  exit_authentic u leaves = leaves_authentic (ap is_authentic (sym (turned_is s)) ∙ is.authentic) leaves
+  exit_authentic u leaves = leaves_authentic (ap is_authentic (sym (turned_is s)) ∙ authentic_here s is.authentic) leaves
 
   -- the law's standings are these
   named : (P : PacketState → PacketState → Type 0) (u : PacketState) (p : Packet) → StandsToLeave (turned s) u → p ≡ whole.packet → P u (turned_back (comes m link' source' moment' left p))

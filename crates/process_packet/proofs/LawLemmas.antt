@@ -1,8 +1,6 @@
 -- Row after row of what was sent: none of them refused.
-use Rattle.std.proofs.Common.{◌≡◌, ◌<◌, ◌+◌, ℕ, Bool, true, false, not, ◌&&◌, ◌||◌, ◌==◌, nat_lt, inl, inr, List, [], ◌∷◌, length, drop, Option, Some, None, if◌then◌else◌, refl, sym, ap, subst, ◌∙◌, arith}
+use Rattle.std.proofs.Common.{◌≡◌, ◌<◌, ◌+◌, ℕ, Bool, true, false, not, ◌&&◌, ◌==◌, nat_lt, inl, inr, List, [], ◌∷◌, length, drop, Option, Some, None, if◌then◌else◌, refl, sym, ap, subst, ◌∙◌, arith}
 use Rattle.std.specs.Prelude.{◌⊎◌, is_some, option_map}
-use Rattle.std.proofs.lemmas.Bool.{ltb-false}
-use Rattle.std.proofs.lemmas.Bool.Decides.{Decides-eqb}
 use Rattle.field_rows.specs.Place.{number_at}
 use Rattle.scion_packet.specs.Header.{header_fault, host_code}
 use Rattle.scion_packet.proofs.PacketLaws.{pass_both}
@@ -24,9 +22,10 @@ use Rattle.process_packet.specs.Request.{is_request}
 use Rattle.process_packet.specs.Rows.{Sent, Answered, Dropped, RowResult, cause_of, GoesOn, Ends, Row, came_lawfully, delivered, ends_where, expired, faulty, is_destination_lawful, is_pair_lawful, is_source_lawful, sent_on, sent_out, then_rows, to_service, wrong_mac}
 use Rattle.process_packet.specs.Routed.{IsAnswer}
 use Rattle.process_packet.specs.PacketView.{with_id}
-use Rattle.process_packet.specs.PacketState.{PacketState, arrives, chained, chained_id, changed_over, egress, egress_alert, hop_pointer, info_pointer, ingress, ingress_alert, is_along, is_authentic, is_expired, is_external, is_first_of_path, is_last_of_path, next_place, next_segment, packet, turned_back, with_place}
-use Rattle.process_packet.proofs.PassingLemmas.{Passed, Sends, and_not, answer_passed, answer_passed_within, answered_not_sent, both_true, drop_passed, dropped_not_sent, fault_passed, not_false, not_true, parameter, same_sent}
+use Rattle.process_packet.specs.PacketState.{PacketState, arrives, chained, chained_id, changed_over, egress, egress_alert, hop_pointer, info_pointer, ingress, ingress_alert, is_along, is_authentic, is_expired, is_external, is_last_of_path, next_place, next_segment, packet, turned_back, with_place}
+use Rattle.process_packet.proofs.PassingLemmas.{Passed, Sends, answer_passed, answer_passed_within, answered_not_sent, both_true, drop_passed, dropped_not_sent, fault_passed, not_false, not_true, parameter, same_sent}
 use Rattle.process_packet.proofs.AlikeLemmas.{alike_set}
+use Rattle.process_packet.proofs.ConditionLemmas.{authorised, has_its_pair}
 use Rattle.process_packet.proofs.LeavingLemmas.{ends_alike}
 use Rattle.process_packet.proofs.TurningLemmas.{turned_stays}
 
@@ -40,16 +39,6 @@ pub record CameIn (s : PacketState) (out : ℕ) (to : Option Underlay) (p : Pack
   pub authorised : IsAuthorised s
   pub destination : is_destination_lawful s ≡ true
   pub after : Sends (GoesOn (turned_back s)) (rest 12) out to p
-
-source_elsewhere : (external first local : Bool) → (if external then not local else (not first || local)) ≡ true → external ≡ true → local ≡ false
-source_elsewhere true first local lawful is = not_true local lawful
-source_elsewhere false first true lawful is = sym is
-source_elsewhere false first false lawful is = refl
-
-source_here : (external first local : Bool) → (if external then not local else (not first || local)) ≡ true → external ≡ false → first ≡ true → local ≡ true
-source_here true first local lawful is begins = let never : true ≡ false = is in absurd cc
-source_here false true local lawful is begins = lawful
-source_here false false local lawful is begins = let never : false ≡ true = begins in absurd cc
 
 fault_none : (f : Option Fault) (s : PacketState) (rows : List Row) (out : ℕ) (to : Option Underlay) (p : Packet) → Sends (faulty f s) rows out to p → f ≡ None
 fault_none None s rows out to p sent = refl
@@ -70,18 +59,18 @@ came_in s out to p sent =
     let authentic = answer_passed (not (is_authentic t)) (parameter 51 (hop_pointer t)) t (rest 11) out to p destination.after in
     let request = answer_passed (is_external t && ingress_alert t && is_request t.header.next_header t.payload) (record { kind = 131; code = 0; pointer = ingress t }) t (rest 12) out to p authentic.after in
     record {
-      authorised = record {
-        short = ltb-false 9216 (length s.bytes) short.clear;
-        sound = pass_both s.bytes (fault_none (header_fault s.bytes) s (rest 2) out to p short.after) (fault_none (path_fault (path_bytes s.bytes)) s (rest 3) out to p header);
-        whole = (Decides-eqb s.header.payload_length (length s.payload)).0 (not_false (s.header.payload_length == length s.payload) whole.clear);
-        sender = not_false (came_lawfully s) sent-by.clear;
-        from_here = source_here (is_external s) (is_first_of_path s.path.place) (is_local s.network s.header.source) (not_false (is_source_lawful s) source.clear);
-        destination = not_false (is_destination_lawful s) destination.clear;
+      authorised = authorised s (record {
+        short = short.clear;
+        header = fault_none (header_fault s.bytes) s (rest 2) out to p short.after;
+        path = fault_none (path_fault (path_bytes s.bytes)) s (rest 3) out to p header;
         unexpired = unexpired.clear;
-        by_its_link = λ external. (Decides-eqb (ingress s) s.link).0 (and_not (is_external s) (ingress s == s.link) entered.clear external);
-        authentic = not_false (is_authentic t) authentic.clear;
-        from_elsewhere = source_elsewhere (is_external s) (is_first_of_path s.path.place) (is_local s.network s.header.source) (not_false (is_source_lawful s) source.clear);
-      };
+        entered = entered.clear;
+        whole = whole.clear;
+        sender = sent-by.clear;
+        source = source.clear;
+        destination = destination.clear;
+        authentic = authentic.clear;
+      });
       destination = not_false (is_destination_lawful s) destination.clear;
       after = request.after;
     }
@@ -159,7 +148,7 @@ went_out u out to p others sent =
     let request = answer_passed (is_some (own_link u.network (egress u)) && egress_alert u && is_request u.header.next_header u.payload) (record { kind = 131; code = 0; pointer = egress u }) u (rest 17) out to p pair.after in
     let left = left_by (is_some (own_link u.network (egress u))) u out to p refl request.after in
     record {
-      leaves = record { for_others = others; pair = not_false (is_pair_lawful u) pair.clear; own = left.own; other = left.other };
+      leaves = record { for_others = others; pair = (has_its_pair u).0 (not_false (is_pair_lawful u) pair.clear); own = left.own; other = left.other };
       kept = left.kept;
     }
 

@@ -7,8 +7,11 @@ pub mod LeavingLemmas
 pub mod RowLemmas
 pub mod ParsedHeadersLemmas
 pub mod PassingLemmas
+pub mod ConditionLemmas
 pub mod LawLemmas
 pub mod ProblemLemmas
+pub mod WordsLemmas
+pub mod ValleyLemmas
 pub mod Coming
 pub mod RowsPassed
 pub mod AuthorisedLemmas
@@ -21,3 +24,4 @@ pub mod LawfulLemmas
 pub mod WhatLeavesLemmas
 pub mod ChainingLemmas
 pub mod PointerLemmas
+pub mod RefusalLemmas

@@ -1,6 +1,6 @@
 -- Row after row: where the pointer of what each of them may tell points.
-use Rattle.std.proofs.Common.{◌≡◌, ◌≤◌, ◌<◌, ◌+◌, ◌-◌, ◌*◌, ◌&&◌, ◌==◌, not, nat_lt, ℕ, Bool, true, false, List, [], ◌∷◌, length, drop, None, refl, sym, ap₂, subst, ◌∙◌, arith, if◌then◌else◌, inl, inr, length-drop}
-use Rattle.std.specs.Prelude.{is_some}
+use Rattle.std.proofs.Common.{◌≡◌, ◌<◌, ◌+◌, ◌-◌, ◌*◌, ◌&&◌, ◌==◌, not, nat_lt, ℕ, Bool, true, false, List, [], ◌∷◌, length, drop, None, refl, sym, ap₂, subst, ◌∙◌, arith, if◌then◌else◌, inl, inr, length-drop}
+use Rattle.std.specs.Prelude.{◌⊎◌, is_some}
 use Rattle.std.proofs.lemmas.Bool.Decides.{Decides-ltb}
 use Rattle.std.proofs.lemmas.List.{length-take-le}
 use Rattle.field_rows.specs.Place.{IsBytes}
@@ -33,10 +33,10 @@ use Rattle.process_packet.proofs.ProblemLemmas.{IsTold, IsToldAfter, row_faulty,
 -- ---- pointers of what stands turned back, or at the next segment
 
 -- where the hop field of a place begins
-abbrev pointer_to : PacketState → Place → ℕ
+abbrev pub pointer_to : PacketState → Place → ℕ
 pointer_to s at = front_len s.header + 4 + 8 * length s.path.segments + 12 * hop_number s.path.segments at
 
-same_pointer : (b : Bool) (s : PacketState) → hop_pointer (if b then chained s else s) ≡ pointer_to s s.path.place
+pub same_pointer : (b : Bool) (s : PacketState) → hop_pointer (if b then chained s else s) ≡ pointer_to s s.path.place
 same_pointer true s =
     let alike = alike_set s.path.segments s.path.place.segment (chained_id s) in
     ap₂ (λ (c h : ℕ). front_len s.header + 4 + 8 * c + 12 * h) alike.count (alike.number s.path.place)
@@ -72,9 +72,13 @@ told_pair_by K true b q r u rows k j after = row_of K b (Answered q) u rows (λ 
 told_pair_by K false b q r u rows k j after = row_of K b (Answered r) u rows (λ is. j refl) (λ no. after)
 
 -- one of two codes for an interface
-either : (b : Bool) (x y : ℕ) → 48 ≤ x → x ≤ 52 → 48 ≤ y → y ≤ 52 → (48 ≤ (if b then x else y)) × ((if b then x else y) ≤ 52)
-either true x y a b c d = (a, b)
-either false x y a b c d = (c, d)
+one_of : (b : Bool) (x y : ℕ) → ((if b then x else y) ≡ x) ⊎ ((if b then x else y) ≡ y)
+one_of true x y = inl refl
+one_of false x y = inr refl
+
+other_of : (b : Bool) (x y : ℕ) → ((if b then x else y) ≡ y) ⊎ ((if b then x else y) ≡ x)
+other_of true x y = inr refl
+other_of false x y = inl refl
 
 module _ (n : Network) (from : ℕ) (source : Underlay) (moment : ℕ) (bytes : List ℕ) (are : IsBytes bytes) (sound : first_fault bytes ≡ None) where
   abbrev s : PacketState
@@ -120,6 +124,7 @@ module _ (n : Network) (from : ℕ) (source : Underlay) (moment : ℕ) (bytes : 
       let within = stand.within at.segment at.position few (omega arith) in
       record {
         offset = hop_place (lengths_of path) (first_hop (lengths_of path) at.segment + at.position);
+        place = omega arith;
         is = omega arith;
         inside = omega arith;
         field = sym (stand.hop at.segment at.position few (omega arith));
@@ -131,28 +136,32 @@ module _ (n : Network) (from : ℕ) (source : Underlay) (moment : ℕ) (bytes : 
       let begin = lies.begin in
       let whole = stand.whole in
       let few : k < segment_count (lengths_of path) = omega arith in
-      record { offset = info_place k; is = omega arith; inside = omega arith; field = sym (stand.info k 0 few) }
+      record { offset = info_place k; place = omega arith; is = omega arith; inside = omega arith; field = sym (stand.info k 0 few) }
 
   fixed : (code pointer : ℕ) → IsNamed bytes code pointer → pointer < 28 → K (parameter code pointer)
   fixed code pointer named near =
       let order = lies.order in
       record { named = λ is. named; inside = λ is. omega arith; none = λ is. absurd (omega arith) }
 
-  hop_named : (code pointer : ℕ) (at : Place) → 48 ≤ code → code ≤ 52 → IsAtHand bytes at → IsOnPath s.path.segments at → pointer ≡ pointer_to s at → K (parameter code pointer)
-  hop_named code pointer at low high hand on is =
+  -- how a code names the hop that stands at a place
+  abbrev Names : ℕ → ℕ → Place → Type 0
+  Names code pointer at = PointsAtHop bytes at pointer → IsNamed bytes code pointer
+
+  hop_named : (code pointer : ℕ) (at : Place) → IsOnPath s.path.segments at → pointer ≡ pointer_to s at → Names code pointer at → K (parameter code pointer)
+  hop_named code pointer at on is names =
       let points : PointsAtHop bytes at pointer = subst (λ (x : ℕ). PointsAtHop bytes at x) (sym is) (points_at_hop at on) in
       let offset = points.offset in
       let place = points.is in
       let room = points.inside in
       let order = lies.order in
       let len = path_len in
-      record { named = λ four. IsNamed.hop at low high hand points; inside = λ four. omega arith; none = λ one. absurd (omega arith) }
+      record { named = λ four. names points; inside = λ four. omega arith; none = λ one. absurd (omega arith) }
 
-  here : (code pointer : ℕ) → 48 ≤ code → code ≤ 52 → pointer ≡ pointer_to s s.path.place → K (parameter code pointer)
-  here code pointer low high is = hop_named code pointer s.path.place low high (inl refl) on_path is
+  here : (code pointer : ℕ) → pointer ≡ pointer_to s s.path.place → Names code pointer s.path.place → K (parameter code pointer)
+  here code pointer is names = hop_named code pointer s.path.place on_path is names
 
-  later : changes t ≡ true → (code pointer : ℕ) → 48 ≤ code → code ≤ 52 → pointer ≡ pointer_to s (next_segment s.path.place) → K (parameter code pointer)
-  later ends code pointer low high is = hop_named code pointer (next_segment s.path.place) low high (inr refl) (on_next (next_is_there against s ends)) is
+  later : changes t ≡ true → (code pointer : ℕ) → pointer ≡ pointer_to s (next_segment s.path.place) → Names code pointer (next_segment s.path.place) → K (parameter code pointer)
+  later ends code pointer is names = hop_named code pointer (next_segment s.path.place) (on_next (next_is_there against s ends)) is names
 
   segment_named : changes t ≡ true → K (parameter 53 (info_pointer (changed_over t)))
   segment_named ends =
@@ -171,38 +180,41 @@ module _ (n : Network) (from : ℕ) (source : Underlay) (moment : ℕ) (bytes : 
   unreachable : K (record { kind = 1; code = 0; pointer = 0 })
   unreachable = record { named = λ is. absurd (omega arith); inside = λ is. absurd (omega arith); none = λ is. refl }
 
-  leaves : (u : PacketState) → ((code : ℕ) → 48 ≤ code → code ≤ 52 → K (parameter code (hop_pointer u))) → (u.switched ≡ true → K (parameter 53 (info_pointer u))) → IsToldAfter K (GoesOn u) (rest 14)
-  leaves u hop info =
-      let code = either (is_along u) 50 49 (omega arith) (omega arith) (omega arith) (omega arith) in
-      row_of K (not (is_some (interface_kind u.network (egress u)))) (Answered (parameter (if is_along u then 50 else 49) (hop_pointer u))) u (rest 15) (λ is. hop _ code.0 code.1) (λ known.
-      told_pair_by K u.switched (not (is_pair_lawful u)) (parameter 53 (info_pointer u)) (parameter 48 (hop_pointer u)) u (rest 16) info (λ is. hop 48 (omega arith) (omega arith))
+  leaves : (u : PacketState) (at : Place) → IsAtHand bytes at → ((code : ℕ) → Names code (hop_pointer u) at → K (parameter code (hop_pointer u)))
+      → (u.switched ≡ true → K (parameter 53 (info_pointer u))) → (u.switched ≡ false → K (parameter 48 (hop_pointer u))) → IsToldAfter K (GoesOn u) (rest 14)
+  leaves u at hand hop info straight =
+      row_of K (not (is_some (interface_kind u.network (egress u)))) (Answered (parameter (if is_along u then 50 else 49) (hop_pointer u))) u (rest 15)
+      (λ is. hop _ (λ points. IsNamed.interface at (other_of (is_along u) 50 49) hand points)) (λ known.
+      told_pair_by K u.switched (not (is_pair_lawful u)) (parameter 53 (info_pointer u)) (parameter 48 (hop_pointer u)) u (rest 16) info straight
       (row_of K (is_some (own_link u.network (egress u)) && egress_alert u && is_request u.header.next_header u.payload) (Answered (record { kind = 131; code = 0; pointer = egress u })) u (rest 17)
       (λ asks. replies (egress u)) (λ quiet. told_leave K (is_some (own_link u.network (egress u))) u (if is_along u then chained u else u))))
 
   switches : (b : Bool) → changes t ≡ b → IsToldAfter K (if b then then_rows (GoesOn (changed_over t)) (expired ∷ wrong_mac ∷ []) else GoesOn t) (rest 14)
   switches true ends =
       let u : PacketState = changed_over t in
-      let hop = λ (code : ℕ) (low : 48 ≤ code) (high : code ≤ 52). later ends code (hop_pointer u) low high (next_pointer against s) in
-      row_within K (is_expired u) (Answered (parameter 52 (hop_pointer u))) u (wrong_mac ∷ []) (rest 14) (λ is. hop 52 (omega arith) (omega arith)) (λ unexpired.
-      row_within K (not (is_authentic u)) (Answered (parameter 51 (hop_pointer u))) u [] (rest 14) (λ is. hop 51 (omega arith) (omega arith)) (λ authentic.
-      leaves u hop (λ is. segment_named ends)))
+      let at : Place = next_segment s.path.place in
+      let hop = λ (code : ℕ) (names : Names code (hop_pointer u) at). later ends code (hop_pointer u) (next_pointer against s) names in
+      row_within K (is_expired u) (Answered (parameter 52 (hop_pointer u))) u (wrong_mac ∷ []) (rest 14) (λ is. hop 52 (λ points. IsNamed.expiry at (inr refl) points)) (λ unexpired.
+      row_within K (not (is_authentic u)) (Answered (parameter 51 (hop_pointer u))) u [] (rest 14) (λ is. hop 51 (λ points. IsNamed.mac at (inr refl) points)) (λ authentic.
+      leaves u at (inr refl) hop (λ is. segment_named ends) (λ is. absurd cc)))
   switches false still =
-      leaves t (λ code low high. here code (hop_pointer t) low high (same_pointer against s))
-      (λ is. let never : false ≡ true = sym (never_switched against s refl) ∙ is in absurd cc)
+      let hop = λ (code : ℕ) (names : Names code (hop_pointer t) s.path.place). here code (hop_pointer t) (same_pointer against s) names in
+      leaves t s.path.place (inl refl) hop (λ is. let never : false ≡ true = sym (never_switched against s refl) ∙ is in absurd cc) (λ is. hop 48 (λ points. IsNamed.straight points))
 
   told_all : IsToldAfter K (GoesOn s) decision_table
   told_all =
-      let code = either (is_along s) 49 50 (omega arith) (omega arith) (omega arith) (omega arith) in
+      let at : Place = s.path.place in
       row_of K (nat_lt 9216 (length s.bytes)) (Dropped cause.TooLong) s (rest 1) (λ is. tt) (λ short.
       row_faulty K (header_fault s.bytes) s (rest 2)
       (row_faulty K (path_fault (path_bytes s.bytes)) s (rest 3)
-      (row_of K (is_expired s) (Answered (parameter 52 (hop_pointer s))) s (rest 4) (λ is. here 52 (hop_pointer s) (omega arith) (omega arith) refl) (λ unexpired.
-      row_of K (is_external s && not (ingress s == s.link)) (Answered (parameter (if is_along s then 49 else 50) (hop_pointer s))) s (rest 5) (λ is. here _ (hop_pointer s) code.0 code.1 refl) (λ entered.
+      (row_of K (is_expired s) (Answered (parameter 52 (hop_pointer s))) s (rest 4) (λ is. here 52 (hop_pointer s) refl (λ points. IsNamed.expiry at (inl refl) points)) (λ unexpired.
+      row_of K (is_external s && not (ingress s == s.link)) (Answered (parameter (if is_along s then 49 else 50) (hop_pointer s))) s (rest 5)
+      (λ is. here _ (hop_pointer s) refl (λ points. IsNamed.interface at (one_of (is_along s) 49 50) (inl refl) points)) (λ entered.
       row_of K (not (s.header.payload_length == length s.payload)) (Answered (parameter 19 0)) s (rest 6) (λ is. fixed 19 0 IsNamed.size (omega arith)) (λ whole.
       row_of K (not (came_lawfully s)) (Dropped cause.UnderlaySource) s (rest 7) (λ is. tt) (λ sender.
       row_of K (not (is_source_lawful s)) (Answered (parameter 33 20)) s (rest 8) (λ is. fixed 33 20 IsNamed.source (omega arith)) (λ source.
       row_of K (not (is_destination_lawful s)) (Answered (parameter 34 12)) s (rest 9) (λ is. fixed 34 12 IsNamed.destination (omega arith)) (λ destination.
-      row_of K (not (is_authentic t)) (Answered (parameter 51 (hop_pointer t))) t (rest 11) (λ is. here 51 (hop_pointer t) (omega arith) (omega arith) (same_pointer against s)) (λ authentic.
+      row_of K (not (is_authentic t)) (Answered (parameter 51 (hop_pointer t))) t (rest 11) (λ is. here 51 (hop_pointer t) (same_pointer against s) (λ points. IsNamed.mac at (inl refl) points)) (λ authentic.
       row_of K (is_external t && ingress_alert t && is_request t.header.next_header t.payload) (Answered (record { kind = 131; code = 0; pointer = ingress t })) t (rest 12)
       (λ asks. replies (ingress t)) (λ quiet.
       row_of K (is_external t && is_local t.network t.header.destination) (delivered t.network (packet t)) t (rest 13)

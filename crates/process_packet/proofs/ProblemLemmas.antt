@@ -1,27 +1,30 @@
 -- Row after row: what each of them may tell a sender.
-use Rattle.std.proofs.Common.{◌≡◌, ℕ, Bool, true, false, not, ◌&&◌, ◌==◌, nat_lt, inl, inr, List, [], ◌∷◌, length, Option, Some, None, if◌then◌else◌, refl, sym, ap₂, subst, ◌∙◌, arith}
+use Rattle.std.proofs.Common.{◌≡◌, ℕ, Bool, true, false, not, ◌&&◌, ◌==◌, nat_lt, List, [], ◌∷◌, length, Option, Some, None, if◌then◌else◌, refl, sym, ap, ap₂, subst, ◌∙◌}
 use Rattle.std.specs.Prelude.{is_some, option_map}
-use Rattle.std.proofs.lemmas.Bool.Decides.{Decides-eqb}
 use Rattle.field_rows.specs.Place.{number_at}
 use Rattle.scion_packet.specs.Fault.{Fault}
 use Rattle.scion_packet.specs.Header.{HeaderFields, header_fault, host_code}
 use Rattle.scion_packet.specs.Packet.{Packet, path_bytes}
-use Rattle.scion_packet.specs.Path.{path_fault}
+use Rattle.scion_packet.specs.Path.{HopField, path_fault}
 use Rattle.process_packet.specs.Decide.{decision_table, verdict, verdict_of}
-use Rattle.process_packet.specs.Laws.{changes}
+use Rattle.process_packet.specs.Conditions.{ComesInBy}
+use Rattle.process_packet.specs.Laws.{IsAuthorised, changes}
 use Rattle.process_packet.specs.Neighbours.{service_at, sibling_at}
 use Rattle.process_packet.specs.Network.{Network, interface_kind, is_local, own_link, service, sibling}
-use Rattle.process_packet.specs.Problems.{IsLawfulRequest, IsProblem, ProblemsAreLawful}
+use Rattle.process_packet.specs.Problems.{IsProblem, ProblemsAreLawful}
+use Rattle.process_packet.specs.Shown.{StandsToLeave, is_for_us}
 use Rattle.process_packet.specs.Request.{is_request}
 use Rattle.process_packet.specs.Rows.{Answered, Dropped, Ends, GoesOn, Row, Sent, RowResult, Verdict, came_lawfully, delivered, ends_where, expired, faulty, is_destination_lawful, is_pair_lawful, is_source_lawful, sent_on, sent_out, then_rows, to_service, wrong_mac}
-use Rattle.process_packet.specs.PacketState.{PacketState, arrives, chained, changed_over, egress, egress_alert, hop_pointer, info_pointer, ingress, ingress_alert, is_along, is_authentic, is_expired, is_external, is_last_of_path, packet, turned_back, next_place, with_place}
+use Rattle.process_packet.specs.PacketState.{PacketState, arrives, chained, changed_over, egress, egress_alert, hop, hop_pointer, info, info_pointer, ingress, ingress_alert, is_along, is_authentic, is_expired, is_external, is_last_of_path, packet, turned_back, next_place, with_place}
 use Rattle.process_packet.specs.declared.cause.Cause.TheVariants as cause
 use Rattle.process_packet.specs.declared.decision.Problem.{Problem}
 use Rattle.process_packet.specs.declared.underlay.Ip.TheVariants.{V4, V6}
 use Rattle.process_packet.specs.declared.underlay.Underlay.{Underlay}
 use Rattle.process_packet.proofs.LawLemmas.{rest}
-use Rattle.process_packet.proofs.PassingLemmas.{and_not, not_false, parameter}
-use Rattle.process_packet.proofs.TurningLemmas.{turned_stays}
+use Rattle.process_packet.proofs.ConditionLemmas.{alerts_entry, alerts_exit, authorised, comes_in_by, external, goes_out_by, has_its_pair}
+use Rattle.process_packet.proofs.PassingLemmas.{not_false, parameter}
+use Rattle.process_packet.proofs.RowsPassed.{turned_is}
+use Rattle.process_packet.proofs.TurningLemmas.{IsSameBesides, turned_along, turned_hop, turned_stays}
 
 -- a problem that is told is such
 abbrev pub IsTold : (Problem → Type 0) → Verdict → Type 0
@@ -45,6 +48,11 @@ row_within K false v s within rows here after = after refl
 pub row_faulty : (K : Problem → Type 0) (f : Option Fault) (s : PacketState) (rows : List Row) → IsToldAfter K (GoesOn s) rows → IsToldAfter K (faulty f s) rows
 row_faulty K None s rows after = after
 row_faulty K (Some f) s rows after = tt
+
+-- a row of faults, which leaves none
+pub row_sound : (K : Problem → Type 0) (f : Option Fault) (s : PacketState) (rows : List Row) → (f ≡ None → IsToldAfter K (GoesOn s) rows) → IsToldAfter K (faulty f s) rows
+row_sound K None s rows after = after refl
+row_sound K (Some f) s rows after = tt
 
 -- ---- delivery and leaving
 
@@ -78,16 +86,22 @@ pub told_leave : (K : Problem → Type 0) (b : Bool) (u w : PacketState)
 told_leave K true u w = told_out K (is_last_of_path w) (egress u) (packet (with_place w (next_place w.path.segments w.path.place)))
 told_leave K false u w = told_on K (packet u) (option_map sibling_at (sibling u.network (egress u)))
 
-told_pair : (K : Problem → Type 0) (switched b : Bool) (q r : Problem) (u : PacketState) (rows : List Row) → K q → K r → IsToldAfter K (GoesOn u) rows
+told_pair : (K : Problem → Type 0) (switched b : Bool) (q r : Problem) (u : PacketState) (rows : List Row) → K q → K r → (b ≡ false → IsToldAfter K (GoesOn u) rows)
     → IsToldAfter K (ends_where b (if switched then Answered q else Answered r) u) rows
-told_pair K true b q r u rows k j after = row_of K b (Answered q) u rows (λ is. k) (λ no. after)
-told_pair K false b q r u rows k j after = row_of K b (Answered r) u rows (λ is. j) (λ no. after)
+told_pair K true b q r u rows k j after = row_of K b (Answered q) u rows (λ is. k) after
+told_pair K false b q r u rows k j after = row_of K b (Answered r) u rows (λ is. j) after
 
-three : (x y z : Bool) → (x && y && z) ≡ true → z ≡ true
-three true true true e = refl
-three true true false e = absurd cc
-three true false z e = absurd cc
-three false y z e = absurd cc
+-- what three tests say together
+record AllThree (x y z : Bool) : Type 0 where
+  one : x ≡ true
+  two : y ≡ true
+  three : z ≡ true
+
+all_three : (x y z : Bool) → (x && y && z) ≡ true → AllThree x y z
+all_three true true true e = record { one = refl; two = refl; three = refl }
+all_three true true false e = absurd cc
+all_three true false z e = absurd cc
+all_three false y z e = absurd cc
 
 -- ---- the table
 
@@ -99,13 +113,10 @@ module _ (s : PacketState) where
   t = turned_back s
 
   four : (code pointer : ℕ) → K (parameter code pointer)
-  four code pointer = record { kind = inr (inl refl); reply = λ is. absurd (omega arith) }
+  four code pointer = IsProblem.parameter refl
 
   one : K (record { kind = 1; code = 0; pointer = 0 })
-  one = record { kind = inl refl; reply = λ is. absurd (omega arith) }
-
-  asked : (interface : ℕ) → IsLawfulRequest s → K (record { kind = 131; code = 0; pointer = interface })
-  asked interface is = record { kind = inr (inr refl); reply = λ e. is }
+  one = IsProblem.unreachable refl
 
   -- what stands turned back is the same request
   request_there : is_request t.header.next_header t.payload ≡ true → is_request s.header.next_header s.payload ≡ true
@@ -113,48 +124,88 @@ module _ (s : PacketState) where
       let same = turned_stays s in
       ap₂ (λ (h : HeaderFields) (p : List ℕ). is_request h.next_header p) (sym same.header) (sym same.payload) ∙ is
 
-  leaves : (u : PacketState) → u.header ≡ t.header → u.payload ≡ t.payload → (is_request s.header.next_header s.payload ≡ true → IsLawfulRequest s) → IsToldAfter K (GoesOn u) (rest 14)
-  leaves u header payload lawful =
-      row_of K (not (is_some (interface_kind u.network (egress u)))) (Answered (parameter (if is_along u then 50 else 49) (hop_pointer u))) u (rest 15) (λ is. four _ _) (λ known.
-      told_pair K u.switched (not (is_pair_lawful u)) (parameter 53 (info_pointer u)) (parameter 48 (hop_pointer u)) u (rest 16) (four _ _) (four _ _)
-      (row_of K (is_some (own_link u.network (egress u)) && egress_alert u && is_request u.header.next_header u.payload) (Answered (record { kind = 131; code = 0; pointer = egress u })) u (rest 17)
-      (λ asks. asked (egress u) (lawful (request_there
-      (ap₂ (λ (h : HeaderFields) (p : List ℕ). is_request h.next_header p) (sym header) (sym payload) ∙ three (is_some (own_link u.network (egress u))) (egress_alert u) (is_request u.header.next_header u.payload) asks))))
+  others_there : IsSameBesides s t → is_for_us t ≡ false → is_for_us s ≡ false
+  others_there same others =
+      ap₂ (λ (l : ℕ) (h : HeaderFields). not (l == 0) && is_local s.network h.destination) (sym same.link) (sym same.header)
+      ∙ ap (λ (n : Network). not (t.link == 0) && is_local n t.header.destination) (sym same.network) ∙ others
+
+  asked_at_entry : IsAuthorised s → (is_external t && ingress_alert t && is_request t.header.next_header t.payload) ≡ true → K (record { kind = 131; code = 0; pointer = ingress t })
+  asked_at_entry is asks =
+      let parts = all_three (is_external t) (ingress_alert t) (is_request t.header.next_header t.payload) asks in
+      let same = turned_stays s in
+      let flag : ingress_alert s ≡ true =
+      ap₂ (λ (b : Bool) (h : HopField). if b then h.ingress_alert else h.egress_alert) (sym (turned_along s)) (sym (turned_hop s)) ∙ parts.two in
+      let interface : ingress s ≡ ingress t =
+      ap₂ (λ (b : Bool) (h : HopField). if b then h.construction_ingress else h.construction_egress) (sym (turned_along s)) (sym (turned_hop s)) in
+      IsProblem.reply_at_entry refl refl (record {
+        external = (external s.link).0 (ap (λ (l : ℕ). not (l == 0)) (sym same.link) ∙ parts.one);
+        authorised = is;
+        request = request_there parts.three;
+        flag = (alerts_entry (info s) (hop s)).0 flag;
+        by = subst (λ (id : ℕ). ComesInBy (info s) (hop s) id) interface (comes_in_by (info s) (hop s));
+      })
+
+  asked_at_exit : (u : PacketState) → IsAuthorised s → u.header ≡ t.header → u.payload ≡ t.payload → is_for_us t ≡ false → StandsToLeave t u → is_pair_lawful u ≡ true
+      → (is_some (own_link u.network (egress u)) && egress_alert u && is_request u.header.next_header u.payload) ≡ true → K (record { kind = 131; code = 0; pointer = egress u })
+  asked_at_exit u is header payload others leaves pair asks =
+      let parts = all_three (is_some (own_link u.network (egress u))) (egress_alert u) (is_request u.header.next_header u.payload) asks in
+      let same = turned_stays s in
+      IsProblem.reply_at_exit u refl refl (record {
+        authorised = is;
+        request = request_there (ap₂ (λ (h : HeaderFields) (p : List ℕ). is_request h.next_header p) (sym header) (sym payload) ∙ parts.three);
+        others = others_there same others;
+        leaves = subst (λ (v : PacketState). StandsToLeave v u) (turned_is s) leaves;
+        pair = (has_its_pair u).0 pair;
+        flag = (alerts_exit (info u) (hop u)).0 parts.two;
+        by = goes_out_by (info u) (hop u);
+        own = parts.one;
+      })
+
+  leaves : (u : PacketState) → IsAuthorised s → u.header ≡ t.header → u.payload ≡ t.payload → is_for_us t ≡ false → StandsToLeave t u → IsToldAfter K (GoesOn u) (rest 14)
+  leaves u is header payload others stands =
+      row_of K (not (is_some (interface_kind u.network (egress u)))) (Answered (parameter (if is_along u then 50 else 49) (hop_pointer u))) u (rest 15) (λ is-so. four _ _) (λ known.
+      told_pair K u.switched (not (is_pair_lawful u)) (parameter 53 (info_pointer u)) (parameter 48 (hop_pointer u)) u (rest 16) (four _ _) (four _ _) (λ pair.
+      row_of K (is_some (own_link u.network (egress u)) && egress_alert u && is_request u.header.next_header u.payload) (Answered (record { kind = 131; code = 0; pointer = egress u })) u (rest 17)
+      (λ asks. asked_at_exit u is header payload others stands (not_false (is_pair_lawful u) pair) asks)
       (λ quiet. told_leave K (is_some (own_link u.network (egress u))) u (if is_along u then chained u else u))))
 
-  switches : (b : Bool) → (is_request s.header.next_header s.payload ≡ true → IsLawfulRequest s)
+  switches : (b : Bool) → changes t ≡ b → IsAuthorised s → is_for_us t ≡ false
       → IsToldAfter K (if b then then_rows (GoesOn (changed_over t)) (expired ∷ wrong_mac ∷ []) else GoesOn t) (rest 14)
-  switches true lawful =
+  switches true ends is others =
       let u : PacketState = changed_over t in
-      row_within K (is_expired u) (Answered (parameter 52 (hop_pointer u))) u (wrong_mac ∷ []) (rest 14) (λ is. four _ _) (λ unexpired.
-      row_within K (not (is_authentic u)) (Answered (parameter 51 (hop_pointer u))) u [] (rest 14) (λ is. four _ _) (λ authentic. leaves u refl refl lawful))
-  switches false lawful = leaves t refl refl lawful
-
-  lawful_request : is_request s.header.next_header s.payload ≡ true → is_expired s ≡ false → (is_external s && not (ingress s == s.link)) ≡ false → not (is_authentic t) ≡ false → IsLawfulRequest s
-  lawful_request request unexpired entered authentic = record {
-    request = request;
-    unexpired = unexpired;
-    by_its_link = λ external. (Decides-eqb (ingress s) s.link).0 (and_not (is_external s) (ingress s == s.link) entered external);
-    authentic = not_false (is_authentic t) authentic;
-  }
+      row_within K (is_expired u) (Answered (parameter 52 (hop_pointer u))) u (wrong_mac ∷ []) (rest 14) (λ is-so. four _ _) (λ unexpired.
+      row_within K (not (is_authentic u)) (Answered (parameter 51 (hop_pointer u))) u [] (rest 14) (λ is-so. four _ _) (λ authentic.
+      leaves u is refl refl others (StandsToLeave.changes_over ends unexpired (not_false (is_authentic u) authentic))))
+  switches false still is others = leaves t is refl refl others (StandsToLeave.stays still)
 
   told_all : IsToldAfter K (GoesOn s) decision_table
   told_all =
       row_of K (nat_lt 9216 (length s.bytes)) (Dropped cause.TooLong) s (rest 1) (λ is. tt) (λ short.
-      row_faulty K (header_fault s.bytes) s (rest 2)
-      (row_faulty K (path_fault (path_bytes s.bytes)) s (rest 3)
-      (row_of K (is_expired s) (Answered (parameter 52 (hop_pointer s))) s (rest 4) (λ is. four _ _) (λ unexpired.
+      row_sound K (header_fault s.bytes) s (rest 2) (λ header.
+      row_sound K (path_fault (path_bytes s.bytes)) s (rest 3) (λ path.
+      row_of K (is_expired s) (Answered (parameter 52 (hop_pointer s))) s (rest 4) (λ is. four _ _) (λ unexpired.
       row_of K (is_external s && not (ingress s == s.link)) (Answered (parameter (if is_along s then 49 else 50) (hop_pointer s))) s (rest 5) (λ is. four _ _) (λ entered.
       row_of K (not (s.header.payload_length == length s.payload)) (Answered (parameter 19 0)) s (rest 6) (λ is. four _ _) (λ whole.
       row_of K (not (came_lawfully s)) (Dropped cause.UnderlaySource) s (rest 7) (λ is. tt) (λ sender.
       row_of K (not (is_source_lawful s)) (Answered (parameter 33 20)) s (rest 8) (λ is. four _ _) (λ source.
       row_of K (not (is_destination_lawful s)) (Answered (parameter 34 12)) s (rest 9) (λ is. four _ _) (λ destination.
       row_of K (not (is_authentic t)) (Answered (parameter 51 (hop_pointer t))) t (rest 11) (λ is. four _ _) (λ authentic.
-      let lawful = λ (request : is_request s.header.next_header s.payload ≡ true). lawful_request request unexpired entered authentic in
+      let is : IsAuthorised s = authorised s (record {
+        short = short;
+        header = header;
+        path = path;
+        unexpired = unexpired;
+        entered = entered;
+        whole = whole;
+        sender = sender;
+        source = source;
+        destination = destination;
+        authentic = authentic;
+      }) in
       row_of K (is_external t && ingress_alert t && is_request t.header.next_header t.payload) (Answered (record { kind = 131; code = 0; pointer = ingress t })) t (rest 12)
-      (λ asks. asked (ingress t) (lawful (request_there (three (is_external t) (ingress_alert t) (is_request t.header.next_header t.payload) asks)))) (λ quiet.
+      (λ asks. asked_at_entry is asks) (λ quiet.
       row_of K (is_external t && is_local t.network t.header.destination) (delivered t.network (packet t)) t (rest 13)
-      (λ for_us. told_delivered K t.network (packet t) one (four 21 9)) (λ others. switches (changes t) lawful))))))))))))
+      (λ for_us. told_delivered K t.network (packet t) one (four 21 9)) (λ others. switches (changes t) refl is others))))))))))))
 
 pub problems_lawful : ProblemsAreLawful
 unfolding verdict

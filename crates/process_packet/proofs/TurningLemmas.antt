@@ -7,9 +7,9 @@ use Rattle.scion_packet.specs.Packet.{Packet}
 use Rattle.scion_packet.specs.Path.{HopField, InfoField, Place, Segment}
 use Rattle.process_packet.specs.Departure.{Keeps}
 use Rattle.process_packet.specs.PacketView.{IsAlike, Shows, with_id}
-use Rattle.process_packet.specs.PacketState.{PacketState, chained, chained_id, is_along, is_external, turned_back}
+use Rattle.process_packet.specs.PacketState.{PacketState, chained, chained_id, hop, is_along, is_external, turned_back}
 use Rattle.process_packet.specs.declared.packet_view.PacketView.{PacketView}
-use Rattle.process_packet.proofs.AlikeLemmas.{alike_set, alike_with, info_set, whole_alike, with_id_of}
+use Rattle.process_packet.proofs.AlikeLemmas.{along_set, alike_set, alike_with, info_set, whole_alike, with_id_of}
 
 -- Two views that differ in the identifier at most.
 pub record IsSameBut (v w : PacketView) : Type 0 where
@@ -68,17 +68,34 @@ shows_turned v w s id shows same id-is info-is against =
 
 pub record IsSameBesides (s t : PacketState) : Type 0 where
   pub network : t.network ≡ s.network
+  pub link : t.link ≡ s.link
+  pub moment : t.moment ≡ s.moment
+  pub switched : t.switched ≡ s.switched
   pub header : t.header ≡ s.header
   pub payload : t.payload ≡ s.payload
   pub reserved : t.path.reserved ≡ s.path.reserved
   pub place : t.path.place ≡ s.path.place
 
 stays : (b : Bool) (s : PacketState) → IsSameBesides s (if b then chained s else s)
-stays true s = record { network = refl; header = refl; payload = refl; reserved = refl; place = refl }
-stays false s = record { network = refl; header = refl; payload = refl; reserved = refl; place = refl }
+stays true s = record { network = refl; link = refl; moment = refl; switched = refl; header = refl; payload = refl; reserved = refl; place = refl }
+stays false s = record { network = refl; link = refl; moment = refl; switched = refl; header = refl; payload = refl; reserved = refl; place = refl }
 
 pub turned_stays : (s : PacketState) → IsSameBesides s (turned_back s)
 turned_stays s = stays (is_external s && not (is_along s)) s
+
+along_stays : (b : Bool) (s : PacketState) → is_along (if b then chained s else s) ≡ is_along s
+along_stays true s = along_set s.path.segments s.path.place.segment (chained_id s) s.path.place.segment s.path.place.position
+along_stays false s = refl
+
+pub turned_along : (s : PacketState) → is_along (turned_back s) ≡ is_along s
+turned_along s = along_stays (is_external s && not (is_along s)) s
+
+hop_stays : (b : Bool) (s : PacketState) → hop (if b then chained s else s) ≡ hop s
+hop_stays true s = (alike_set s.path.segments s.path.place.segment (chained_id s)).hop s.path.place
+hop_stays false s = refl
+
+pub turned_hop : (s : PacketState) → hop (turned_back s) ≡ hop s
+turned_hop s = hop_stays (is_external s && not (is_along s)) s
 
 pub keeps_turned : (v : PacketView) (s : PacketState) (p : Packet) → s.header ≡ p.header → s.payload ≡ p.payload → s.path.reserved ≡ p.path.reserved
     → (turned_back s).path.segments ≡ with_id v.turned v.entered p.path.segments → v.entered < length p.path.segments → Keeps v (turned_back s) p

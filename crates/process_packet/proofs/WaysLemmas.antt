@@ -14,6 +14,7 @@ use Rattle.process_packet.specs.Shown.{AuthorisedIsSent, StandsToLeave, asks_ent
 use Rattle.process_packet.specs.PacketState.{PacketState, arrives, changed_over, egress, is_last_of_path, packet}
 use Rattle.process_packet.specs.Ways.{IsSentBy, SentByThreeWays}
 use Rattle.process_packet.proofs.AuthorisedLemmas.{authorised_sent, comes_so}
+use Rattle.process_packet.proofs.ConditionLemmas.{has_its_pair}
 use Rattle.process_packet.proofs.Coming.{ComesAsItShould}
 use Rattle.process_packet.proofs.DeliveredLemmas.{delivered_so}
 use Rattle.process_packet.proofs.LawLemmas.{came_in, delivered_inside, left_lawfully, told}
@@ -43,7 +44,7 @@ module _ (n : Network) (from : ℕ) (source : Underlay) (moment : ℕ) (bytes : 
   by_sibling : (u : PacketState) → asks_entry s ≡ false → is_for_us s ≡ false → StandsToLeave (turned s) u → LeavesByItsEgress u out to → own_link u.network (egress u) ≡ None
       → (o : Option Underlay) → option_map sibling_at (sibling u.network (egress u)) ≡ o → IsSentBy s out to p
   by_sibling u quiet others leaves l none None unlisted-there =
-      absurd (dropped_not_sent cause.PathEnd out to p (sym (unlisted s u comes quiet others leaves l.pair none unlisted-there) ∙ ends))
+      absurd (dropped_not_sent cause.PathEnd out to p (sym (unlisted s u comes quiet others leaves ((has_its_pair u).1 l.pair) none unlisted-there) ∙ ends))
   by_sibling u quiet others leaves l none (Some at) listed =
       let same = same_sent 0 out (Some at) to (packet u) p (sym (way.to_sibling u at quiet others leaves l.pair none listed) ∙ sent) in
       IsSentBy.by_sibling u (record { others = others; leaves = leaves; pair = l.pair; own = none; at = at; listed = listed; link = same.link; address = same.address; packet = same.packet })
@@ -51,7 +52,7 @@ module _ (n : Network) (from : ℕ) (source : Underlay) (moment : ℕ) (bytes : 
   by_link : (u : PacketState) (last : Bool) → asks_entry s ≡ false → is_for_us s ≡ false → StandsToLeave (turned s) u → LeavesByItsEgress u out to → asks_exit u ≡ false
       → is_some (own_link u.network (egress u)) ≡ true → is_last_of_path u ≡ last → IsSentBy s out to p
   by_link u true quiet others leaves l still own ended =
-      absurd (dropped_not_sent cause.PathEnd out to p (sym (ends_there s u comes quiet others leaves l.pair still own ended) ∙ ends))
+      absurd (dropped_not_sent cause.PathEnd out to p (sym (ends_there s u comes quiet others leaves ((has_its_pair u).1 l.pair) still own ended) ∙ ends))
   by_link u false quiet others leaves l still own more =
       let same = same_sent (egress u) out None to (sent_along u) p (sym (way.by_link u quiet others leaves l.pair still own more) ∙ sent) in
       IsSentBy.by_link u (record { others = others; leaves = leaves; pair = l.pair; own = own; more = more; link = same.link; address = same.address; packet = same.packet })

@@ -1,5 +1,5 @@
 -- What the decision table says as a whole: packets keep to authorised paths.
-use Rattle.std.specs.Prelude.{◌≡◌, ◌⊎◌, ◌<◌, ◌+◌, ◌&&◌, ℕ, Bool, true, false, List, Option, Some, None, is_some, option_map, if◌then◌else◌, ◌≤◌, length}
+use Rattle.std.specs.Prelude.{◌≡◌, ◌≢◌, ◌⊎◌, ◌<◌, ◌+◌, ◌&&◌, ℕ, Bool, true, false, List, Option, Some, None, is_some, option_map, if◌then◌else◌, ◌≤◌, length}
 use Rattle.scion_packet.specs.Packet.{Packet, first_fault, packet_of}
 use Rattle.scion_packet.specs.Path.{Place, Segment, hops_in}
 use Rattle.scion_packet.specs.Places as places
@@ -10,9 +10,10 @@ use Rattle.process_packet.specs.Underlay.{longest_datagram}
 use Rattle.process_packet.specs.Neighbours.{sibling_at}
 use Rattle.process_packet.specs.Network.{Network, is_local, own_link, sibling}
 use Rattle.process_packet.specs.Routed.{IsAnswer}
-use Rattle.process_packet.specs.Rows.{Sent, came_lawfully, is_destination_lawful, is_pair_lawful}
+use Rattle.process_packet.specs.Rows.{Sent}
+use Rattle.process_packet.specs.Conditions.{CarriesMac, ComesFromItsRouter, ComesInBy, HasItsDestination, HasItsPair, HasItsSource, IsInTime}
 use Rattle.process_packet.specs.PacketView.{with_id}
-use Rattle.process_packet.specs.PacketState.{PacketState, arrives, changed_over, egress, ingress, is_authentic, is_expired, is_external, is_followed, is_last_of_path, is_last_of_segment, next_place, turned_back, is_first_of_path}
+use Rattle.process_packet.specs.PacketState.{PacketState, arrives, changed_over, egress, hop, info, is_authentic, is_expired, is_external, is_followed, is_last_of_path, is_last_of_segment, next_place, turned_back}
 
 -- ---- what a packet had to show where it arrived
 
@@ -25,14 +26,13 @@ use Rattle.process_packet.specs.PacketState.{PacketState, arrives, changed_over,
 pub record IsAuthorised (s : PacketState) : Type 0 where
   pub short : length s.bytes ≤ longest_datagram
   pub sound : first_fault s.bytes ≡ None
-  pub unexpired : is_expired s ≡ false
-  pub by_its_link : is_external s ≡ true → ingress s ≡ s.link
+  pub in_time : IsInTime (info s) (hop s) s.moment
+  pub by_its_link : s.link ≢ 0 → ComesInBy (info s) (hop s) s.link
   pub whole : s.header.payload_length ≡ length s.payload
-  pub sender : came_lawfully s ≡ true
-  pub from_elsewhere : is_external s ≡ true → is_local s.network s.header.source ≡ false
-  pub from_here : is_external s ≡ false → is_first_of_path s.path.place ≡ true → is_local s.network s.header.source ≡ true
-  pub destination : is_destination_lawful s ≡ true
-  pub authentic : is_authentic (turned_back s) ≡ true
+  pub sender : ComesFromItsRouter s
+  pub source : HasItsSource s
+  pub destination : HasItsDestination s
+  pub authentic : CarriesMac s.network.key (info (turned_back s)).segment_id (info (turned_back s)) (hop (turned_back s))
 
 -- ---- how it left
 
@@ -47,7 +47,7 @@ pub record IsDelivered (s : PacketState) (out : ℕ) : Type 0 where
 -- the interface. The pair of links is lawful.
 pub record LeavesByItsEgress (s : PacketState) (out : ℕ) (to : Option Underlay) : Type 0 where
   pub for_others : is_local s.network s.header.destination ≡ false
-  pub pair : is_pair_lawful s ≡ true
+  pub pair : HasItsPair s
   pub own : is_some (own_link s.network (egress s)) ≡ true → (out ≡ egress s) × (to ≡ None)
   pub other : is_some (own_link s.network (egress s)) ≡ false → (out ≡ 0) × (to ≡ option_map sibling_at (sibling s.network (egress s)))
 

@@ -14,9 +14,13 @@ pub mod Exit
 pub mod Departure
 pub mod ParsedHeaders
 pub mod Routed
+pub mod Conditions
+pub mod StateWords
 pub mod Laws
+pub mod ValleyFree
 pub mod Problems
 pub mod Shown
+pub mod Refusals
 pub mod Hosts
 pub mod Ways
 pub mod WhatLeaves

@@ -6,7 +6,8 @@ use Rattle.process_packet.specs.Decide.{verdict}
 use Rattle.process_packet.specs.Hosts.{IsSentToHost}
 use Rattle.process_packet.specs.Neighbours.{sibling_at}
 use Rattle.process_packet.specs.Network.{Network, own_link, sibling}
-use Rattle.process_packet.specs.Rows.{Sent, is_pair_lawful}
+use Rattle.process_packet.specs.Conditions.{HasItsPair}
+use Rattle.process_packet.specs.Rows.{Sent}
 use Rattle.process_packet.specs.Shown.{StandsToLeave, is_for_us, sent_along, turned}
 use Rattle.process_packet.specs.PacketState.{PacketState, arrives, egress, is_last_of_path, packet}
 
@@ -20,7 +21,7 @@ pub record IsDeliveredSo (s : PacketState) (out : ℕ) (to : Option Underlay) (p
 pub record LeavesByLink (s u : PacketState) (out : ℕ) (to : Option Underlay) (p : Packet) : Type 0 where
   pub others : is_for_us s ≡ false
   pub leaves : StandsToLeave (turned s) u
-  pub pair : is_pair_lawful u ≡ true
+  pub pair : HasItsPair u
   pub own : is_some (own_link u.network (egress u)) ≡ true
   pub more : is_last_of_path u ≡ false
   pub link : egress u ≡ out
@@ -31,7 +32,7 @@ pub record LeavesByLink (s u : PacketState) (out : ℕ) (to : Option Underlay) (
 pub record LeavesBySibling (s u : PacketState) (out : ℕ) (to : Option Underlay) (p : Packet) : Type 0 where
   pub others : is_for_us s ≡ false
   pub leaves : StandsToLeave (turned s) u
-  pub pair : is_pair_lawful u ≡ true
+  pub pair : HasItsPair u
   pub own : own_link u.network (egress u) ≡ None
   pub at : Underlay
   pub listed : option_map sibling_at (sibling u.network (egress u)) ≡ Some at

@@ -2,6 +2,7 @@
 
 ghost use Rattle.std.specs.Prelude.{◌≤◌, ◌<◌, ◌^◌, ◌++◌, IsTrue, map, length};
 ghost use Rattle.std.specs.List.{list_all};
+ghost use Rattle.process_packet.specs.Underlay.{is_whole};
 ghost use Rattle.process_packet.specs.Neighbours.{are_distinct, has_port, is_link, is_service, is_sibling, link_id, service_number, sibling_id};
 
 use crate::neighbours::{Bands, Link, Service, Sibling};
@@ -38,9 +39,11 @@ pub struct Config {
     /// The services of the AS, at most 64.
     pub services: Vec<Service>,
     pub ghost isd_is_there: { 1 ≤ isd },
+    pub ghost isd_fits: { isd < 2 ^ 16 },
     pub ghost autonomous_system_is_there: { 1 ≤ autonomous_system },
     pub ghost autonomous_system_fits: { autonomous_system < 2 ^ 48 },
     pub ghost internal_has_a_port: { IsTrue (has_port internal) },
+    pub ghost internal_ip_is_whole: { IsTrue (is_whole internal.ip) },
     pub ghost host_port_is_there: { 1 ≤ host_port },
     pub ghost some_processors: { 1 ≤ processors },
     pub ghost few_processors: { processors ≤ 16 },

@@ -5,7 +5,10 @@ ghost use Rattle.process_packet.specs.Hosts.{DeliveredToItsHost, HostsAreReached
 ghost use Rattle.process_packet.specs.Laws.{AnswersAreSound, NextPlaceIsNext, NothingElseChanges, OnlyAuthorised, OnlyLawfulWays};
 ghost use Rattle.process_packet.specs.Pointers.{PointersAreRight};
 ghost use Rattle.process_packet.specs.Problems.{ProblemsAreLawful};
+ghost use Rattle.process_packet.specs.Refusals.{RefusedAreTold};
 ghost use Rattle.process_packet.specs.Shown.{AllAuthorisedAreSent};
+ghost use Rattle.process_packet.specs.StateWords.{WordsSayFields};
+ghost use Rattle.process_packet.specs.ValleyFree.{WaysAreValleyFree};
 ghost use Rattle.process_packet.specs.Ways.{SentByThreeWays};
 ghost use Rattle.process_packet.specs.WhatLeaves.{WhatLeavesIsLawful};
 
@@ -44,8 +47,9 @@ pub fn answers_are_sound()
 {}
 
 /// What a sender is told is that its destination can't be reached (type 1), that a field is wrong (type 4), or
-/// a traceroute reply (type 131); the reply only for a request whose hop field was within its time, named
-/// the link by which it came from outside, and carried its MAC.
+/// a traceroute reply (type 131). The reply is for a request that is authorised, and it is of the interface
+/// by which the packet came, or of an own one by which it would leave over a lawful pair of links, where the
+/// hop field sets that interface's router alert flag.
 pub fn problems_are_lawful()
     ensures { ProblemsAreLawful }
 {}
@@ -58,7 +62,9 @@ pub fn authorised_is_sent()
 {}
 
 /// A packet is sent by one of three ways: to its own host, by a link of this router with the cursor at the
-/// next hop of its path, or unchanged to the router of the AS that has its egress interface.
+/// next hop of its path, or to the router of the AS that has its egress interface, at the hop by which it
+/// leaves the AS: what may have changed then is SegID, turned back where it arrived, and the cursor, moved
+/// on to the next segment.
 pub fn sent_by_three_ways()
     ensures { SentByThreeWays }
 {}
@@ -85,7 +91,9 @@ pub fn what_leaves_is_lawful()
 /// Over two stops no hop is spliced in. Where one router sends a packet by a link and another one sends on what
 /// came to it, the hop field accepted next is the next one of the segment, and carries the MAC for the
 /// identifier chained from the hop field that was accepted before, and for the same timestamp; against the
-/// direction of construction it is the other way round. Within the AS it is the very same hop.
+/// direction of construction it is the other way round. Within the AS it is the very same hop. It says nothing
+/// where the hop field by which the packet leaves is its segment's last: there the next AS's hop field begins
+/// another segment, whose MAC nothing chains to this one.
 pub fn no_hop_is_spliced_in()
     ensures { NoHopIsSplicedIn }
 {}
@@ -95,4 +103,24 @@ pub fn no_hop_is_spliced_in()
 /// or the datagram's beginning for a wrong size.
 pub fn pointers_are_right()
     ensures { PointersAreRight }
+{}
+
+/// The words in which the rows and these laws speak of a packet say its fields: the expiry's moment to the
+/// half second, all six bytes of the MAC, the interfaces and their alert flags by the direction of
+/// construction, the path's last hop, the local AS, and the pointers' offsets.
+pub fn words_say_fields()
+    ensures { WordsSayFields }
+{}
+
+/// What comes over a link and leaves to another AS keeps to a way without a valley at this stop: after a
+/// parent it goes to a child, after the core never to a parent, and on one segment up stays up and core
+/// stays core. It leaves over an own link, or to the router that has the link.
+pub fn ways_are_valley_free()
+    ensures { WaysAreValleyFree }
+{}
+
+/// What a sender is told of each refused packet, with its pointer, or for which cause it is dropped: reason
+/// by reason, said of the packet's fields, in the order in which the reasons count.
+pub fn refused_are_told()
+    ensures { RefusedAreTold }
 {}

@@ -164,7 +164,8 @@ impl PacketView {
         Ok(())
     }
 
-    /// How it leaves with its path unchanged: no cursor moves, and no identifier is chained.
+    /// How it leaves as it now stands: no cursor moves on, and no identifier is chained. The identifier may
+    /// have been turned back where it arrived, and the cursor moved to the next segment.
     pub(crate) fn unchanged(&self, link: u16, to: Option<Underlay>) -> Departure
         requires on { IsOnPath self.now }
         ensures { (s : PacketState) (p : Packet) → Shows self.now s → Keeps self.now s p → Departs result (row.Sent link to (packet s)) p }
@@ -231,7 +232,7 @@ impl PacketView {
         })
     }
 
-    /// How it leaves the AS by this exit: by the link, or unchanged to the sibling that has the interface.
+    /// How it leaves the AS by this exit: by the link, or as it stands to the sibling that has the interface.
     #[inline(always)]
     pub(crate) fn leave(&self, exit: &Exit) -> Result<Departure, Refusal>
         requires on { IsOnPath self.now }

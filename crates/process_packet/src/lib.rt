@@ -34,8 +34,8 @@ pub use decision::{Decision, Problem};
 pub use laws::{
     answers_are_sound, authorised_is_sent, delivers_to_its_host, hosts_are_reached,
     next_place_is_next, no_hop_is_spliced_in, nothing_else_changes, only_authorised,
-    only_lawful_ways, pointers_are_right, problems_are_lawful, sent_by_three_ways,
-    what_leaves_is_lawful,
+    only_lawful_ways, pointers_are_right, problems_are_lawful, refused_are_told,
+    sent_by_three_ways, ways_are_valley_free, what_leaves_is_lawful, words_say_fields,
 };
 pub use neighbours::{Bands, Link, Service, Sibling};
 pub use parsed_headers::LONGEST_DATAGRAM;

@@ -1,11 +1,13 @@
 -- An answer of type 1 or 4 is known for one, and isn't taken for a request.
-use Rattle.std.proofs.Common.{◌≡◌, ◌⊎◌, ◌==◌, ◌&&◌, not, ℕ, Bool, true, false, List, ◌++◌, cond, eqb, length, slice_index, Option, Some, None, refl, sym, ap, ap₂, ◌∙◌, inl, inr, if◌then◌else◌}
+use Rattle.std.proofs.Common.{◌≡◌, ◌⊎◌, ◌==◌, ◌&&◌, not, ℕ, Bool, true, false, List, [], ◌∷◌, ◌++◌, ◌<◌, cond, eqb, length, slice_index, Option, Some, None, refl, sym, ap, ap₂, ◌∙◌, inl, inr, if◌then◌else◌, arith}
 use Rattle.std.specs.Prelude.{is_some, nat_le}
-use Rattle.std.proofs.lemmas.Bool.{eqb-true}
+use Rattle.std.proofs.lemmas.Bool.{eqb-true, lt-ltb, ne_eqb}
 use Rattle.field_rows.specs.Place.{number_at}
 use Rattle.field_rows.specs.Row.{rows}
 use Rattle.scion_header.specs.Upper.{upper_of}
-use Rattle.scion_packet.specs.Extensions.{upper_layer}
+use Rattle.scion_header.specs.Upper as uppers
+use Rattle.scion_header.specs.declared.upper.Upper.TheVariants.{Other}
+use Rattle.scion_packet.specs.Extensions.{Layer, upper_layer}
 use Rattle.scion_packet.specs.Header.{HeaderFields, HostAddress}
 use Rattle.scion_packet.specs.Packet.{Packet, packet_of}
 use Rattle.process_packet.specs.declared.cause.Cause.TheVariants.{NoAnswer, NoWayBack}
@@ -14,14 +16,16 @@ use Rattle.process_packet.specs.declared.decision.Problem.{Problem}
 use Rattle.process_packet.specs.declared.underlay.Underlay.{Underlay}
 use Rattle.process_packet.specs.Decide.{decide, decision_of, verdict}
 use Rattle.process_packet.specs.Network.{Network}
-use Rattle.process_packet.specs.Request.{is_request, request}
+use Rattle.process_packet.specs.PacketState.{PacketState}
+use Rattle.process_packet.specs.Problems.{IsProblem}
+use Rattle.process_packet.specs.Request.{is_request, request, request_of}
 use Rattle.process_packet.specs.Rows as rows_of
 use Rattle.process_packet.specs.Rows.{Verdict}
 use Rattle.process_packet.proofs.ProblemLemmas.{problems_lawful}
 use Rattle.scmp_answer.specs.Checksum.{checksum, summed}
 use Rattle.scmp_answer.specs.Message.{message, numbers_of, parameter_problem_table, quote, traceroute_reply_table, unreachable_table}
 use Rattle.scmp_answer.specs.Reply.{Dropped, Reply, Sent, answer_header, answer_packet, header_len, is_left_unanswered, may_be_error, reply, sent_back}
-use Rattle.scmp_answer.specs.Unanswered.{ErrorsAreLeftUnanswered}
+use Rattle.scmp_answer.specs.Unanswered.{ErrorsAreLeftUnanswered, MayBeError, NoErrorIsAnswered}
 use Rattle.scmp_answer.specs.WayBack.{has_no_way_back, way_back}
 use Rattle.scmp_answer.proofs.ReplyLemmas.{unanswered}
 
@@ -84,12 +88,18 @@ asks_none : (k : Bool) (e : Bool) → k ≡ false → e ≡ true → (not k && e
 asks_none true e other is = absurd cc
 asks_none false e other is = is
 
+asked_for : {s : PacketState} (q : Problem) → IsProblem s q → q.kind ≡ 131 → is_request s.header.next_header s.payload ≡ true
+asked_for q (IsProblem.unreachable one) reply = absurd (omega arith)
+asked_for q (IsProblem.parameter four) reply = absurd (omega arith)
+asked_for q (IsProblem.reply_at_entry kind code asked) reply = asked.request
+asked_for q (IsProblem.reply_at_exit u kind code asked) reply = asked.request
+
 -- a reply goes to a request alone
 no_reply_by : (b : Bool) (n : Network) (link : ℕ) (source : Underlay) (moment : ℕ) (bytes : List ℕ) (q : Problem) → decide n link source moment bytes ≡ decision.Answer q
     → is_request (packet_of bytes).header.next_header (packet_of bytes).payload ≡ false → (q.kind == 131) ≡ b → b ≡ false
 no_reply_by true n link source moment bytes q says quiet is =
-    let lawful = (problems_lawful n link source moment bytes q (told (verdict n link source moment bytes) q says)).reply (eqb-true q.kind 131 is) in
-    let asked : is_request (packet_of bytes).header.next_header (packet_of bytes).payload ≡ true = lawful.request in
+    let lawful = problems_lawful n link source moment bytes q (told (verdict n link source moment bytes) q says) in
+    let asked : is_request (packet_of bytes).header.next_header (packet_of bytes).payload ≡ true = asked_for q lawful (eqb-true q.kind 131 is) in
     let never : true ≡ false = sym asked ∙ quiet in never
 no_reply_by false n link source moment bytes q says quiet is = refl
 
@@ -114,3 +124,47 @@ left_unanswered here there n link link' source source' moment bytes bytes' probl
     let quiet : is_request arrived.header.next_header arrived.payload ≡ false = ap₂ is_request next text ∙ error.no_request in
     let other : (problem'.kind == 131) ≡ false = no_reply n link' source' moment bytes' problem' says quiet in
     unanswered there link' source' bytes' problem' (asks_none (problem'.kind == 131) _ other known)
+
+-- ---- whoever sent it
+
+-- a message of SCMP with this type
+asks_not : (l : Layer) → (slice_index l.bytes 0 == 130) ≡ false → is_some {T = ℕ × ℕ} (request_of (Some l)) ≡ false
+asks_not l other =
+    let numbers : ℕ × ℕ = (number_at l.bytes 4 2, number_at l.bytes 6 2) in
+    let some : Option (ℕ × ℕ) = Some numbers in
+    let none : Option (ℕ × ℕ) = None in
+    ap (λ (b : Bool). is_some {T = ℕ × ℕ} (if (l.protocol == 202) && nat_le 24 (length l.bytes) && b && (slice_index l.bytes 1 == 0) then some else none)) other
+    ∙ ap (λ (o : Option (ℕ × ℕ)). is_some o) (third_false (l.protocol == 202) (nat_le 24 (length l.bytes)) (slice_index l.bytes 1 == 0) some none)
+
+-- What may be an error is known for one, and isn't a request.
+record IsKnown (p : Packet) : Type 0 where
+  known : may_be_error (upper_of (upper_layer p.header.next_header p.payload)) ≡ true
+  no_request : is_request p.header.next_header p.payload ≡ false
+
+typed : (l : Layer) (kind : ℕ) (others : List ℕ) → l.protocol ≡ 202 → l.bytes ≡ kind ∷ others → kind < 128 → may_be_error (upper_of (Some l)) ≡ true
+typed l kind others scmp bytes small =
+    ap₂ (λ (n : ℕ) (bs : List ℕ). may_be_error (if n == 202 then uppers.message bs else Other)) scmp bytes ∙ lt-ltb kind 128 small
+
+untyped : (l : Layer) → l.protocol ≡ 202 → l.bytes ≡ [] → may_be_error (upper_of (Some l)) ≡ true
+untyped l scmp bytes = ap₂ (λ (n : ℕ) (bs : List ℕ). may_be_error (if n == 202 then uppers.message bs else Other)) scmp bytes
+
+known : (p : Packet) → MayBeError p → IsKnown p
+known p (MayBeError.error l kind others found scmp bytes small) = record {
+  known = ap (λ (o : Option Layer). may_be_error (upper_of o)) found ∙ typed l kind others scmp bytes small;
+  no_request = ap (λ (o : Option Layer). is_some {T = ℕ × ℕ} (request_of o)) found
+      ∙ asks_not l (ap (λ (bs : List ℕ). slice_index bs 0 == 130) bytes ∙ ne_eqb kind 130 (λ same. absurd (omega arith)));
+}
+known p (MayBeError.no_type l found scmp bytes) = record {
+  known = ap (λ (o : Option Layer). may_be_error (upper_of o)) found ∙ untyped l scmp bytes;
+  no_request = ap (λ (o : Option Layer). is_some {T = ℕ × ℕ} (request_of o)) found ∙ asks_not l (ap (λ (bs : List ℕ). slice_index bs 0 == 130) bytes);
+}
+known p (MayBeError.cut none) = record {
+  known = ap (λ (o : Option Layer). may_be_error (upper_of o)) none;
+  no_request = ap (λ (o : Option Layer). is_some {T = ℕ × ℕ} (request_of o)) none;
+}
+
+pub none_answered : NoErrorIsAnswered
+none_answered here n link source moment bytes problem carries says =
+    let is : IsKnown (packet_of bytes) = known (packet_of bytes) carries in
+    let other : (problem.kind == 131) ≡ false = no_reply n link source moment bytes problem says is.no_request in
+    unanswered here link source bytes problem (asks_none (problem.kind == 131) _ other is.known)

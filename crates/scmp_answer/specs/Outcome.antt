@@ -33,6 +33,10 @@ abbrev pub is_sent : Reply → Bool
 is_sent (Sent link to p) = true
 is_sent (Dropped cause) = false
 
+abbrev pub is_dropped : AnswerLen → Bool
+is_dropped (len.Send link to n) = false
+is_dropped (len.Drop cause) = true
+
 -- how many bytes of the buffer are used
 abbrev pub used : AnswerLen → ℕ
 used (len.Send link to n) = n

@@ -6,7 +6,7 @@ ghost use Rattle.scion_header.specs.Address.{host_address};
 ghost use Rattle.scion_header.specs.Header.{header_fields};
 ghost use Rattle.scion_packet.specs.Packet.{Packet, first_fault};
 ghost use Rattle.scmp_answer.specs.Message.{longest};
-ghost use Rattle.scmp_answer.specs.Outcome.{IfSent, IsGood, IsWritten, is_sent, outcome, outcome_in, outcome_of, used};
+ghost use Rattle.scmp_answer.specs.Outcome.{IfSent, IsGood, IsWritten, is_dropped, is_sent, outcome, outcome_in, outcome_of, used};
 ghost use Rattle.scmp_answer.specs.Reply.{answer_packet, is_left_unanswered, local_address, reply};
 ghost use Rattle.scmp_answer.specs.WayBack.{is_external};
 
@@ -74,7 +74,8 @@ fn write_answer(
 
 /// Answers a datagram without a fault that came by the link (0 is the internal network) from the
 /// underlay's source: tells its sender of a problem, or replies to its traceroute request. The answer
-/// is at the front of the buffer, and what follows it there may have changed too. It takes no memory.
+/// is at the front of the buffer, and what follows it there may have changed too. On `Drop` nothing was
+/// written: the buffer is as it was. It takes no memory.
 pub fn answer_into(
     config: &Config,
     link: u16,
@@ -88,6 +89,7 @@ pub fn answer_into(
     // what holds of each answer
     ensures good { IfSent (reply (local_address config.now) link source bytes.now problem.now) IsGood }
     ensures len { used result ≤ longest }
+    ensures unwritten { is_dropped result ≡ true → out.new ≡ out.old }
 {
     let arriving = ParsedPacket::read(bytes);
     let payload = &bytes[arriving.payload..];

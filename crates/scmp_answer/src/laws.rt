@@ -1,9 +1,15 @@
 //! What is never answered: nothing here runs.
 
-ghost use Rattle.scmp_answer.specs.Unanswered.{ErrorsAreLeftUnanswered};
+ghost use Rattle.scmp_answer.specs.Unanswered.{ErrorsAreLeftUnanswered, NoErrorIsAnswered};
 
-/// No SCMP error message is answered: wherever an answer of type 1 or 4 comes to and isn't sent on there, it is
-/// dropped, whatever the problem.
+/// No SCMP error message is answered, whoever made it: what carries one after its extensions, or can't be told
+/// from one that does, is dropped wherever a router finds a problem with it.
+pub fn no_error_is_answered()
+    ensures { NoErrorIsAnswered }
+{}
+
+/// An answer of type 1 or 4 is such a message: wherever it comes to and isn't sent on there, it is dropped,
+/// whatever the problem.
 pub fn errors_are_left_unanswered()
     ensures { ErrorsAreLeftUnanswered }
 {}
