@@ -6,3 +6,4 @@ pub mod AnswerLemmas
 pub mod GoodLemmas
 pub mod ReplyLemmas
 pub mod UnansweredLemmas
+pub mod TellingLemmas

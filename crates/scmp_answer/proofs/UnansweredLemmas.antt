@@ -65,12 +65,12 @@ is_error here p len problem bytes c kind =
 
 -- ---- where it comes to
 
-sent_is : (a b : Bool) (r : Reply) (out : ℕ) (to : Option Underlay) (p : Packet) → (if a then Dropped NoAnswer else if b then Dropped NoWayBack else r) ≡ Sent out to p → r ≡ Sent out to p
+pub sent_is : (a b : Bool) (r : Reply) (out : ℕ) (to : Option Underlay) (p : Packet) → (if a then Dropped NoAnswer else if b then Dropped NoWayBack else r) ≡ Sent out to p → r ≡ Sent out to p
 sent_is true b r out to p is = absurd cc
 sent_is false true r out to p is = absurd cc
 sent_is false false r out to p is = is
 
-answer_of : (here : HostAddress) (link : ℕ) (source : Underlay) (bytes : List ℕ) (problem : Problem) (out : ℕ) (to : Option Underlay) (answer : Packet)
+pub answer_of : (here : HostAddress) (link : ℕ) (source : Underlay) (bytes : List ℕ) (problem : Problem) (out : ℕ) (to : Option Underlay) (answer : Packet)
     → reply here link source bytes problem ≡ Sent out to answer → answer_packet here (packet_of bytes) (way_back link (packet_of bytes).path) bytes problem ≡ answer
 unfolding reply
 answer_of here link source bytes problem out to answer sent =

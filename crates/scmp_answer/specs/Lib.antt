@@ -4,3 +4,4 @@ pub mod WayBack
 pub mod Reply
 pub mod Outcome
 pub mod Unanswered
+pub mod Telling

@@ -13,5 +13,5 @@ mod way_back;
 mod writing;
 
 pub use answering::{LONGEST_ANSWER, answer, answer_into};
-pub use laws::{errors_are_left_unanswered, no_error_is_answered};
+pub use laws::{answers_tell_problems, errors_are_left_unanswered, no_error_is_answered};
 pub use outcome::{AnswerLen, Answered};
