@@ -8,11 +8,11 @@ use Rattle.process_packet.specs.declared.cause.Cause.TheVariants as cause
 use Rattle.process_packet.specs.declared.underlay.Ip.TheVariants.{V4, V6}
 use Rattle.field_rows.specs.Place.{IsBytes}
 use Rattle.scion_packet.specs.Header.{HeaderFields, HostAddress}
-use Rattle.scion_packet.specs.Packet.{Packet, packet_of, spelling}
+use Rattle.scion_packet.specs.Packet.{IsPacket, Packet, packet_of, spelling}
 use Rattle.scion_packet.specs.Path.{Place, hop_number, hops_in, place_at}
 use Rattle.scion_packet.specs.Places.{is_followed, is_last_of_path}
 use Rattle.scion_packet.proofs.PacketLaws.{packet_only}
-use Rattle.scmp_answer.specs.Reply.{answer_packet, is_left_unanswered, reply, sent_back}
+use Rattle.scmp_answer.specs.Reply.{answer_packet, is_left_unanswered, local_address, reply, sent_back}
 use Rattle.scmp_answer.specs.Reply as answers
 use Rattle.scmp_answer.specs.WayBack.{has_no_way_back, is_external, is_first_of_segment, way_back}
 use Rattle.walk_laws.specs.PathSegments.{PathSegment, route_over}
@@ -21,10 +21,13 @@ use Rattle.walk_laws.specs.Configured.{AreNumbered}
 use Rattle.walk_laws.specs.LawfulStart.{IsIpHost, IsKnown, ReachesHost, SetsOutOn, WalksBy}
 use Rattle.net_walks.specs.Walked.{IsAnswerable, IsLawfulStop, IsAnswered, IsAskedOnTheWay, IsCarriedBack, IsWalked}
 use Rattle.walk_laws.specs.Net.{Agrees, Net, Router, router_at}
+use Rattle.walk_laws.specs.Net as nets
 use Rattle.walk_laws.specs.Domain.{IsOf}
 use Rattle.walk_laws.specs.Domain.{domain_of}
-use Rattle.net_walks.specs.Returns.{ComesBack}
-use Rattle.walk_laws.specs.Route.{IsOn, IsRoute, Route, end_of}
+use Rattle.net_walks.specs.Returns.{ComesBack, turning_point}
+use Rattle.net_walks.specs.Stops.{stops_from}
+use Rattle.net_walks.specs.Visits.{ReturnsTo, came_of}
+use Rattle.walk_laws.specs.Route.{IsOn, IsRoute, Route, end_of, reversed_route}
 use Rattle.process_packet.specs.Shown.{is_for_us, turned}
 use Rattle.walk_laws.specs.Stands.{PacketAt, IsHostOf, IsUnasked, Stands, place_of}
 use Rattle.walk_laws.specs.Start.{outset}
@@ -33,7 +36,11 @@ use Rattle.walk_laws.specs.Walk.{IsDelivered, Walks}
 use Rattle.process_packet.proofs.HostLemmas.{is_reached}
 use Rattle.walk_laws.proofs.LeavesLemmas.{same_router}
 use Rattle.walk_laws.proofs.LawfulLemmas.{end_is, its_route, sets_out}
+use Rattle.net_walks.proofs.BackWalk.{EndsThere, walks_there}
+use Rattle.net_walks.proofs.HomeLemmas.{from_home}
 use Rattle.net_walks.proofs.ReturnLemmas.{comes_back}
+use Rattle.net_walks.proofs.WalkStops.{delivered_at, few_stops, none_after, visited}
+use Rattle.walk_laws.proofs.RouteBack.{route_back}
 use Rattle.walk_laws.proofs.StartLemmas.{stands_at_outset}
 use Rattle.walk_laws.proofs.StopLemmas.{ends, goes_on}
 use Rattle.walk_laws.proofs.WalkLemmas.{far_at_most, on_route, one_at_most, router_of, same_packet}
@@ -121,21 +128,67 @@ reaches net w from moment n a host d same known =
       payload = d.payload;
     }
 
+-- a walk whose stops are such, as a walk, and as one whose stops are what follows
+plain : {net : Net} {moment : ℕ} {such : PacketAt → Type 0} {n : ℕ} {a z : PacketAt} → WalksBy net moment such n a z → Walks net moment n a z
+plain (WalksBy.is_there is) = Walks.is_there
+plain (WalksBy.goes x out to is here others verdict carried rest) = Walks.goes x out to here verdict carried (plain rest)
+
+each : {net : Net} {moment : ℕ} {such so : PacketAt → Type 0} {n : ℕ} {a z : PacketAt} → ((b : PacketAt) → such b → so b) → WalksBy net moment such n a z → WalksBy net moment so n a z
+each {a = a} f (WalksBy.is_there is) = WalksBy.is_there (f a is)
+each {a = a} f (WalksBy.goes x out to is here others verdict carried rest) = WalksBy.goes x out to (f a is) here others verdict carried (each f rest)
+
 -- ---- an answer on its way
 
+-- It comes to its host, stop by stop.
+record ComesHome (net : Net) (moment : ℕ) (a : PacketAt) (host : HostAddress) : Type 0 where
+  reaches : ReachesHost net moment 127 a host
+  returns : ReturnsTo net moment a host (stops_from net moment 128 (Some (came_of a)))
+
+comes_home : (net : Net) (w : Route) (from : Place) (moment : ℕ) (a : PacketAt) (host : HostAddress) → Agrees net → IsRoute net w moment → Stands net w from a → IsUnasked w a.packet
+    → a.packet.header.destination ≡ host → IsIpHost host → ComesHome net moment a host
+unfolding reaches
+comes_home net w from moment a host agrees route stands quiet same ip =
+    let e : EndsThere net w from moment a 127 a =
+    walks_there net w from moment a agrees route quiet 127 a (record { stands = stands; header = refl; payload = refl }) (omega arith) (is_last_of_path w.segments (place_of a)) refl in
+    let d : IsDelivered net w from moment 127 a = record {
+      end = e.end;
+      walk = plain e.walk;
+      header = e.stood.header;
+      payload = e.stood.payload;
+      stands = e.stood.stands;
+      last = e.last;
+      here = e.here;
+      here_is = e.here_is;
+      delivery = e.delivery;
+    } in
+    let r : ReachesHost net moment 127 a host = reaches net w from moment 127 a host d same (host_known e.here host ip) in
+    let lawful : WalksBy net moment (λ (b : PacketAt). IsPacket b.packet) 127 a e.end = each (λ b stood. stood.stands.way.lawful) e.walk in
+    record {
+      reaches = r;
+      returns = record {
+        end = e.end;
+        visits = visited net moment agrees (λ (b : PacketAt). IsPacket b.packet) (λ b is. is) 127 a e.end lawful (none_after net moment 127 a host r);
+        few = few_stops net moment 128 (Some (came_of a));
+        delivery = delivered_at net moment 127 a host r;
+      };
+    }
+
 carried_back : (net : Net) (w : Route) (moment : ℕ) (b : PacketAt) (x : Router) (here : HostAddress) (problem : Problem) (host : HostAddress)
-    → ComesBack net w moment b x here problem → b.packet.header.source ≡ host → IsIpHost host → IsCarriedBack net moment b x here problem host
-carried_back net w moment b x here problem host c same ip =
+    → Agrees net → IsRoute net (reversed_route w) moment → ComesBack net w moment b x here problem → b.packet.header.source ≡ host → IsIpHost host
+    → IsCarriedBack net moment b x here problem host
+carried_back net w moment b x here problem host agrees back c same ip =
     let after : PacketAt = c.returns.after in
     let for_host : c.answer.header.destination ≡ host = c.for_source ∙ same in
-    let d = c.delivered in
+    let home = comes_home net (reversed_route w) (turning_point b) moment after host agrees back c.returns.stands
+    (subst (λ (p : Packet). IsUnasked (reversed_route w) p) (sym c.returns.packet) c.quiet) (ap (λ (p : Packet). p.header.destination) c.returns.packet ∙ for_host) ip in
     record {
       answer = c.answer;
       sent = c.sent;
       first = after;
       carried = c.returns.carried;
       packet = c.returns.packet;
-      reaches = reaches net _ _ moment 127 after host d (ap (λ (p : Packet). p.header.destination) c.returns.packet ∙ for_host) (host_known d.here host ip);
+      reaches = home.reaches;
+      returns = home.returns;
     }
 
 -- ---- the answer of the first stop
@@ -225,15 +278,6 @@ walks net w moment start agrees route (suc n) a passed far false more =
       | inr asked ↦ record { end = a; walk = WalksBy.is_there passed; passed = passed; here = x.here; here_is = x.here_is; how = inr asked }
     ]
 
--- a walk whose stops are such, as a walk, and as one whose stops are what follows
-plain : {net : Net} {moment : ℕ} {such : PacketAt → Type 0} {n : ℕ} {a z : PacketAt} → WalksBy net moment such n a z → Walks net moment n a z
-plain (WalksBy.is_there is) = Walks.is_there
-plain (WalksBy.goes x out to is here others verdict carried rest) = Walks.goes x out to here verdict carried (plain rest)
-
-each : {net : Net} {moment : ℕ} {such so : PacketAt → Type 0} {n : ℕ} {a z : PacketAt} → ((b : PacketAt) → such b → so b) → WalksBy net moment such n a z → WalksBy net moment so n a z
-each {a = a} f (WalksBy.is_there is) = WalksBy.is_there (f a is)
-each {a = a} f (WalksBy.goes x out to is here others verdict carried rest) = WalksBy.goes x out to (f a is) here others verdict carried (each f rest)
-
 -- ---- the laws
 
 module _ (net : Net) (ss : List PathSegment) (moment : ℕ) (a : PacketAt) (agrees : Agrees net) (numbered : AreNumbered net) (are : IsBytes (spelling a.packet))
@@ -248,7 +292,10 @@ module _ (net : Net) (ss : List PathSegment) (moment : ℕ) (a : PacketAt) (agre
   stands = stands_at_outset net w moment a route (sets_out net ss moment a agrees numbered are s)
 
   answerable : (b : PacketAt) → Passed net w a b → IsAnswerable net moment a b
-  answerable b passed x here problem there local may can =
+  answerable b passed c problem there may =
+      let x = nets.router_of c in
+      let here = local_address c in
+      let home = from_home c in
       elim passed.first [
         | inl same ↦
             let read : a.packet ≡ packet_of (spelling a.packet) = packet_only (spelling a.packet) a.packet (record { lawful = s.lawful; text = refl }) in
@@ -256,8 +303,8 @@ module _ (net : Net) (ss : List PathSegment) (moment : ℕ) (a : PacketAt) (agre
             subst (λ (c : PacketAt). IsAnswered net moment a x here problem c) (sym same)
             (IsAnswered.straight (answer_packet here a.packet (way_back a.link a.packet.path) (spelling a.packet) problem) refl (straight here a problem read s.link may_a))
         | inr under ↦
-            let c : ComesBack net w moment b x here problem = comes_back net w moment b x here problem route passed.stands there under local agrees may can in
-            IsAnswered.back (carried_back net w moment b x here problem a.packet.header.source c (ap (λ (h : HeaderFields). h.source) passed.header) s.from_host)
+            let back : ComesBack net w moment b x here problem = comes_back net w moment b x here problem route passed.stands there under home.home agrees may home.can in
+            IsAnswered.back (carried_back net w moment b x here problem a.packet.header.source agrees (route_back w net moment route) back (ap (λ (h : HeaderFields). h.source) passed.header) s.from_host)
       ]
 
   lawful_stop : (b : PacketAt) → Passed net w a b → IsLawfulStop net moment a b

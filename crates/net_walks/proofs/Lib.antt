@@ -1,7 +1,10 @@
 pub mod LawfulAnswer
 pub mod BackStands
 pub mod ReturnLemmas
-pub mod LawfulWalk
+pub mod HomeLemmas
 pub mod StopsLemmas
 pub mod CarriedLemmas
 pub mod WalkStops
+pub mod BackWalk
+pub mod LawfulWalk
+pub mod DeliveredStops

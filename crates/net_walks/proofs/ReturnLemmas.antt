@@ -177,5 +177,6 @@ module _ (net : Net) (w : Route) (moment : ℕ) (a : PacketAt) (x : Router) (her
         sent = sent;
         for_source = refl;
         returns = returns;
+        quiet = quiet;
         delivered = walked net (reversed_route w) (turning_point a) moment returns.after agrees (route_back w net moment route) returns.stands (subst (λ (p : Packet). IsUnasked (reversed_route w) p) (sym returns.packet) quiet);
       }

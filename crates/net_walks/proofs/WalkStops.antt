@@ -6,8 +6,7 @@ use Rattle.std.proofs.lemmas.Iterator.Adapters.{position_from-zero}
 use Rattle.std.proofs.lemmas.List.Quantifiers.{position-Some}
 use Rattle.std.proofs.lemmas.Option.{slice_get-get_or}
 use Rattle.scion_packet.specs.Fault.{Fault}
-use Rattle.field_rows.specs.Place.{IsBytes}
-use Rattle.scion_packet.specs.Header.{HeaderFields, header_fault, header_of}
+use Rattle.scion_packet.specs.Header.{HeaderFields, HostAddress, header_fault, header_of}
 use Rattle.scion_packet.specs.Packet.{IsPacket, Packet, spelling}
 use Rattle.scion_packet.proofs.PacketLaws.{both_pass, packet_only, packet_passes}
 use Rattle.walk_laws.specs.Agreement.{are_of_one_as, same_end}
@@ -16,24 +15,18 @@ use Rattle.walk_laws.specs.Net.{Agrees, AreOfOneAS, Joined, Net, Router, end_at,
 use Rattle.process_packet.specs.Network.{Network, is_local}
 use Rattle.process_packet.specs.Rows.{Sent, Verdict}
 use Rattle.process_packet.specs.Underlay.{same_underlay}
-use Rattle.process_packet.specs.declared.arrival.Arrival.{Arrival}
 use Rattle.walk_laws.specs.declared.net.End.{End}
 use Rattle.walk_laws.specs.declared.net.Wire.{Wire}
 use Rattle.process_packet.specs.declared.underlay.Underlay.{Underlay}
 use Rattle.walk_laws.proofs.AgreementLemmas.{as_decides, end_decides, underlay_decides}
-use Rattle.walk_laws.specs.Configured.{AreNumbered}
-use Rattle.walk_laws.specs.LawfulStart.{LawfulStart, ReachesHost, WalksBy}
-use Rattle.walk_laws.specs.PathSegments.{PathSegment}
+use Rattle.walk_laws.specs.LawfulStart.{ReachesHost, WalksBy}
 use Rattle.process_packet.specs.Shown.{is_for_us}
 use Rattle.walk_laws.specs.Stands.{PacketAt}
 use Rattle.walk_laws.specs.Stop.{IsCarried, packet_state, verdict_at}
 use Rattle.walk_laws.proofs.CarryLemmas.{of_one, same_number}
-use Rattle.walk_laws.proofs.LawfulLemmas.{unasked}
 use Rattle.walk_laws.proofs.NetLemmas.{found, joined_ends}
-use Rattle.net_walks.specs.Stops.{Came, arrives_over, came_to, carried, carried_on, far_end, has_address, has_end, is_for_host, next_from, next_stop, other_end, over_wire, stops_from}
-use Rattle.net_walks.specs.Visits.{IsDeliveredBy, Visits, came_of, starts_at}
-use Rattle.net_walks.specs.Walked.{IsLawfulStop, IsWalked}
-use Rattle.net_walks.proofs.LawfulWalk.{starts_walked}
+use Rattle.net_walks.specs.Stops.{Came, arrives_over, carried, carried_on, far_end, has_address, has_end, is_for_host, next_from, next_stop, other_end, over_wire, stops_from}
+use Rattle.net_walks.specs.Visits.{IsDeliveredAt, Visits, came_of}
 use Rattle.net_walks.proofs.StopsLemmas.{none_further, within_host, within_is}
 
 -- ---- what is looked for is found
@@ -132,7 +125,8 @@ for_host_is n link p lawful =
 
 -- ---- from one stop to the next
 
-carried_is : (net : Net) (a b : PacketAt) (x : Router) (out : ℕ) (to : Option Underlay) → Agrees net → is_for_host x.network a.link (spelling a.packet) ≡ false
+pub carried_is : (net : Net) (a b : PacketAt) (x : Router) (out : ℕ) (to : Option Underlay) → Agrees net
+    → ((t : Underlay) → to ≡ Some t → is_for_host x.network a.link (spelling a.packet) ≡ false)
     → IsCarried net a.router x out to b → carried net x (came_of a) to out (spelling b.packet) ≡ Some (came_of b)
 carried_is net a b x out _ agrees others (IsCarried.over_wire l own joined source) =
     let bytes = spelling b.packet in
@@ -141,7 +135,7 @@ carried_is net a b x out _ agrees others (IsCarried.over_wire l own joined sourc
     ∙ ap (λ (s : Underlay). Some (record { router = b.router; link = b.link; source = s; bytes = bytes })) (sym source)
 carried_is net a b x _ (Some to) agrees others (IsCarried.within y there one internal link source) =
     let bytes = spelling b.packet in
-    within_is net.routers x (came_of a) to bytes (Some b.router) others (place_is net agrees x y to b.router there one internal)
+    within_is net.routers x (came_of a) to bytes (Some b.router) (others to refl) (place_is net agrees x y to b.router there one internal)
     ∙ ap₂ (λ (l : ℕ) (s : Underlay). Some (record { router = b.router; link = l; source = s; bytes = bytes })) (sym link) (sym source)
 
 goes_next : (net : Net) (moment : ℕ) (a b : PacketAt) (x : Router) (out : ℕ) (to : Option Underlay) → Agrees net → IsPacket a.packet → router_at net a.router ≡ Some x
@@ -151,7 +145,7 @@ unfolding next_stop
 goes_next net moment a b x out to agrees lawful here others sends is =
     ap (next_from net moment (came_of a)) here
     ∙ ap (λ (v : Verdict). carried_on net (came_of a) (decision_of v) (moved_by v (spelling a.packet)) (Some x)) sends
-    ∙ carried_is net a b x out to agrees (for_host_is x.network a.link a.packet lawful ∙ others) is
+    ∙ carried_is net a b x out to agrees (λ t same. for_host_is x.network a.link a.packet lawful ∙ others) is
 
 ends_delivered : (net : Net) (moment : ℕ) (z : PacketAt) (x : Router) (to : Underlay) (sent : Packet) → IsPacket z.packet → router_at net z.router ≡ Some x
     → is_for_us (packet_state x.network z moment (spelling z.packet)) ≡ true → verdict_at x z moment ≡ Sent 0 (Some to) sent → next_stop net moment (came_of z) ≡ None
@@ -163,7 +157,7 @@ ends_delivered net moment z x to sent lawful here for_us sends =
 
 -- ---- the whole walk
 
-visited : (net : Net) (moment : ℕ) → Agrees net → (such : PacketAt → Type 0) → ((b : PacketAt) → such b → IsPacket b.packet) → (n : ℕ) (a z : PacketAt)
+pub visited : (net : Net) (moment : ℕ) → Agrees net → (such : PacketAt → Type 0) → ((b : PacketAt) → such b → IsPacket b.packet) → (n : ℕ) (a z : PacketAt)
     → WalksBy net moment such n a z → next_stop net moment (came_of z) ≡ None → Visits such (stops_from net moment (suc n) (Some (came_of a))) z
 visited net moment agrees such lawful n a _ (WalksBy.is_there is) none =
     subst (λ (o : Option Came). Visits such (came_of a ∷ stops_from net moment n o) a) (sym none)
@@ -173,45 +167,26 @@ visited net moment agrees such lawful _ a z (WalksBy.goes {n = n} {b = b} x out 
     subst (λ (o : Option Came). Visits such (came_of a ∷ stops_from net moment (suc n) o) z) (sym next)
     (Visits.more is (visited net moment agrees such lawful n b z rest none))
 
-few_stops : (net : Net) (moment n : ℕ) (o : Option Came) → length (stops_from net moment n o) ≤ n
+pub few_stops : (net : Net) (moment n : ℕ) (o : Option Came) → length (stops_from net moment n o) ≤ n
 few_stops net moment zero o = omega arith
 few_stops net moment (suc n) None = omega arith
 few_stops net moment (suc n) (Some c) = let rest = few_stops net moment n (next_stop net moment c) in omega arith
 
-delivered_by : (net : Net) (moment : ℕ) (a : PacketAt) → Agrees net → IsWalked net moment a → IsDeliveredBy net moment a (stops_from net moment 128 (Some (came_of a)))
-delivered_by net moment a agrees walked =
-    let r : ReachesHost net moment 127 a a.packet.header.destination = walked.reaches in
-    let none = ends_delivered net moment r.end r.here r.to r.sent r.lawful r.here_is r.for_us r.delivery in
-    record {
-      end = r.end;
-      visits = visited net moment agrees (IsLawfulStop net moment a) (λ b is. is.lawful) 127 a r.end walked.stops none;
-      few = few_stops net moment 128 (Some (came_of a));
-      delivery = record {
-        here = r.here;
-        here_is = r.here_is;
-        home = r.home;
-        to = r.to;
-        address = r.address;
-        decision = ap decision_of r.delivery;
-        sent = r.sent;
-        bytes = ap (λ (v : Verdict). moved_by v (spelling r.end.packet)) r.delivery;
-        header = r.header;
-        payload = r.payload;
-      };
-    }
+-- the host gets the packet
+pub delivered_at : (net : Net) (moment n : ℕ) (a : PacketAt) (host : HostAddress) (r : ReachesHost net moment n a host) → IsDeliveredAt net moment a r.end host
+delivered_at net moment n a host r = record {
+  here = r.here;
+  here_is = r.here_is;
+  home = r.home;
+  to = r.to;
+  address = r.address;
+  decision = ap decision_of r.delivery;
+  sent = r.sent;
+  bytes = ap (λ (v : Verdict). moved_by v (spelling r.end.packet)) r.delivery;
+  header = r.header;
+  payload = r.payload;
+}
 
--- what sets out lawfully is delivered at the last of its stops
-walks_deliver : (net : Net) (ss : List PathSegment) (moment : ℕ) (a : PacketAt) → Agrees net → AreNumbered net → IsBytes (spelling a.packet) → LawfulStart net ss moment a
-    → IsDeliveredBy net moment a (stops_from net moment 128 (Some (came_of a)))
-walks_deliver net ss moment a agrees numbered are start =
-    delivered_by net moment a agrees (starts_walked net ss moment a agrees numbered are start.sets_out (unasked net ss moment a agrees numbered are start.sets_out start.quiet))
-
-pub stops_deliver : (net : Net) (ss : List PathSegment) (router : ℕ) (arrival : Arrival) (p : Packet) (stops : List Came) → Agrees net → AreNumbered net → IsBytes arrival.bytes.items → arrival.bytes.items ≡ spelling p
-    → LawfulStart net ss arrival.now (starts_at router arrival p) → stops ≡ stops_from net arrival.now 128 (Some (came_to router arrival))
-    → IsDeliveredBy net arrival.now (starts_at router arrival p) stops
-stops_deliver net ss router arrival p stops agrees numbered are text start made =
-    let a : PacketAt = starts_at router arrival p in
-    let same : stops ≡ stops_from net arrival.now 128 (Some (came_of a)) =
-    made
-    ∙ ap (λ (b : List ℕ). stops_from net arrival.now 128 (Some (record { router = router; link = arrival.link; source = arrival.source; bytes = b }))) text in
-    subst (IsDeliveredBy net arrival.now a) (sym same) (walks_deliver net ss arrival.now a agrees numbered (subst IsBytes text are) start)
+-- and then it goes nowhere
+pub none_after : (net : Net) (moment n : ℕ) (a : PacketAt) (host : HostAddress) (r : ReachesHost net moment n a host) → next_stop net moment (came_of r.end) ≡ None
+none_after net moment n a host r = ends_delivered net moment r.end r.here r.to r.sent r.lawful r.here_is r.for_us r.delivery

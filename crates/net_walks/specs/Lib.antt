@@ -3,3 +3,4 @@ pub mod Walked
 pub mod Stops
 pub mod Coming
 pub mod Visits
+pub mod Outcomes

@@ -15,7 +15,7 @@ use Rattle.walk_laws.specs.Net.{Agrees, Net, Router, router_at}
 use Rattle.walk_laws.specs.Domain.{domain_of}
 use Rattle.walk_laws.specs.LawfulStart.{IsIpHost}
 use Rattle.walk_laws.specs.Route.{IsRoute, Route, reversed_route}
-use Rattle.walk_laws.specs.Stands.{PacketAt, IsHostOf, IsOnItsWay, Stands, place_of}
+use Rattle.walk_laws.specs.Stands.{PacketAt, IsHostOf, IsOnItsWay, IsUnasked, Stands, place_of}
 use Rattle.walk_laws.specs.Stop.{IsCarried}
 use Rattle.walk_laws.specs.Walk.{IsDelivered}
 
@@ -48,24 +48,29 @@ pub record CanAnswer (here : HostAddress) : Type 0 where
   pub address : IsAddress here
   pub ip : IsIpHost here
 
--- The router's answer is sent, stands on the way back, and is delivered there.
+-- The router's answer is sent, stands on the way back, asks no router there, and is delivered.
 pub record ComesBack (net : Net) (w : Route) (moment : ℕ) (a : PacketAt) (x : Router) (here : HostAddress) (problem : Problem) : Type 0 where
   pub answer : Packet
   pub sent : reply here a.link a.source (spelling a.packet) problem ≡ Sent a.link (if is_external a.link then None else Some a.source) answer
   pub for_source : answer.header.destination ≡ a.packet.header.source
   pub returns : ReturnsOn net w a x answer
+  pub quiet : IsUnasked (reversed_route w) answer
   pub delivered : IsDelivered net (reversed_route w) (turning_point a) moment 127 returns.after
 
--- Wherever a packet stands that set out at the route's first hop, an answer to it comes back to its source, if it may be
--- answered at all.
+-- Wherever a packet stands that set out at the route's first hop, the answer of a router there comes back to its source, if it
+-- may be answered at all.
 abbrev pub AnswersComeBack : Type 0
 AnswersComeBack =
-    (net : Net) (w : Route) (moment : ℕ) (a : PacketAt) (x : Router) (here : HostAddress) (problem : Problem) → Agrees net → IsRoute net w moment
-    → Stands net w (place_at 0 0) a → router_at net a.router ≡ Some x → IsUnderWay a → IsHostOf here (domain_of x)
-    → is_left_unanswered a.packet problem ≡ false → CanAnswer here → ComesBack net w moment a x here problem
+    (net : Net) (w : Route) (moment : ℕ) (a : PacketAt) (c : Config) (problem : Problem) → Agrees net → IsRoute net w moment
+    → Stands net w (place_at 0 0) a → router_at net a.router ≡ Some (router_of c) → IsUnderWay a
+    → is_left_unanswered a.packet problem ≡ false → ComesBack net w moment a (router_of c) (local_address c) problem
 
 -- ---- who answers
 
--- the address from which a router answers is of its AS
+-- The address from which a router answers is of its AS, and an IP address that a header has room for.
+pub record AnswersFromHome (c : Config) : Type 0 where
+  pub home : IsHostOf (local_address c) (domain_of (router_of c))
+  pub can : CanAnswer (local_address c)
+
 abbrev pub RoutersAnswerFromHome : Type 0
-RoutersAnswerFromHome = (c : Config) → IsHostOf (local_address c) (domain_of (router_of c))
+RoutersAnswerFromHome = (c : Config) → AnswersFromHome c

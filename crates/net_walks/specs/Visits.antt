@@ -1,7 +1,7 @@
--- The stops of a walk, and that what sets out lawfully is delivered at the last one.
+-- The stops of a walk, as datagrams, and its end.
 use Rattle.std.specs.Prelude.{◌≡◌, ◌≤◌, ℕ, List, [], ◌∷◌, length, Some}
 use Rattle.scion_packet.specs.Header.{HostAddress}
-use Rattle.scion_packet.specs.Packet.{Packet, spelling}
+use Rattle.scion_packet.specs.Packet.{IsPacket, Packet, spelling}
 use Rattle.process_packet.specs.Decide.{decide, moved}
 use Rattle.walk_laws.specs.Net.{Net, Router, router_at}
 use Rattle.process_packet.specs.declared.arrival.Arrival.{Arrival}
@@ -11,7 +11,6 @@ use Rattle.walk_laws.specs.Domain.{domain_of}
 use Rattle.process_packet.specs.Hosts.{IsReachedAt}
 use Rattle.walk_laws.specs.Stands.{IsHostOf, PacketAt}
 use Rattle.net_walks.specs.Stops.{Came}
-use Rattle.net_walks.specs.Walked.{IsLawfulStop}
 
 -- the datagram of a packet
 abbrev pub came_of : PacketAt → Came
@@ -40,9 +39,9 @@ pub record IsDeliveredAt (net : Net) (moment : ℕ) (start end : PacketAt) (host
   pub header : sent.header ≡ start.packet.header
   pub payload : sent.payload ≡ start.packet.payload
 
--- The last stop delivers the packet to its destination, and an answer to it from any of them comes back.
-pub record IsDeliveredBy (net : Net) (moment : ℕ) (start : PacketAt) (stops : List Came) : Type 0 where
+-- In at most 128 stops, each with a lawful packet, it is delivered to this host at the last one.
+pub record ReturnsTo (net : Net) (moment : ℕ) (start : PacketAt) (host : HostAddress) (stops : List Came) : Type 0 where
   pub end : PacketAt
-  pub visits : Visits (IsLawfulStop net moment start) stops end
+  pub visits : Visits (λ (b : PacketAt). IsPacket b.packet) stops end
   pub few : length stops ≤ 128
-  pub delivery : IsDeliveredAt net moment start end start.packet.header.destination
+  pub delivery : IsDeliveredAt net moment start end host

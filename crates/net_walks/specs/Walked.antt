@@ -4,21 +4,22 @@ use Rattle.field_rows.specs.Place.{IsBytes}
 use Rattle.scion_packet.specs.Header.{HostAddress}
 use Rattle.scion_packet.specs.Packet.{IsPacket, Packet, spelling}
 use Rattle.process_packet.specs.declared.decision.Problem.{Problem}
-use Rattle.net_walks.specs.Returns.{CanAnswer}
-use Rattle.scmp_answer.specs.Reply.{is_left_unanswered, reply}
+use Rattle.process_packet.specs.declared.config.Config.{Config}
+use Rattle.net_walks.specs.Stops.{most_stops, stops_from}
+use Rattle.net_walks.specs.Visits.{ReturnsTo, came_of}
+use Rattle.scmp_answer.specs.Reply.{is_left_unanswered, local_address, reply}
 use Rattle.scmp_answer.specs.Reply as answers
 use Rattle.scmp_answer.specs.WayBack.{is_external}
 use Rattle.walk_laws.specs.PathSegments.{PathSegment, route_over}
 use Rattle.walk_laws.specs.Configured.{AreNumbered}
 use Rattle.walk_laws.specs.LawfulStart.{LawfulStart, ReachesHost, SetsOutOn, WalksBy}
-use Rattle.walk_laws.specs.Net.{Agrees, Net, Router, router_at}
-use Rattle.walk_laws.specs.Domain.{domain_of}
-use Rattle.walk_laws.specs.Stands.{PacketAt, IsHostOf}
+use Rattle.walk_laws.specs.Net.{Agrees, Net, Router, router_at, router_of}
+use Rattle.walk_laws.specs.Stands.{PacketAt}
 use Rattle.walk_laws.specs.Stop.{IsAsked, IsCarried, verdict_at}
 
 -- ---- answers
 
--- The answer is sent the way by which the packet came, comes to a router there, and from there to this host.
+-- The answer is sent the way by which the packet came, comes to a router there, and from there to this host, stop by stop.
 pub record IsCarriedBack (net : Net) (moment : ℕ) (b : PacketAt) (x : Router) (here : HostAddress) (problem : Problem) (host : HostAddress) : Type 0 where
   pub answer : Packet
   pub sent : reply here b.link b.source (spelling b.packet) problem ≡ answers.Sent b.link (if is_external b.link then None else Some b.source) answer
@@ -26,6 +27,7 @@ pub record IsCarriedBack (net : Net) (moment : ℕ) (b : PacketAt) (x : Router) 
   pub carried : IsCarried net b.router x b.link (if is_external b.link then None else Some b.source) first
   pub packet : first.packet ≡ answer
   pub reaches : ReachesHost net moment 127 first host
+  pub returns : ReturnsTo net moment first host (stops_from net moment most_stops (Some (came_of first)))
 
 -- From the first stop the answer goes straight to where the packet came from, from a later one to its source host.
 pub data IsAnswered (net : Net) (moment : ℕ) (start : PacketAt) (x : Router) (here : HostAddress) (problem : Problem) : PacketAt → Type 0 where
@@ -34,12 +36,11 @@ pub data IsAnswered (net : Net) (moment : ℕ) (start : PacketAt) (x : Router) (
       → IsAnswered net moment start x here problem start
   back : {b : PacketAt} → IsCarriedBack net moment b x here problem start.packet.header.source → IsAnswered net moment start x here problem b
 
--- At this stop, for each problem, if it may be answered at all.
+-- At this stop, by the router there, for each problem, if it may be answered at all.
 abbrev pub IsAnswerable : Net → ℕ → PacketAt → PacketAt → Type 0
 IsAnswerable net moment start b =
-    (x : Router) (here : HostAddress) (problem : Problem) → router_at net b.router ≡ Some x → IsHostOf here (domain_of x)
-    → is_left_unanswered b.packet problem ≡ false → CanAnswer here
-    → IsAnswered net moment start x here problem b
+    (c : Config) (problem : Problem) → router_at net b.router ≡ Some (router_of c) → is_left_unanswered b.packet problem ≡ false
+    → IsAnswered net moment start (router_of c) (local_address c) problem b
 
 -- ---- walks
 

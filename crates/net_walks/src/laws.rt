@@ -9,8 +9,8 @@ pub fn answers_stand_too()
     ensures { AnswersStandToo }
 {}
 
-/// Wherever a packet is that set out at the route's first hop, an answer to it comes back to where
-/// it came from, if it may be answered at all.
+/// Wherever a packet is that set out at the route's first hop, the answer of the router there comes back to
+/// where it came from, if it may be answered at all.
 pub fn answers_come_back()
     ensures { AnswersComeBack }
 {}
@@ -28,7 +28,7 @@ pub fn requests_are_walked()
     ensures { RequestsAreWalked }
 {}
 
-/// The address from which a router answers is one of its AS.
+/// The address from which a router answers is one of its AS, and an IP address that a header has room for.
 pub fn routers_answer_from_home()
     ensures { RoutersAnswerFromHome }
 {}

@@ -1,14 +1,16 @@
 //! The walk of a packet through a net of border routers.
 
-ghost use Rattle.std.specs.Prelude.{All, ◌≡◌, ◌<◌, ◌++◌, ◌∷◌, [], ℕ, List, Some, IfOk, IfSome, OnOk, length, map, option_map};
+ghost use Rattle.std.specs.Prelude.{All, ◌≡◌, ◌⊎◌, ◌<◌, ◌++◌, ◌∷◌, [], ℕ, List, Some, IfOk, IfSome, OnOk, length, map, option_map};
 ghost use Rattle.field_rows.specs.Place.{IsBytes};
 ghost use Rattle.walk_laws.specs.Net.{Agrees, net_of, router_at};
 ghost use Rattle.net_walks.specs.Stops.{IsStop, came_by, came_so, came_to, most_stops, sent_from, next_stop, stops_from};
 ghost use Rattle.net_walks.specs.Coming as way;
-ghost use Rattle.net_walks.specs.Visits.{IsDeliveredBy, starts_at};
+ghost use Rattle.net_walks.specs.Outcomes.{IsDeliveredBy, IsRepliedTo, IsReply};
+ghost use Rattle.net_walks.specs.Visits.{ReturnsTo, starts_at};
 ghost use Rattle.scion_packet.specs.Packet.{Packet, spelling};
-ghost use Rattle.walk_laws.specs.LawfulStart.{LawfulStart};
+ghost use Rattle.walk_laws.specs.LawfulStart.{LawfulStart, SetsOutOn};
 ghost use Rattle.walk_laws.specs.PathSegments.{PathSegment};
+ghost use Rattle.walk_laws.specs.Stands.{PacketAt};
 
 use crate::carrying::{over_wire, within};
 use crate::stop::Stop;
@@ -164,6 +166,17 @@ pub fn walk(
         (ss : List PathSegment) (p : Packet) → here.bytes.items ≡ spelling p
         → LawfulStart (net_of net.now) ss here.now (starts_at router here p)
         → IfOk result (λ stops. IsDeliveredBy (net_of net.now) here.now (starts_at router here p) (map came_by stops.items)) }
+    // so is a request with router alert flags set, or the last stop's router replies to it
+    ensures asked { let here = arrival.entry.now in
+        (ss : List PathSegment) (p : Packet) → here.bytes.items ≡ spelling p
+        → SetsOutOn (net_of net.now) ss here.now (starts_at router here p)
+        → IfOk result (λ stops. IsDeliveredBy (net_of net.now) here.now (starts_at router here p) (map came_by stops.items)
+        ⊎ IsRepliedTo (net_of net.now) ss here.now (starts_at router here p) (map came_by stops.items)) }
+    // where a router's answer to a stop of such a walk after its first one comes first, it is walked to the source host
+    ensures returned { let here = arrival.entry.now in
+        (ss : List PathSegment) (start : PacketAt) (r : IsReply (net_of net.now) here.now start (came_to router here))
+        → IsBytes (spelling start.packet) → LawfulStart (net_of net.now) ss here.now start
+        → IfOk result (λ stops. ReturnsTo (net_of net.now) here.now (starts_at router here r.answer) start.packet.header.source (map came_by stops.items)) }
 {
     let mut stops = Vec::new(alloc);
     let mut coming = first(alloc, router, arrival)?;

@@ -27,6 +27,8 @@ mod samples;
 #[cfg(test)]
 mod segments;
 #[cfg(test)]
+mod sound;
+#[cfg(test)]
 mod walks;
 #[cfg(test)]
 mod wires;

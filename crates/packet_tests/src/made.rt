@@ -249,7 +249,7 @@ fn extend(rt: &(impl AllocGlobal + Abort), bytes: &mut Vec<u8>, more: &[u8]) {
     bytes.extend_from_slice(more).expect(rt, "bytes");
 }
 
-fn push_hop(rt: &(impl AllocGlobal + Abort), bytes: &mut Vec<u8>, hop: &Hop) {
+pub(crate) fn push_hop(rt: &(impl AllocGlobal + Abort), bytes: &mut Vec<u8>, hop: &Hop) {
     extend(rt, bytes, &[0, hop.expiry]);
     extend(rt, bytes, &hop.construction_ingress.to_be_bytes());
     extend(rt, bytes, &hop.construction_egress.to_be_bytes());

@@ -1,12 +1,18 @@
 //! Walks over three ASes in a row, 1-ff00:0:111, 1-ff00:0:110 and 1-ff00:0:112, of one router each. The
-//! hop fields' MACs were made by OpenSSL.
+//! hop fields' MACs are made by `beacon`, and are those that OpenSSL made; the reply is made by `answer`.
 
 ghost use Rattle.std.specs.Prelude.{◌≡◌, ◌<◌, IsTrue, IfOk, length};
 ghost use Rattle.walk_laws.specs.Net.{Agrees, net_of};
 
+use crate::hops::hop_between;
+use crate::made::push_hop;
+use crate::sound::is_sound;
+use cmac_core::Cmac;
+use hop_check::beacon;
 use net_walks::{Stop, walk};
 use process_packet::{Arrival, Ip, NoMemory, Problem, Routed, Underlay};
 use router_config::read_config;
+use scmp_answer::{Answered, answer};
 use std::alloc::Global;
 use std::process::Abort;
 use walk_laws::{End, Net, Wire, agrees};
@@ -27,7 +33,27 @@ const LAST: &str =
     internal = \"10.2.0.250:30000\"\nhost_port = 30041\nprocessors = 1\ncapacity = 4\nseed = 0\n\
     link = [{id=18, kind=\"parent\", local=\"10.2.0.2:40000\", remote=\"10.2.0.1:40000\"}]\n";
 
-/// From 1-ff00:0:111, 10.1.0.5 to 1-ff00:0:112, 10.2.0.7, as the host sends it.
+/// The keys of the three ASes, and when their segment was made.
+const KEYS: [[u8; 16]; 3] = [
+    [0, 1, 2, 3, 4, 5, 6, 7, 8, 9, 10, 11, 12, 13, 14, 15],
+    [
+        0x2b, 0x7e, 0x15, 0x16, 0x28, 0xae, 0xd2, 0xa6, 0xab, 0xf7, 0x15, 0x88, 0x09, 0xcf, 0x4f,
+        0x3c,
+    ],
+    [
+        16, 17, 18, 19, 20, 21, 22, 23, 24, 25, 26, 27, 28, 29, 30, 31,
+    ],
+];
+
+const MADE_AT: u32 = 0x65000000;
+
+/// The datagram up to its hop fields, and what follows them.
+const FRONT: &str = "0000000111150008010000000001ff00000001120001ff00000001110a0200070a010005\
+    000030000100123465000000";
+
+const PAYLOAD: &str = "7559755900080000";
+
+/// From 1-ff00:0:111, 10.1.0.5 to 1-ff00:0:112, 10.2.0.7, as the host sends it, with OpenSSL's MACs.
 const DATAGRAM: &str = "0000000111150008010000000001ff00000001120001ff00000001110a0200070a010005\
     00003000010012346500000000\
     3f000000116349aa95d77c003f000100026193b6549f1e003f0012000026d850ac58d37559755900080000";
@@ -64,6 +90,68 @@ fn bytes_of(rt: &(impl AllocGlobal + Abort), digits: &str) -> Vec<u8> {
         "hex"
     );
     bytes
+}
+
+fn extend(rt: &(impl AllocGlobal + Abort), bytes: &mut Vec<u8>, digits: &str) {
+    bytes
+        .extend_from_slice(bytes_of(rt, digits).as_slice())
+        .expect(rt, "bytes");
+}
+
+/// The datagram with the MACs that `beacon` makes for its hop fields.
+fn datagram(rt: &(impl AllocGlobal + Abort)) -> Vec<u8> {
+    let keys = [
+        Cmac::new(&KEYS[0]),
+        Cmac::new(&KEYS[1]),
+        Cmac::new(&KEYS[2]),
+    ];
+    let mut hops = [
+        hop_between(0, 17, 63, [0; 6]),
+        hop_between(1, 2, 63, [0; 6]),
+        hop_between(18, 0, 63, [0; 6]),
+    ];
+    beacon(&keys, 0x1234, MADE_AT, &mut hops);
+    let mut bytes = bytes_of(rt, FRONT);
+    for hop in &hops {
+        push_hop(rt, &mut bytes, hop);
+    }
+    extend(rt, &mut bytes, PAYLOAD);
+    bytes
+}
+
+/// The same bytes, but for one.
+fn with_byte(rt: &(impl AllocGlobal + Abort), bytes: &[u8], at: usize, byte: u8) -> Vec<u8> {
+    bytes
+        .iter()
+        .enumerate()
+        .map(|(i, old)| if i == at { byte } else { *old })
+        .collect(rt.alloc())
+        .expect(rt, "bytes")
+}
+
+/// The bytes of the answer of a net's router to a datagram without a fault, where it is sent by this
+/// link.
+fn reply(
+    alloc: Global,
+    net: &Net,
+    router: usize,
+    arrival: &Arrival,
+    problem: &Problem,
+) -> Result<Option<Vec<u8>>, NoMemory> {
+    let Some(config) = net.configs.get(router) else {
+        return Ok(None);
+    };
+    if !is_sound(arrival.bytes.as_slice()) {
+        return Ok(None);
+    }
+    match answer(alloc, config, arrival, problem)? {
+        Answered::Send {
+            link,
+            to: None,
+            bytes,
+        } if link == arrival.link => Ok(Some(bytes)),
+        _ => Ok(None),
+    }
 }
 
 fn arrival(bytes: Vec<u8>, link: u16, source: Underlay) -> Arrival {
@@ -141,7 +229,9 @@ fn answers(stop: &Stop, wanted: Problem) -> bool {
 #[test]
 fn walks_to_the_host(rt: HostRuntime) {
     let net = net(&rt);
-    let start = arrival(bytes_of(&rt, DATAGRAM), 0, underlay([10, 1, 0, 5], 30041));
+    let bytes = datagram(&rt);
+    assert!(rt; bytes.as_slice() == bytes_of(&rt, DATAGRAM).as_slice());
+    let start = arrival(bytes, 0, underlay([10, 1, 0, 5], 30041));
     let stops = walked(rt.alloc(), &net, 0, &start).expect(&rt, "memory");
     let [one, two, three] = stops.as_slice() else {
         return assert!(rt; false, "three stops");
@@ -155,8 +245,26 @@ fn walks_to_the_host(rt: HostRuntime) {
 #[test]
 fn an_answer_walks_back(rt: HostRuntime) {
     let net = net(&rt);
-    let start = arrival(bytes_of(&rt, ANSWER), 17, underlay([10, 1, 0, 1], 40000));
+    let start = arrival(datagram(&rt), 0, underlay([10, 1, 0, 5], 30041));
     let stops = walked(rt.alloc(), &net, 0, &start).expect(&rt, "memory");
+    let [_, two, _] = stops.as_slice() else {
+        return assert!(rt; false, "three stops");
+    };
+    // as it came to the middle router, with another payload length
+    let longer = with_byte(&rt, two.arrival.bytes.as_slice(), 7, 9);
+    let there = arrival(longer, two.arrival.link, two.arrival.source);
+    let problem = Problem {
+        kind: 4,
+        code: 19,
+        pointer: 0,
+    };
+    let sent = reply(rt.alloc(), &net, two.router, &there, &problem).expect(&rt, "memory");
+    let Some(bytes) = sent else {
+        return assert!(rt; false, "an answer");
+    };
+    assert!(rt; bytes.as_slice() == bytes_of(&rt, ANSWER).as_slice());
+    let back = arrival(bytes, 17, underlay([10, 1, 0, 1], 40000));
+    let stops = walked(rt.alloc(), &net, 0, &back).expect(&rt, "memory");
     let [one] = stops.as_slice() else {
         return assert!(rt; false, "one stop");
     };

@@ -5,16 +5,18 @@ use Rattle.segment_switch.specs.Pairs.{changes_over}
 use Rattle.segment_switch.specs.declared.kind.LinkKind.TheVariants.{Child}
 use Rattle.hop_check.specs.Beaconing.{AreBeaconed}
 use Rattle.walk_laws.specs.Example.{address, example_key, link_to}
-use Rattle.walk_laws.specs.ExampleTurn.{down, family, one_child, other_child, parent, turn, up}
+use Rattle.walk_laws.specs.ExampleTurn.{down, family, one_child, neighbour, other_child, parent, second_parent, turn, up}
 use Rattle.walk_laws.specs.PathSegments.{AreWired, HasItsKey, IsBeaconed, IsPathOver, fields_of, keys_of, kind_before, kind_after, entry_at, met, part}
 use Rattle.walk_laws.specs.Net.{Router, router_at}
 use Rattle.walk_laws.specs.Domain.{Domain}
 
-one_key : (r : ℕ) (x : Router) → router_at family r ≡ Some x → x.network.key ≡ example_key
+pub one_key : (r : ℕ) (x : Router) → router_at family r ≡ Some x → x.network.key ≡ example_key
 one_key zero x is = let same : one_child ≡ x = cc in ap (λ (y : Router). y.network.key) (sym same)
 one_key (suc zero) x is = let same : parent ≡ x = cc in ap (λ (y : Router). y.network.key) (sym same)
-one_key (suc (suc zero)) x is = let same : other_child ≡ x = cc in ap (λ (y : Router). y.network.key) (sym same)
-one_key (suc (suc (suc r))) x is = absurd cc
+one_key (suc (suc zero)) x is = let same : second_parent ≡ x = cc in ap (λ (y : Router). y.network.key) (sym same)
+one_key (suc (suc (suc zero))) x is = let same : other_child ≡ x = cc in ap (λ (y : Router). y.network.key) (sym same)
+one_key (suc (suc (suc (suc zero)))) x is = let same : neighbour ≡ x = cc in ap (λ (y : Router). y.network.key) (sym same)
+one_key (suc (suc (suc (suc (suc r))))) x is = absurd cc
 
 up_keys : (k : ℕ) → k < 2 → HasItsKey family (entry_at up k)
 up_keys zero there r x is home = one_key r x is
@@ -53,7 +55,7 @@ up_wired (suc k) more = absurd (omega arith)
 
 down_wired : (k : ℕ) → k + 1 < 2 → AreWired family false (entry_at down k) (entry_at down (k + 1))
 down_wired zero more = record {
-  sender = parent;
+  sender = second_parent;
   sender_is = refl;
   sender_home = record { isd = refl; autonomous_system = refl };
   taker = other_child;
@@ -66,9 +68,12 @@ down_wired zero more = record {
 }
 down_wired (suc k) more = absurd (omega arith)
 
+pub down_is : IsBeaconed family down
+down_is = record { two = omega arith; beta = omega arith; keys = down_keys; macs = down_macs; wired = down_wired }
+
 beaconed : (k : ℕ) → k < 2 → IsBeaconed family (part turn k)
 beaconed zero there = record { two = omega arith; beta = omega arith; keys = up_keys; macs = up_macs; wired = up_wired }
-beaconed (suc zero) there = record { two = omega arith; beta = omega arith; keys = down_keys; macs = down_macs; wired = down_wired }
+beaconed (suc zero) there = down_is
 beaconed (suc (suc k)) there = absurd (omega arith)
 
 two : (k : ℕ) → k < 2 → length (part turn k).made ≡ 2

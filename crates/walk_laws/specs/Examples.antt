@@ -2,7 +2,7 @@
 use Rattle.std.specs.Prelude.{ℕ}
 use Rattle.walk_laws.specs.Example.{example_net}
 use Rattle.walk_laws.specs.ExampleHops.{example_against, example_path, example_start}
-use Rattle.walk_laws.specs.ExampleTurn.{family, turn}
+use Rattle.walk_laws.specs.ExampleTurn.{descent, descent_start, family, turn}
 use Rattle.walk_laws.specs.PathSegments.{IsBeaconed, IsPathOver}
 use Rattle.walk_laws.specs.LawfulStart.{LawfulStart}
 use Rattle.walk_laws.specs.Net.{Agrees}
@@ -11,10 +11,12 @@ use Rattle.walk_laws.specs.Net.{Agrees}
 abbrev pub moment : ℕ
 moment = 1694499816
 
--- The example's packet sets out lawfully; the segment is one too where it is travelled against, and so is the
--- path up and down.
+-- The example's packet sets out lawfully; the segment is one too where it is travelled against, and so is the path up and down.
+-- A packet sets out lawfully that changes its segment in an AS of two routers, so that its pair of links is split over both.
 pub record ExamplesAreLawful : Type 0 where
   pub agrees : Agrees example_net
   pub starts : LawfulStart example_net example_path moment example_start
   pub against : IsBeaconed example_net example_against
   pub turns : IsPathOver family turn
+  pub family_agrees : Agrees family
+  pub descends : LawfulStart family descent moment descent_start

@@ -53,8 +53,8 @@ pub fn hops_make_routes()
     ensures { HopsMakeRoutes }
 {}
 
-/// The definitions hold of the examples: a packet that sets out over three ASes, and a path that changes
-/// its segment.
+/// The definitions hold of the examples: a packet that sets out over three ASes, a path up and down, and a
+/// packet that changes its segment in an AS of two routers, each of which lists the other's links.
 pub fn examples_are_lawful()
     ensures { ExamplesAreLawful }
 {}

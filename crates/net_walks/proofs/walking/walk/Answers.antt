@@ -8,7 +8,7 @@ use Rattle.net_walks.specs.Stops.{Came, IsStop, came_by, came_to, next_stop, sto
 use Rattle.net_walks.specs.declared.walking.Coming.{Coming}
 use Rattle.net_walks.proofs.CarriedLemmas.{next_there}
 use Rattle.net_walks.proofs.StopsLemmas.{all_made, one_further}
-use Rattle.net_walks.proofs.WalkStops.{stops_deliver}
+use Rattle.net_walks.proofs.DeliveredStops.{stops_answer, stops_deliver, stops_return}
 use Rattle.net_walks.proofs.walking.walk.Goals as goal
 
 pub returns-in-None-clause-stops : goal.returns-in-None-clause-stops
@@ -24,26 +24,41 @@ returns-in-None-clause-stops c =
 
 pub returns-in-None-clause-delivered : goal.returns-in-None-clause-delivered
 returns-in-None-clause-delivered c ss p text start =
-    let net : Net = net_of c.args.net.now in
-    let moment = c.args.arrival.now.now in
-    let here : Came = way.coming c.loop.coming in
-    let less = c.loop-test.true in
-    let none : next_stop net moment here ≡ None =
-    ap (λ (m : ℕ). next_stop net m here) (sym c.loop.invariant.moment) ∙ sym c.in_ok-next.ensures.next ∙ ap (option_map way.coming) c.in-None.is in
-    stops_deliver net ss c.args.router c.args.arrival.now p (map came_by c.go_on.new.stops.items) c.requires.agrees (net_numbered c.args.net.now) (subst IsBytes (ap (λ (x : Came). x.bytes) c.in_ok-coming.ensures.came) c.in_ok-coming.ensures.are) text start
-    (all_made net moment 128 c.loop.counter (map came_by c.loop.stops.items) (map came_by c.go_on.new.stops.items) here
-    (stops_from net moment 128 (Some (came_to c.args.router c.args.arrival.now))) (omega arith) c.in_ok-next.ensures.came c.loop.invariant.made none)
+    stops_deliver (net_of c.args.net.now) ss c.args.router c.args.arrival.now p (map came_by c.go_on.new.stops.items) c.requires.agrees (net_numbered c.args.net.now)
+    (subst IsBytes (ap (λ (x : Came). x.bytes) c.in_ok-coming.ensures.came) c.in_ok-coming.ensures.are) text start (returns-in-None-clause-stops c)
 
-pub returns-clause-delivered : goal.returns-clause-delivered
-returns-clause-delivered c ss p text start =
+pub returns-in-None-clause-asked : goal.returns-in-None-clause-asked
+returns-in-None-clause-asked c ss p text start =
+    stops_answer (net_of c.args.net.now) ss c.args.router c.args.arrival.now p (map came_by c.go_on.new.stops.items) c.requires.agrees (net_numbered c.args.net.now)
+    (subst IsBytes (ap (λ (x : Came). x.bytes) c.in_ok-coming.ensures.came) c.in_ok-coming.ensures.are) text start (returns-in-None-clause-stops c)
+
+pub returns-in-None-clause-returned : goal.returns-in-None-clause-returned
+returns-in-None-clause-returned c ss start r are lawful =
+    stops_return (net_of c.args.net.now) ss c.args.router c.args.arrival.now start (map came_by c.go_on.new.stops.items) c.requires.agrees (net_numbered c.args.net.now) are lawful r (returns-in-None-clause-stops c)
+
+pub returns-clause-stops : goal.returns-clause-stops
+returns-clause-stops c =
     let net : Net = net_of c.args.net.now in
     let moment = c.args.arrival.now.now in
     let over = c.loop-test.false in
     let end : 128 - c.loop.counter ≡ 0 = omega arith in
-    stops_deliver net ss c.args.router c.args.arrival.now p (map came_by c.loop.stops.items) c.requires.agrees (net_numbered c.args.net.now) (subst IsBytes (ap (λ (x : Came). x.bytes) c.in_ok-coming.ensures.came) c.in_ok-coming.ensures.are) text start
-    (sym (append-nil (map came_by c.loop.stops.items))
+    sym (append-nil (map came_by c.loop.stops.items))
     ∙ ap (λ (n : ℕ). map came_by c.loop.stops.items ++ stops_from net moment n (Some (way.coming c.loop.coming))) (sym end)
-    ∙ c.loop.invariant.made)
+    ∙ c.loop.invariant.made
+
+pub returns-clause-delivered : goal.returns-clause-delivered
+returns-clause-delivered c ss p text start =
+    stops_deliver (net_of c.args.net.now) ss c.args.router c.args.arrival.now p (map came_by c.loop.stops.items) c.requires.agrees (net_numbered c.args.net.now)
+    (subst IsBytes (ap (λ (x : Came). x.bytes) c.in_ok-coming.ensures.came) c.in_ok-coming.ensures.are) text start (returns-clause-stops c)
+
+pub returns-clause-asked : goal.returns-clause-asked
+returns-clause-asked c ss p text start =
+    stops_answer (net_of c.args.net.now) ss c.args.router c.args.arrival.now p (map came_by c.loop.stops.items) c.requires.agrees (net_numbered c.args.net.now)
+    (subst IsBytes (ap (λ (x : Came). x.bytes) c.in_ok-coming.ensures.came) c.in_ok-coming.ensures.are) text start (returns-clause-stops c)
+
+pub returns-clause-returned : goal.returns-clause-returned
+returns-clause-returned c ss start r are lawful =
+    stops_return (net_of c.args.net.now) ss c.args.router c.args.arrival.now start (map came_by c.loop.stops.items) c.requires.agrees (net_numbered c.args.net.now) are lawful r (returns-clause-stops c)
 
 pub returns-in-None-clause-routed : goal.returns-in-None-clause-routed
 returns-in-None-clause-routed c =
