@@ -1,13 +1,15 @@
 -- The rows' tests decide the conditions that the laws cite.
-use Rattle.std.proofs.Common.{◌≡◌, ◌≢◌, ◌<◌, ◌+◌, ◌*◌, ◌&&◌, ◌||◌, ◌==◌, not, nat_lt, ℕ, Bool, true, false, List, length, Option, Some, None, refl, sym, ap, ap₂, subst, ◌∙◌, arith, inl, inr, if◌then◌else◌}
+use Rattle.std.proofs.Common.{◌≡◌, ◌≢◌, ◌≤◌, ◌<◌, ◌+◌, ◌*◌, ◌&&◌, ◌||◌, ◌==◌, not, nat_lt, ℕ, Bool, true, false, List, length, Option, Some, None, refl, sym, ap, ap₂, subst, ◌∙◌, arith, inl, inr, if◌then◌else◌}
 use Rattle.std.specs.Bool.{Decides}
-use Rattle.std.specs.Prelude.{option_map}
-use Rattle.std.proofs.lemmas.Bool.{cases_Bool, eq-eqb, eqb-true, ltb-false, ne_eqb}
+use Rattle.std.specs.Prelude.{is_some, nat_le, slice_index, option_map}
+use Rattle.std.proofs.lemmas.Bool.{cases_Bool, eq-eqb, eqb-true, le-leb, leb-true, ltb-false, ne_eqb}
 use Rattle.std.proofs.lemmas.Bool.Decides.{Decides-and, Decides-eqb, Decides-ltb, Decides-not, not_from_Decides}
 use Rattle.std.proofs.lemmas.Slice.Eq.{bytes_eq-Decides}
 use Rattle.hop_check.specs.Expiry as expiry
 use Rattle.hop_check.specs.Mac as hop_mac
 use Rattle.hop_check.specs.Mac.{mac6}
+use Rattle.field_rows.specs.Place.{number_at}
+use Rattle.scion_packet.specs.Extensions.{Layer, upper_layer}
 use Rattle.scion_packet.specs.Header.{HostAddress, header_fault}
 use Rattle.scion_packet.specs.Packet.{path_bytes}
 use Rattle.scion_packet.specs.Path.{HopField, InfoField, Place, Segment, hops_in, path_fault}
@@ -21,9 +23,10 @@ use Rattle.process_packet.specs.declared.neighbours.Sibling.{Sibling}
 use Rattle.process_packet.specs.declared.underlay.Ip.{Ip}
 use Rattle.process_packet.specs.declared.underlay.Ip.TheVariants.{V4, V6}
 use Rattle.process_packet.specs.declared.underlay.Underlay.{Underlay}
-use Rattle.process_packet.specs.Conditions.{AlertsEntry, AlertsExit, CarriesMac, ComesFromItsRouter, ComesInBy, GoesOutBy, HasItsDestination, HasItsPair, HasItsSource, IsAtPathEnd, IsFarEnd, IsHere, IsInTime, IsRouterWith, MayFollow, last_before}
+use Rattle.process_packet.specs.Conditions.{AlertsEntry, AlertsExit, CarriesMac, ComesFromItsRouter, ComesInBy, GoesOutBy, HasItsDestination, HasItsPair, HasItsSource, IsAtPathEnd, IsFarEnd, IsHere, IsInTime, IsRouterWith, IsTracerouteRequest, MayFollow, last_before}
 use Rattle.process_packet.specs.Network.{Network, interface_kind, is_local, is_owner, is_remote, own_link, sibling}
 use Rattle.process_packet.specs.PacketState.{PacketState, arrival_kind, egress, egress_of, entry, hop, info, ingress, ingress_of, is_authentic, is_expired, is_external, is_first_of_path, is_last_of_path, turned_back}
+use Rattle.process_packet.specs.Request.{asks, is_request, request_of}
 use Rattle.process_packet.specs.Rows.{came_lawfully, is_destination_lawful, is_pair_lawful, is_source_lawful, known_pair}
 use Rattle.process_packet.specs.Laws.{IsAuthorised}
 use Rattle.process_packet.specs.Underlay.{longest_datagram, same_ip, same_underlay}
@@ -378,6 +381,44 @@ came_by s own outside there =
 
 pub from_inside : (s : PacketState) → s.link ≡ 0 → arrival_kind s ≡ None
 from_inside s zero = ap (λ (l : ℕ). if not (l == 0) then option_map (λ (k : Link). k.kind) (own_link s.network s.link) else None) zero
+
+-- ---- what it asks
+
+numbers_if : (b : Bool) (numbers : ℕ × ℕ) → is_some {T = ℕ × ℕ} (if b then Some numbers else None) ≡ b
+numbers_if true numbers = refl
+numbers_if false numbers = refl
+
+asks_so : (l : Layer) → is_some {T = ℕ × ℕ} (request_of (Some l)) ≡ asks l
+asks_so l = numbers_if (asks l) (number_at l.bytes 4 2, number_at l.bytes 6 2)
+
+asks_by : (l : Layer) → Decides (asks l) ((((l.protocol ≡ 202) × (24 ≤ length l.bytes)) × (slice_index l.bytes 0 ≡ 130)) × (slice_index l.bytes 1 ≡ 0))
+asks_by l =
+    let long = l.protocol == 202 && nat_le 24 (length l.bytes) in
+    let typed = long && slice_index l.bytes 0 == 130 in
+    Decides-and typed (slice_index l.bytes 1 == 0)
+    (Decides-and long (slice_index l.bytes 0 == 130) (Decides-and (l.protocol == 202) (nat_le 24 (length l.bytes)) (Decides-eqb l.protocol 202) (leb-true 24 (length l.bytes), le-leb 24 (length l.bytes))) (Decides-eqb (slice_index l.bytes 0) 130))
+    (Decides-eqb (slice_index l.bytes 1) 0)
+
+traceroute_by : (next_header : ℕ) (payload : List ℕ) (o : Option Layer) → upper_layer next_header payload ≡ o → Decides (is_some {T = ℕ × ℕ} (request_of o)) (IsTracerouteRequest next_header payload)
+traceroute_by next_header payload None none = (λ e. let never : false ≡ true = e in absurd cc, λ is. let found = is.found in absurd cc)
+traceroute_by next_header payload (Some l) there =
+    let decided = asks_by l in (
+      λ e. let all = decided.0 (sym (asks_so l) ∙ e) in record { layer = l; found = there; scmp = all.0.0.0; there = all.0.0.1; kind = all.0.1; code = all.1 },
+      λ is.
+          let some : Some is.layer ≡ Some l = sym is.found ∙ there in
+          let same : is.layer ≡ l = cc in
+          asks_so l
+          ∙ decided.1 (
+            (
+              (ap (λ (k : Layer). k.protocol) (sym same) ∙ is.scmp, subst (λ (k : Layer). 24 ≤ length k.bytes) same is.there),
+              ap (λ (k : Layer). slice_index k.bytes 0) (sym same) ∙ is.kind,
+            ),
+            ap (λ (k : Layer). slice_index k.bytes 1) (sym same) ∙ is.code,
+          ),
+    )
+
+pub is_traceroute : (next_header : ℕ) (payload : List ℕ) → Decides (is_request next_header payload) (IsTracerouteRequest next_header payload)
+is_traceroute next_header payload = traceroute_by next_header payload (upper_layer next_header payload) refl
 
 -- ---- all that a packet shows where it arrives
 

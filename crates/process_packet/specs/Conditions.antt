@@ -1,8 +1,9 @@
 -- What a packet must show at a router, said of the fields of its header, its info field and its hop field. The laws cite these
 -- conditions, and none of them is a row's own test: a wrong test is refused there.
-use Rattle.std.specs.Prelude.{◌≡◌, ◌≢◌, ◌≤◌, ◌+◌, ◌-◌, ◌*◌, ℕ, Bool, true, false, List, length, take, Option, Some, None}
+use Rattle.std.specs.Prelude.{◌≡◌, ◌≢◌, ◌≤◌, ◌+◌, ◌-◌, ◌*◌, ℕ, Bool, true, false, List, length, take, Option, Some, None, slice_index}
 use Rattle.cmac_core.specs.Cmac.{tag}
 use Rattle.hop_check.specs.Mac.{mac_input}
+use Rattle.scion_packet.specs.Extensions.{Layer, upper_layer}
 use Rattle.scion_packet.specs.Header.{HostAddress}
 use Rattle.scion_packet.specs.Path.{HopField, InfoField, Place, Segment, hops_in, place_at}
 use Rattle.scion_packet.specs.Places.{hop_there, info_there}
@@ -114,3 +115,14 @@ pub record HasItsPair (u : PacketState) : Type 0 where
   pub to : LinkKind
   pub known : interface_kind u.network (egress u) ≡ Some to
   pub lawful : MayFollow u.switched (arrival_kind u) to
+
+-- ---- what it asks
+
+-- After its extensions it carries a traceroute request: SCMP (protocol 202), type 130, code 0, with its 24 bytes there.
+pub record IsTracerouteRequest (next_header : ℕ) (payload : List ℕ) : Type 0 where
+  pub layer : Layer
+  pub found : upper_layer next_header payload ≡ Some layer
+  pub scmp : layer.protocol ≡ 202
+  pub there : 24 ≤ length layer.bytes
+  pub kind : slice_index layer.bytes 0 ≡ 130
+  pub code : slice_index layer.bytes 1 ≡ 0

@@ -6,7 +6,6 @@ use Rattle.scion_packet.specs.Places as places
 use Rattle.scion_packet.specs.Places.{next}
 use Rattle.process_packet.specs.declared.underlay.Underlay.{Underlay}
 use Rattle.process_packet.specs.Decide.{decide, verdict}
-use Rattle.process_packet.specs.Underlay.{longest_datagram}
 use Rattle.process_packet.specs.Neighbours.{sibling_at}
 use Rattle.process_packet.specs.Network.{Network, is_local, own_link, sibling}
 use Rattle.process_packet.specs.Routed.{IsAnswer}
@@ -24,7 +23,7 @@ use Rattle.process_packet.specs.PacketState.{PacketState, arrives, changed_over,
 -- begins inside, its source is in this AS. What comes from outside is for this AS exactly at its path's last hop; what comes
 -- from inside is for another one.
 pub record IsAuthorised (s : PacketState) : Type 0 where
-  pub short : length s.bytes ≤ longest_datagram
+  pub short : length s.bytes ≤ 9216
   pub sound : first_fault s.bytes ≡ None
   pub in_time : IsInTime (info s) (hop s) s.moment
   pub by_its_link : s.link ≢ 0 → ComesInBy (info s) (hop s) s.link

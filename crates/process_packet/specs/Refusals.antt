@@ -16,7 +16,6 @@ use Rattle.process_packet.specs.Network.{Network, interface_kind, own_link, serv
 use Rattle.process_packet.specs.PacketState.{PacketState, arrival_kind, arrives, changed_over, egress, hop, hop_pointer, info, info_pointer, is_last_of_path, turned_back}
 use Rattle.process_packet.specs.Rows.{Dropped, Verdict, problem}
 use Rattle.process_packet.specs.Shown.{StandsToLeave, asks_entry, asks_exit, is_for_us, turned}
-use Rattle.process_packet.specs.Underlay.{longest_datagram}
 
 -- the cause of a drop for each fault of a datagram
 pub data IsCauseOf : Fault → Cause → Type 0 where
@@ -30,7 +29,7 @@ pub data IsCauseOf : Fault → Cause → Type 0 where
 -- ---- where it arrives
 
 abbrev pub IsRead : PacketState → Type 0
-IsRead s = (length s.bytes ≤ longest_datagram) × (first_fault s.bytes ≡ None)
+IsRead s = (length s.bytes ≤ 9216) × (first_fault s.bytes ≡ None)
 
 -- read and in time; by its link; with the payload length that it tells; from its router; with its source; with its destination
 abbrev pub IsTimely : PacketState → Type 0
@@ -56,9 +55,9 @@ IsForItsDestination s = IsFromItsSource s × HasItsDestination s
 
 -- Types: 4 is a parameter problem, 1 an unreachable destination.
 pub record IsRefusedAtEntry (s : PacketState) (v : Verdict) : Type 0 where
-  pub too_long : longest_datagram < length s.bytes → v ≡ Dropped cause.TooLong
-  pub faulty_header : (f : Fault) (c : Cause) → length s.bytes ≤ longest_datagram → header_fault s.bytes ≡ Some f → IsCauseOf f c → v ≡ Dropped c
-  pub faulty_path : (f : Fault) (c : Cause) → length s.bytes ≤ longest_datagram → header_fault s.bytes ≡ None → path_fault (path_bytes s.bytes) ≡ Some f → IsCauseOf f c
+  pub too_long : 9216 < length s.bytes → v ≡ Dropped cause.TooLong
+  pub faulty_header : (f : Fault) (c : Cause) → length s.bytes ≤ 9216 → header_fault s.bytes ≡ Some f → IsCauseOf f c → v ≡ Dropped c
+  pub faulty_path : (f : Fault) (c : Cause) → length s.bytes ≤ 9216 → header_fault s.bytes ≡ None → path_fault (path_bytes s.bytes) ≡ Some f → IsCauseOf f c
       → v ≡ Dropped c
   pub expired : IsRead s → (IsInTime (info s) (hop s) s.moment → ⊥) → v ≡ problem 4 52 (hop_pointer s)
   pub by_other_link : IsTimely s → (NamesItsLink s → ⊥) → (info s).along ≡ true → v ≡ problem 4 49 (hop_pointer s)

@@ -3,8 +3,9 @@ use Rattle.std.specs.Bool.{Decides}
 use Rattle.std.specs.Prelude.{◌≡◌, ◌≢◌, ◌+◌, ◌*◌, not, Some, None, length}
 use Rattle.scion_packet.specs.Path.{hop_number}
 use Rattle.process_packet.specs.declared.neighbours.Link.{Link}
-use Rattle.process_packet.specs.Conditions.{AlertsEntry, AlertsExit, CarriesMac, ComesInBy, GoesOutBy, IsAtPathEnd, IsHere, IsInTime}
+use Rattle.process_packet.specs.Conditions.{AlertsEntry, AlertsExit, CarriesMac, ComesInBy, GoesOutBy, IsAtPathEnd, IsHere, IsInTime, IsTracerouteRequest}
 use Rattle.process_packet.specs.Network.{is_local, own_link}
+use Rattle.process_packet.specs.Request.{is_request}
 use Rattle.process_packet.specs.PacketState.{PacketState, arrival_kind, egress, egress_alert, hop, hop_pointer, info, info_pointer, ingress, ingress_alert, is_authentic, is_expired, is_external, is_last_of_path}
 
 pub record SaysItsFields (s : PacketState) : Type 0 where
@@ -15,6 +16,7 @@ pub record SaysItsFields (s : PacketState) : Type 0 where
   pub egress : GoesOutBy (info s) (hop s) (egress s)
   pub ingress_alert : Decides (ingress_alert s) (AlertsEntry (info s) (hop s))
   pub egress_alert : Decides (egress_alert s) (AlertsExit (info s) (hop s))
+  pub request : Decides (is_request s.header.next_header s.payload) (IsTracerouteRequest s.header.next_header s.payload)
   pub last : Decides (is_last_of_path s) (IsAtPathEnd s)
   pub from_here : Decides (is_local s.network s.header.source) (IsHere s.network s.header.source)
   pub for_here : Decides (is_local s.network s.header.destination) (IsHere s.network s.header.destination)
