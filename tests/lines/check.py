@@ -24,6 +24,7 @@ MOST_SHOWN = 20
 ROUTE = ["route", "--config", "c", "--link", "1", "--now", "1694499816"]
 REPLAY = ["replay", "--config", "c"]
 CHECK = ["check", "--config", "c"]
+RUN = ["run", "--config", "c"]
 
 
 # Tables.
@@ -125,6 +126,7 @@ def try_words(trial):
         "report": writes(links + b"received 0\nsent 0\nanswered 0\nwaiting 0\n"),
         "ok": writes(b"ok\n"),
         "no file": faults(b"file"),
+        "no link": faults(b"link"),
         "refused": (2, b"", b".+"),
     }
     for row in rows_of("words.txt"):
@@ -145,8 +147,13 @@ def try_configs(trial):
     sound = text_of("router.toml")
     for row in rows_of("configs.txt"):
         told, change = row.split(": ", 1)
-        fault = (1, b"", f"fault: config {told}: [^\n]+\n".encode())
-        trial.compare(row, writes(b"ok\n") if told == "ok" else fault, CHECK, changed(sound, *change.split(" -> ", 1)))
+        config = changed(sound, *change.split(" -> ", 1))
+        if told == "ok":
+            trial.compare(row, writes(b"ok\n"), CHECK, config)
+            continue
+        trial.compare(row, (1, b"", f"fault: config {told}: [^\n]+\n".encode()), CHECK, config)
+        for words in (ROUTE, REPLAY, RUN):
+            trial.compare(f"{words[0]}: {row}", faults(b"config " + told.encode()), words, config)
 
 
 def try_fault_words(trial):
