@@ -16,6 +16,8 @@ pub const FULL_PROCESSOR: usize = 11;
 
 pub const FULL_LINK: usize = 12;
 
+pub const FULL_SLOW_PATH: usize = 13;
+
 pub const CLOSED: usize = 15;
 
 pub const SEND_FAILED: usize = 16;

@@ -32,6 +32,8 @@ mod timing;
 #[cfg(test)]
 mod turns;
 
-pub use counts::{CLOSED, FULL_LINK, FULL_PROCESSOR, NO_BUFFER, NOTHING, SEND_FAILED, totals};
+pub use counts::{
+    CLOSED, FULL_LINK, FULL_PROCESSOR, FULL_SLOW_PATH, NO_BUFFER, NOTHING, SEND_FAILED, totals,
+};
 pub use neighbour::NEAR;
 pub use new_ends::{ends_of, next_producer};

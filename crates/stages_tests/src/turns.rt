@@ -65,13 +65,19 @@ fn is_counted(totals: &Totals, wanted: &Totals) -> bool {
     is_one_less(totals, wanted) || (fails && *totals == *wanted)
 }
 
-// Whether all turns went as told, the sink was handed these packets, and these are the totals.
+// Whether a sink failed as often as packets were dropped for that.
+fn failed_so_often(outcome: &Outcome) -> bool {
+    u128::from(outcome.sink.failures()) == outcome.totals.dropped[SEND_FAILED]
+}
+
+// Whether all turns went as told, the sink was handed these packets and failed as often as the totals say, and these are
+// the totals.
 fn is(outcome: &Outcome, numbers: &[u64], wanted: &Totals) -> bool {
     let went = match outcome.sink.told() {
         Some(list) => took(list, numbers) && outcome.totals == *wanted,
         None => is_counted(&outcome.totals, wanted),
     };
-    outcome.as_told && went
+    outcome.as_told && failed_so_often(outcome) && went
 }
 
 #[test]
