@@ -438,19 +438,21 @@ fn all_fit<R: Wait>(rt: &R, producer: &mut Producer<u32>, count: u32) -> bool {
     true
 }
 
-// Each offers so many from this thread, and then so many from one of its own.
+// Each offers so many from this thread, and then, when all have, so many from one of its own.
 fn offer_twice<R>(
     rt: R,
     alloc: Global,
-    ends: Vec<Producer<u32>>,
+    mut ends: Vec<Producer<u32>>,
     count: u32,
 ) -> Vec<JoinHandle<bool>>
 where
     R: Abort + Threads + Wait + Copy + Send + 'static,
 {
     let mut children = Vec::with_capacity(alloc, 2).expect(&rt, "memory");
+    for end in ends.iter_mut() {
+        assert!(rt; all_fit(&rt, end, count));
+    }
     for mut end in ends {
-        assert!(rt; all_fit(&rt, &mut end, count));
         let child = thread::spawn(&rt, move || all_fit(&rt, &mut end, count)).expect(&rt, "thread");
         children.push(child).expect(&rt, "memory");
     }
