@@ -10,7 +10,7 @@ use std::thread;
 use std::time::Duration;
 
 /// How often a word is looked at, with a nap between most looks. A test fails at this limit.
-pub const LOOKS: u32 = 400_000;
+pub const LOOKS: u32 = 1_000_000;
 
 /// What the devices, the gate and the controller of a test tell one another.
 #[derive(Drop)]

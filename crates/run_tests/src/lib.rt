@@ -30,6 +30,8 @@ mod setup;
 #[cfg(test)]
 mod sink;
 #[cfg(test)]
+mod slow;
+#[cfg(test)]
 mod sockets;
 #[cfg(test)]
 mod source;

@@ -1,10 +1,10 @@
-//! Many links, many processors, and pipes of a single entry.
+//! Many links, four processors, and pipes of a single entry.
 
 ghost use Rattle.std.specs.Prelude.{◌≡◌, ◌<◌, length};
 
 use crate::cues::Words;
 use crate::play::{Played, run};
-use crate::reports::sent_by;
+use crate::reports::{adds_up, sent_by};
 use crate::routers::wide_router;
 use crate::setup::{Devices, OPEN, Setup, sinks};
 use crate::sink::Taking;
@@ -12,10 +12,10 @@ use crate::source::{FLOWS, Plan, PlannedSource};
 use cmac_core::Cmac;
 use hop_check::beacon;
 use path_fields::Hop;
-use process_packet::{Ip, Totals, Underlay};
+use process_packet::{Ip, Underlay};
 use sample_packets::{FIRST, KEY, PATH_AT, with_bytes};
 use stage_parts::{Sent, both};
-use stages_tests::{FULL_LINK, FULL_PROCESSOR, NO_BUFFER, NOTHING};
+use stages_tests::FULL_SLOW_PATH;
 use std::alloc::{AllocError, Global};
 use std::sync::Arc;
 use std::test::*;
@@ -35,6 +35,9 @@ const TIMESTAMP: u32 = 0x6500_0000;
 const FIRST_HOP: usize = PATH_AT + 12;
 
 const SECOND_HOP: usize = PATH_AT + 24;
+
+/// Where that is in the datagram.
+const SEGMENT_AT: usize = PATH_AT + 6;
 
 /// Where the source's AS is.
 const SOURCE_AS: usize = 20;
@@ -68,6 +71,24 @@ fn datagram_by(link: u8) -> [u8; 92] {
     with_bytes(local, FIRST_HOP, &hop)
 }
 
+// A datagram at this hop of its path, with its segment's identifier chained by a MAC that begins with these bytes.
+fn moved(came: [u8; 92], hop: u8, one: u8, two: u8) -> [u8; 92] {
+    let mut leaves = came;
+    leaves[PATH_AT] = hop;
+    leaves[SEGMENT_AT] ^= one;
+    leaves[SEGMENT_AT + 1] ^= two;
+    leaves
+}
+
+/// The datagram that comes by a link, as it leaves by link 1.
+fn leaving_from(link: u8) -> [u8; 92] {
+    let came = datagram_by(link);
+    if link > 0 {
+        return moved(came, 2, came[SECOND_HOP + 6], came[SECOND_HOP + 7]);
+    }
+    moved(came, 1, came[FIRST_HOP + 6], came[FIRST_HOP + 7])
+}
+
 // What the source of a link gives: its datagrams, at once.
 fn plan(link: u8) -> Plan {
     let from = Underlay {
@@ -95,7 +116,16 @@ fn all_links(rt: HostRuntime) -> Option<Setup> {
     Setup::over(&words, wide_router(rt.alloc()), devices(&words), OPEN)
 }
 
-/// Whether the sink took a packet, and it is of its flow and comes after the last one of its link and flow, whose
+/// Whether the sink took what a router that decides on one datagram after the other sends for this one of a link.
+fn is_sent_for(sent: &Sent, link: u8, flow: u8) -> bool {
+    let wanted = with_bytes(leaving_from(link), 3, &[flow]);
+    sent.took
+        && !sent.out.answer
+        && sent.out.to.is_none()
+        && sent.bytes.as_slice() == wanted.as_slice()
+}
+
+/// Whether the sink took a packet as it should leave, and it comes after the last one of its link and flow, whose
 /// number it replaces.
 fn follows(last: &mut [u64; 1650], sent: &Sent) -> bool {
     let number = sent.out.number;
@@ -109,10 +139,11 @@ fn follows(last: &mut [u64; 1650], sent: &Sent) -> bool {
         return false;
     }
     last[at] = number;
-    sent.took && !sent.out.answer && sent.bytes.get(3) == Some(&(flow as u8))
+    is_sent_for(sent, link as u8, flow as u8)
 }
 
-/// Whether the sink took each packet, each is of its flow, and those of a link and flow have ascending numbers.
+/// Whether the sink took each packet as it should leave, and those of a link and flow have ascending numbers: so a
+/// router that decides on one datagram after the other sends them, all but those that were dropped.
 fn is_in_order(list: &[Sent]) -> bool {
     let mut last = [0u64; 1650];
     for sent in list {
@@ -121,21 +152,6 @@ fn is_in_order(list: &[Sent]) -> bool {
         }
     }
     true
-}
-
-/// Whether all were received, this number of them sent, and the others dropped at full pipes or for want of a buffer.
-fn adds_up(totals: &Totals, sent: u128) -> bool {
-    let processor = totals.dropped[FULL_PROCESSOR];
-    let link = totals.dropped[FULL_LINK];
-    let buffer = totals.dropped[NO_BUFFER];
-    let mut wanted = NOTHING;
-    wanted.received = 33_000;
-    wanted.sent = sent;
-    wanted.dropped[FULL_PROCESSOR] = processor;
-    wanted.dropped[FULL_LINK] = link;
-    wanted.dropped[NO_BUFFER] = buffer;
-    let dropped = processor.wrapping_add(link).wrapping_add(buffer);
-    *totals == wanted && dropped.wrapping_add(sent) == 33_000
 }
 
 // What link 1's sink was handed: how many packets, where they are in order.
@@ -148,11 +164,14 @@ fn in_order(played: &Played) -> Option<u128> {
     }
 }
 
-// Whether this number of packets was sent, all by link 1, and all others were dropped.
+// Whether all were received, this number of them sent, all by link 1, and all others dropped.
 fn went_by_one(played: &Played, sent: u128) -> bool {
     let mut counts = [0; 33];
     counts[1] = sent;
-    adds_up(&played.report.totals, sent) && sent_by(&played.report, &counts)
+    let totals = &played.report.totals;
+    adds_up(totals, 33_000)
+        && (totals.sent, totals.answered, totals.dropped[FULL_SLOW_PATH]) == (sent, 0, 0)
+        && sent_by(&played.report, &counts)
 }
 
 // Whether packets were sent by link 1 alone, in order, and all others were dropped.

@@ -15,11 +15,16 @@ pub enum Routed {
 }
 
 /// One processor, and pipes of this capacity.
+pub const CAPACITY_1: Routed = Routed::Plain("processors = 1\ncapacity = 1\n");
+
 pub const CAPACITY_2: Routed = Routed::Plain("processors = 1\ncapacity = 2\n");
 
 pub const CAPACITY_4: Routed = Routed::Plain("processors = 1\ncapacity = 4\n");
 
 pub const CAPACITY_64: Routed = Routed::Plain("processors = 1\ncapacity = 64\n");
+
+/// The same with few buffers, so that a start takes memory less often.
+pub const FEW_BUFFERS: Routed = Routed::Plain("processors = 1\ncapacity = 4\nbuffers = 4\n");
 
 pub const TWO_PROCESSORS: Routed = Routed::Plain("processors = 2\ncapacity = 64\n");
 
@@ -37,7 +42,7 @@ pub fn router(alloc: Global, routed: Routed) -> Option<Config> {
     read_config(alloc, text.ok()?.as_str()).ok()
 }
 
-/// A router of 33 links, each to a core AS, with 16 processors, whose pipes hold one entry each.
+/// A router of 33 links, each to a core AS, with 4 processors, whose pipes hold one entry each.
 pub fn wide_router(alloc: Global) -> Option<Config> {
     read_config(alloc, WIDE).ok()
 }
@@ -53,7 +58,7 @@ const TWO_BANDS: &str =
 
 const WIDE: &str =
     "version = 1\nisd_as = \"1-ff00:0:110\"\nkey = \"2b7e151628aed2a6abf7158809cf4f3c\"\n\
-    internal = \"10.0.0.1:30000\"\nhost_port = 30041\nprocessors = 16\ncapacity = 1\nseed = 0\nlink = [\n\
+    internal = \"10.0.0.1:30000\"\nhost_port = 30041\nprocessors = 4\ncapacity = 1\nseed = 0\nlink = [\n\
     {id=1, kind=\"core\", local=\"10.1.0.1:40000\", remote=\"10.2.0.1:40000\"},\n\
     {id=2, kind=\"core\", local=\"10.1.0.2:40000\", remote=\"10.2.0.2:40000\"},\n\
     {id=3, kind=\"core\", local=\"10.1.0.3:40000\", remote=\"10.2.0.3:40000\"},\n\
