@@ -44,16 +44,27 @@ try-net: bin/router bin/path_probe
 LANES ?= $(shell awk -v cores=$$(nproc) '/^MemAvailable/ { n = int($$2 / 4194304) } \
 	END { if (n > cores) n = cores; print (n > 1 ? n : 1) }' /proc/meminfo)
 
-# The merge gate; last, the program that it built is given the tables of tests/lines. It needs python3 too.
+# The crates of tests in which the gate refuses growths.
+GROWN = engine_tests pipeline_tests run_tests
+GROWN_TESTS = $(foreach it,$(GROWN),crates/$(it)/out/$(it)_tests)
+
+# The merge gate; last, the program that it built is given the tables of tests/lines, and its commands and some tests are
+# refused each growth in turn. It needs python3 too.
 test:
-	rm -f $(PROGRAM)
+	rm -f $(PROGRAM) $(GROWN_TESTS)
 	RT_JOBS=$(LANES) $(RT) ci
-	$(MAKE) $(PROGRAM)
+	$(MAKE) $(PROGRAM) $(GROWN_TESTS)
 	tests/lines/check.py $(PROGRAM)
+	tests/faults/growths.py check route replay run $(GROWN)
 
 # Where the gate took an earlier run's results, it may have built no program.
 $(PROGRAM):
 	cd crates/router_program && $(RT) run -- --version
+
+TESTS = $(GROWN_TESTS) $(foreach it,packet_tests stages_tests,crates/$(it)/out/$(it)_tests)
+
+$(TESTS): $(PROVED)
+	cd $(patsubst %/out,%,$(@D)) && $(RT) test
 
 # Times the decision beside plain Rust.
 bench-decision:
@@ -96,14 +107,14 @@ bench-router: bin/router
 .PHONY: faults
 
 # Refuses each growth, read, write, send and more in turn, and gives bad input: each run has to end as documented.
-# It needs cc too.
-faults: bin/router bin/packet_tests bin/stages_tests bin/run_tests
+# It needs cc and python3 too.
+faults: bin/router $(TESTS)
 	tests/faults/run.sh
 	tests/faults/input.sh
-	tests/faults/growths.sh
+	tests/faults/growths.py
 
-# The compiled tests of a crate.
-bin/packet_tests bin/pipeline_tests bin/stages_tests bin/run_tests: bin/%: $(PROVED)
+# The compiled tests of a crate, for benches.
+bin/pipeline_tests bin/stages_tests: bin/%: $(PROVED)
 	cd crates/$* && $(RT) test
 	mkdir -p bin
 	cp crates/$*/out/$*_tests bin/$*

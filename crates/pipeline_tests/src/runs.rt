@@ -221,31 +221,46 @@ fn check_stopped(rt: &(impl AllocGlobal + Abort), world: &World, made: &[Step]) 
     drop(other);
 }
 
+/// What was refused memory.
+#[derive(Debug, Drop)]
+enum Refused {
+    /// The pipeline, before its first step.
+    Setup,
+    /// The run of its steps.
+    Run,
+}
+
 /// Runs to the end, once more from the step that found no memory.
-fn run_to_the_end(rt: &(impl AllocGlobal + Abort), world: &mut World, steps: &[Step]) {
+fn run_to_the_end(
+    rt: &(impl AllocGlobal + Abort),
+    world: &mut World,
+    steps: &[Step],
+) -> Result<(), Refused> {
     match world.run(rt.alloc(), steps) {
         Ok(skipped) => {
             assert!(rt; skipped.as_slice() == [0usize, 8, 10, 12, 19, 22].as_slice());
+            Ok(())
         }
         Err(NoMemoryAt(at)) => {
             let (made, left) = steps.split_at(at);
             check_stopped(rt, world, made);
             assert!(rt; world.run(rt.alloc(), left).is_ok());
+            Err(Refused::Run)
         }
     }
 }
 
-/// With any one allocation refused (`--fail-alloc`): the pipeline is where the steps before it led,
-/// and goes on from there.
+/// With any one growth refused, as by `tests/faults/growths.py`: the pipeline is where the steps before it led, and
+/// goes on from there.
 #[test]
-fn goes_on_without_memory(rt: HostRuntime) {
-    let mut world = match before(rt.alloc(), EXPIRED) {
-        Err(NoMemory) => before(rt.alloc(), EXPIRED).expect(&rt, "one allocation was refused"),
-        Ok(world) => world,
+fn goes_on_without_memory(rt: HostRuntime) -> Result<(), Refused> {
+    let Ok(mut world) = before(rt.alloc(), EXPIRED) else {
+        return Err(Refused::Setup);
     };
-    run_to_the_end(&rt, &mut world, &TO_THE_END);
+    let ended = run_to_the_end(&rt, &mut world, &TO_THE_END);
     assert!(&rt; world.place(1, 1) == Some(Place::Sent));
     assert!(&rt; world.place(1, 2) == Some(Place::Dropped(Cause::Closed)));
     assert!(&rt; world.waiting() == 0);
     drop(world);
+    ended
 }

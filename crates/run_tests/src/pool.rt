@@ -2,9 +2,9 @@
 
 use crate::cues::{Order, Words};
 use crate::gate::Rule;
-use crate::play::{Started, start, tells};
+use crate::play::{Played, Started, start};
 use crate::reports::all_sent;
-use crate::routers::{CAPACITY_64, router};
+use crate::routers::{CAPACITY_64, FEW_BUFFERS, router};
 use crate::setup::{Course, Devices, OPEN, Setup, sinks};
 use crate::sink::Taking;
 use crate::source::{ENDED, Plan, PlannedSource};
@@ -26,16 +26,64 @@ fn thousand(rt: HostRuntime) -> Option<Setup> {
         rule: Rule::Open,
         orders: &ORDERS,
     };
-    Setup::of_four(rt, CAPACITY_64, plans, Taking::Counts, course)
+    Setup::of_four(rt, FEW_BUFFERS, plans, Taking::Counts, course)
 }
 
-/// Neither the devices nor the router take memory after the start: the first growth past those of `start` may
-/// be refused, and all is sent.
+/// What was refused memory, or a thread.
+#[derive(Debug, Drop)]
+enum Refused {
+    /// The router's configuration, or its devices.
+    Setup,
+    /// The start, which gave all devices back.
+    Start,
+    /// A thread, with which the devices went.
+    Thread,
+}
+
+// Whether no source was asked, and no sink was handed a packet.
+fn are_idle(words: &Words) -> bool {
+    words.tried.load(Ordering::SeqCst) == 0 && words.handed.load(Ordering::SeqCst) == 0
+}
+
+// Whether a router sent all that it was given.
+fn sent_all(played: &Played) -> bool {
+    played.tells(all_sent(1000), &[0, 0, 1000, 0])
+}
+
+// The refusal, where it left things so.
+fn refused_if(is_so: bool, refused: Refused) -> Option<Result<(), Refused>> {
+    if is_so { Some(Err(refused)) } else { None }
+}
+
+// What was refused to a start, or that all was sent; none where it came to something else, or where a device was asked
+// for all that.
+fn ended(words: &Words, started: Started) -> Option<Result<(), Refused>> {
+    match started {
+        Ok(played) => {
+            if sent_all(&played) {
+                Some(Ok(()))
+            } else {
+                None
+            }
+        }
+        Err(StartFault::NoMemory { sources, sinks }) => {
+            let back = Devices { sources, sinks };
+            refused_if(are_unasked(words, &back, (4, 4)), Refused::Start)
+        }
+        Err(StartFault::Thread) => refused_if(are_idle(words), Refused::Thread),
+        Err(StartFault::Count { .. }) => None,
+    }
+}
+
+/// Neither the devices nor the router take memory after the start: the first growth past those of `start` may be
+/// refused, and all is sent. `tests/faults/growths.py` refuses each of those before.
 #[test]
-fn a_thousand_datagrams_take_no_memory(rt: HostRuntime) {
-    let setup = thousand(rt).ok_or(AllocError).expect(&rt, "memory");
-    let played = start(rt, setup).ok().expect(&rt, "a router that starts");
-    assert!(rt; tells(Some(played), all_sent(1000), &[0, 0, 1000, 0]));
+fn a_thousand_datagrams_take_no_memory(rt: HostRuntime) -> Result<(), Refused> {
+    let setup = thousand(rt).ok_or(Refused::Setup)?;
+    let Ok(words) = Arc::try_clone(&setup.lead.words) else {
+        return Err(Refused::Setup);
+    };
+    ended(&words, start(rt, setup)).expect(&rt, "all sent, or devices that were not asked")
 }
 
 // So many sources, of which link 1's gives a datagram, and so many sinks.
@@ -53,10 +101,7 @@ where
 
 // Whether so many sources and sinks are there, and none was asked.
 fn are_unasked(words: &Words, devices: &Devices, counts: (usize, usize)) -> bool {
-    words.tried.load(Ordering::SeqCst) == 0
-        && words.handed.load(Ordering::SeqCst) == 0
-        && devices.sources.len() == counts.0
-        && devices.sinks.len() == counts.1
+    are_idle(words) && devices.sources.len() == counts.0 && devices.sinks.len() == counts.1
 }
 
 // The devices that came back for their wrong count, where so many are there, and none was asked.
@@ -98,19 +143,15 @@ fn smaller(devices: Option<Devices>) -> Option<Devices> {
     Some(devices)
 }
 
-// Whether all crossed, or both lists came back since no memory was left.
-fn crossed_or_back(words: &Words, started: Option<Started>) -> bool {
+// Whether the datagram crossed.
+fn crosses(started: Option<Started>) -> bool {
     match started {
         Some(Ok(played)) => played.tells(all_sent(1), &[0, 0, 1, 0]),
-        Some(Err(StartFault::NoMemory { sources, sinks })) => {
-            are_unasked(words, &Devices { sources, sinks }, (4, 4))
-        }
         _ => false,
     }
 }
 
-/// With a source too few, and with a sink too many, both lists come back, and then serve a router. With each
-/// growth of the start refused by hand they come back too, except one for a thread, which drops them.
+/// With a source too few, and with a sink too many, both lists come back, and then serve a router.
 #[test]
 fn a_refused_start_gives_both_lists_back(rt: HostRuntime) {
     let words = Words::new(rt).expect(&rt, "memory");
@@ -118,5 +159,5 @@ fn a_refused_start_gives_both_lists_back(rt: HostRuntime) {
     let few = back(&words, few, (3, 4));
     let many = started(rt, &words, grown(&words, few));
     let many = back(&words, many, (4, 5));
-    assert!(rt; crossed_or_back(&words, started(rt, &words, smaller(many))));
+    assert!(rt; crosses(started(rt, &words, smaller(many))));
 }
