@@ -57,7 +57,7 @@ module _ {T : Type 0} where
     pub theirs : AreBundles uses 0 shapes bundles
     pub taken : AreTaken uses 0 (length bundles) shapes takers
 
-  -- What is known of a pipe in the end: all that was accepted was taken, nothing is held, and each refusal met a full queue
+  -- What is known of a pipe in the end: all that was accepted was taken, nothing is held, and each refusal is as one at a full queue, as far as its producer's own pushes tell
   pub record IsDone (s : Shape) (senders : List (Sender T)) (t : Taker T) : Type 0 where
     pub whole : (held : List (Entry T)) × IsWhole s.capacity senders t.taken held
     pub drained : (held : List (Entry T)) → IsWhole s.capacity senders t.taken held → IsDrained s.capacity senders t.taken held

@@ -58,9 +58,9 @@ impl<T: Drop> Drop for Consumer<T> {
 }
 
 impl<T: Drop> Consumer<T> {
-    /// Takes the entry at the front. At `None` the queue was empty at one moment of the call, and the
-    /// look is noted. It takes no memory. Where many looks in a row found an entry, and few are held, it
-    /// spins for some microseconds first, so that entries gather.
+    /// Takes the entry at the front. At `None` the look is noted; no clause says that the queue was empty. It
+    /// takes no memory. Where many looks in a row found an entry, and few are held, it spins for some
+    /// microseconds first, so that entries gather.
     pub fn take<R: Wait>(&mut self, rt: &R) -> Option<Entry<T>>
         ensures step { MatchOption result (self.new ≡ looked self.old) (λ e. self.new ≡ took self.old e) }
         ensures below { IfSome result (λ e. e.from < self.old.producers) }

@@ -4,10 +4,15 @@
 //! queue is under a rule: each producer's entries are in what was taken and is held just as they were
 //! accepted, and no more are held than the capacity. Each end is a token of what its holder has seen: the
 //! offers that were accepted and those that were refused, what was taken, and the looks that found
-//! nothing. These lists exist in proofs alone. Each call makes one step of the queue, and `offer`,
-//! `mark`, `take` and `gather` take no memory; the first three may spin while another thread is inside
-//! a call, and wait for no room and no item. A `take` of many in a row with few held spins for some
-//! microseconds first, in a pipe for 512 or more, and then does what it would have done.
+//! nothing. These lists exist in proofs alone.
+//!
+//! Each call makes one step of the queue. Before it, a `take` of a pipe for 512 entries or more now and then
+//! reads how many are held, and spins for some microseconds where these are few. That is no step: it takes
+//! nothing, and changes no answer. It keeps the consumer some slots behind its producers, since each entry costs
+//! them several times as much where both use the same cache lines.
+//!
+//! `offer`, `mark`, `take` and `gather` take no memory; the first three may spin while another thread is inside
+//! a call, and wait for no room and no item.
 #![tactic(auto)]
 
 mod consumer;

@@ -53,8 +53,10 @@ impl<T: Drop> Drop for Producer<T> {
 pub struct Full<T>(pub T);
 
 impl<T: Drop> Producer<T> {
-    /// Offers an item. At `Full` the queue held as many entries as its capacity at one moment of the
-    /// call; the item comes back, and the refusal is noted. It takes no memory.
+    /// Offers an item. At `Full` the item comes back, and the refusal is noted: there are lists of entries taken
+    /// and held, as many held as the capacity, in which this end's are what it had pushed. That these were the
+    /// queue's own no clause says with several producers; with one, as many as the capacity had been accepted.
+    /// It takes no memory.
     pub fn offer<R: Wait>(&mut self, rt: &R, item: T) -> Result<(), Full<T>>
         ensures step { MatchResult result (λ _. self.new ≡ offered self.old (entry self.old.number (Load.Payload item))) (λ full. (full.0 ≡ item) × (self.new ≡ refused self.old (entry self.old.number (Load.Payload item)))) }
         ensures full { IfErr result (λ _. WasFull self.old.producers self.old.number self.old.capacity self.old.offers (refusal (entry self.old.number (Load.Payload item)) (length self.old.offers))) }

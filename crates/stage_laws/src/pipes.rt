@@ -5,7 +5,8 @@ ghost use Rattle.stage_laws.specs.Gathers.{Drains, StaysEmpty, ClosesByLast};
 ghost use Rattle.stage_laws.specs.Rows.{RowsAreColumns};
 
 /// Where the last that each producer pushed is its only end mark, and the consumer took them all, nothing is held: what was
-/// taken is what was accepted, of each producer in its order; and each refused push met a full queue.
+/// taken is what was accepted, of each producer in its order; and each refused push is as one at a full queue, as far as
+/// its producer's own pushes tell.
 pub fn drains<T>()
     ensures law { Drains T }
 {}

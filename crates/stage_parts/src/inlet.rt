@@ -86,8 +86,7 @@ impl<T> Inlet<T> {
 }
 
 impl<T: Drop> Inlet<T> {
-    /// Takes what is at the front. At `None` the pipe was empty at one moment of the call, and the
-    /// look is noted.
+    /// Takes what is at the front. At `None` the look is noted; no clause says that the pipe was empty.
     pub fn take<R: Wait>(&mut self, rt: &R) -> Option<Load<T>>
         requires { ends_in self.old.taken < self.old.producers }
         ensures { MatchOption result (self.new ≡ looked self.old) (λ load. (from : ℕ) × (from < self.old.producers) × (self.new ≡ took self.old (entry from load))) }
