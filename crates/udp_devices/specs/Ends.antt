@@ -1,5 +1,6 @@
 -- The ends of a link, and where what leaves by it goes.
-use Rattle.std.specs.Prelude.{ℕ, Bool, true, false, ◌==◌, find, Option, Some, None, if◌then◌else◌}
+use Rattle.std.specs.Prelude.{ℕ, Bool, true, false, ◌==◌, ◌&&◌, find, Option, Some, None, if◌then◌else◌}
+use Rattle.address_kinds.specs.Reach.{is_host_for}
 use Rattle.process_packet.specs.declared.config.Config.{Config}
 use Rattle.process_packet.specs.declared.neighbours.Link.{Link}
 use Rattle.process_packet.specs.declared.underlay.Ip.{Ip}
@@ -21,10 +22,10 @@ is_same_family (V4 a) (V6 b) = false
 is_same_family (V6 a) (V4 b) = false
 is_same_family (V6 a) (V6 b) = true
 
--- an address that the link's own can send to
+-- an address that the link's own can send to: of its IP version, and one that a host can have
 abbrev pub reachable : Underlay → Option Underlay → Option Underlay
 reachable local None = None
-reachable local (Some to) = if is_same_family local.ip to.ip then Some to else None
+reachable local (Some to) = if is_same_family local.ip to.ip && is_host_for local.ip to.ip then Some to else None
 
 abbrev pub named_or : Option Underlay → Option Underlay → Option Underlay
 named_or None remote = remote

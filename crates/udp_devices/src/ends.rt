@@ -3,6 +3,7 @@
 ghost use Rattle.std.specs.Prelude.{◌≡◌, ◌==◌, find};
 ghost use Rattle.udp_devices.specs.Ends.{destination, ends_of, is_same_family};
 
+use address_kinds::is_host_for;
 use process_packet::{Config, Ip, Link, Underlay};
 
 /// The ends of a link: this router's own, and the neighbour's. The internal network has many others.
@@ -48,12 +49,14 @@ fn is_same_family(one: &Ip, other: &Ip) -> bool
 }
 
 /// Where a datagram goes: to the address that it names, and else to the link's other end. It goes nowhere
-/// where there is neither, and where the address is of another IP version than the link's own.
+/// where there is neither, where the address is of another IP version than the link's own, and where no host
+/// can have it (`is_host_for`): one that is unspecified, a group's, the limited broadcast address, an IPv4
+/// address written as one of IPv6, or a loopback address where the link's own is none.
 pub fn destination(ends: &Ends, to: Option<Underlay>) -> Option<Underlay>
     ensures { result ≡ destination ends.now to }
 {
     let to = to.or(ends.remote)?;
-    if is_same_family(&ends.local.ip, &to.ip) {
+    if is_same_family(&ends.local.ip, &to.ip) && is_host_for(&ends.local.ip, &to.ip) {
         Some(to)
     } else {
         None
