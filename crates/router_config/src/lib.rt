@@ -5,6 +5,7 @@
 mod config;
 mod entry;
 mod fault;
+mod hint;
 mod isd_as;
 mod lists;
 mod location;

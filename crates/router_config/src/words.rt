@@ -4,6 +4,7 @@ ghost use Rattle.router_config.specs.Config.{values_of};
 
 use crate::config::config_at;
 use crate::fault::ConfigFault;
+use crate::hint::{hint_at, hint_of_line, strayed};
 use crate::location::{Key, Location, location_in};
 use std::alloc::{AllocError, Global};
 use std::ops::Range;
@@ -40,6 +41,17 @@ fn member_at(table: &Table, list: Key, number: usize) -> Option<&Table> {
     members.get(number.checked_sub(1)?)?.as_table()
 }
 
+/// A hint at what may be meant by what is at a key of a table.
+fn hint_in(key: Key, table: Option<&Table>) -> &'static str {
+    match table {
+        Some(table) => match table.get(key.name()) {
+            Some(value) => hint_at(key, value),
+            None => "",
+        },
+        None => "",
+    }
+}
+
 /// What is at a key, and what is wanted there; `of` says of which member of a list.
 fn value_words(
     alloc: Global,
@@ -48,13 +60,30 @@ fn value_words(
     table: Option<&Table>,
 ) -> Result<String, AllocError> {
     let found = found_at(alloc, key, table)?;
-    format!(in alloc; "`{}`{of} is {found}; wanted: {}", key.name(), key.wanted())
+    let hint = hint_in(key, table);
+    format!(in alloc;
+        "`{}`{of} is {found}; wanted: {}{hint}",
+        key.name(),
+        key.wanted()
+    )
+}
+
+/// The words of a key of the configuration itself, which may stand in a member of a list instead.
+fn top_words(alloc: Global, key: Key, table: &Table) -> Result<String, AllocError> {
+    let words = value_words(alloc, key, "", Some(table))?;
+    match (table.get(key.name()), strayed(table, key)) {
+        (None, Some((list, number))) => format!(in alloc;
+            "{words}; it belongs to the table above it, {} {number}: write it above the first list",
+            list.name()
+        ),
+        _ => Ok(words),
+    }
 }
 
 /// What is at a place, and what is wanted there.
 fn words_at(alloc: Global, table: &Table, location: Location) -> Result<String, AllocError> {
     match location {
-        Location::Value(key) => value_words(alloc, key, "", Some(table)),
+        Location::Value(key) => top_words(alloc, key, table),
         Location::Member(list, number) => {
             format!(in alloc; "{} {number} is not a table", list.name())
         }
@@ -79,8 +108,12 @@ fn line_of(text: &str, span: Option<Range<usize>>) -> usize {
 
 /// Why a text is not TOML, and where.
 fn toml_words(alloc: Global, text: &str, error: &Error) -> Result<String, AllocError> {
-    let line = line_of(text, error.span());
-    format!(in alloc; "line {line}: {}", error.message())
+    let number = line_of(text, error.span());
+    let hint = match text.lines().nth(number.saturating_sub(1)) {
+        Some(line) => hint_of_line(line),
+        None => "",
+    };
+    format!(in alloc; "line {number}: {}{hint}", error.message())
 }
 
 /// Where the first fault of a text is, in words: at which key, in a list also of which of its
