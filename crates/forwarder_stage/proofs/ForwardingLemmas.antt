@@ -43,9 +43,9 @@ marks_close : (m : Mark) → deeds.closes {X = Outgoing kinds} (load_in (Marked 
 marks_close mark.Close = refl
 marks_close mark.End = refl
 
-module _ {K : Type 0} (told : K → Option (List Told)) (failed : K → ℕ) (low high : Band) (began : ℕ) (side new : Delivery K) (k : KeepsForwarding told failed low high began side) where
+module _ {K : Type 0} (told : K → Option (List Told)) (failed : K → ℕ) (is_same : K → K → Type 0) (low high : Band) (began : ℕ) (side new : Delivery K) (k : KeepsForwarding told failed low high began side) where
   -- of the high band
-  handed_high : (from : ℕ) (o : Outgoing kinds) → (b : Bool) → high.shut ≡ b → Delivered told failed b o side new → KeepsForwarding told failed low (after_egress_packet from o high) began new
+  handed_high : (from : ℕ) (o : Outgoing kinds) → (b : Bool) → high.shut ≡ b → Delivered told failed is_same b o side new → KeepsForwarding told failed low (after_egress_packet from o high) began new
   handed_high from o true shut d =
       let e = entry from (Payload o) in
       let swept = swept_high told_of low.taker high.taker low.shut high.shut began (failed side.sink) side.share e (told side.sink) o refl shut k in
@@ -58,7 +58,7 @@ module _ {K : Type 0} (told : K → Option (List Told)) (failed : K → ℕ) (lo
       let as_shut = subst (λ (b : Bool). IsForwarding told_of low.taker (took high.taker e) low.shut b (told new.sink) began (failed new.sink) (raise (handed_count h) side.share)) (sym shut) went in
       subst (λ (n : Delivery K). KeepsForwarding told failed low (after_egress_packet from o high) began n) (sym d.4) as_shut
 
-  pub took_high : (met : Option (Outgoing kinds)) (after : Band) → Met (Some met) high after → PassedMet told failed after.shut met side new → KeepsForwarding told failed low after began new
+  pub took_high : (met : Option (Outgoing kinds)) (after : Band) → Met (Some met) high after → PassedMet told failed is_same after.shut met side new → KeepsForwarding told failed low after began new
   took_high None after m p =
       let e = entry m.0 (Marked m.1) in
       let marked = mark_high told_of low.taker high.taker low.shut high.shut began (failed side.sink) side.share e (told side.sink) (no_payload m.1) k in
@@ -66,10 +66,10 @@ module _ {K : Type 0} (told : K → Option (List Told)) (failed : K → ℕ) (lo
       subst (λ (n : Delivery K). KeepsForwarding told failed low after began n) (sym p) (subst (λ (b : Band). KeepsForwarding told failed low b began side) (sym m.2) as_closed)
   took_high (Some o) after m p =
       let same : after.shut ≡ high.shut = ap (λ (b : Band). b.shut) m.1 in
-      subst (λ (b : Band). KeepsForwarding told failed low b began new) (sym m.1) (handed_high m.0 o high.shut refl (subst (λ (b : Bool). Delivered told failed b o side new) same p))
+      subst (λ (b : Band). KeepsForwarding told failed low b began new) (sym m.1) (handed_high m.0 o high.shut refl (subst (λ (b : Bool). Delivered told failed is_same b o side new) same p))
 
   -- of the low band
-  handed_low : (from : ℕ) (o : Outgoing kinds) → (b : Bool) → low.shut ≡ b → Delivered told failed b o side new → KeepsForwarding told failed (after_egress_packet from o low) high began new
+  handed_low : (from : ℕ) (o : Outgoing kinds) → (b : Bool) → low.shut ≡ b → Delivered told failed is_same b o side new → KeepsForwarding told failed (after_egress_packet from o low) high began new
   handed_low from o true shut d =
       let e = entry from (Payload o) in
       let swept = swept_low told_of low.taker high.taker low.shut high.shut began (failed side.sink) side.share e (told side.sink) o refl shut k in
@@ -82,7 +82,7 @@ module _ {K : Type 0} (told : K → Option (List Told)) (failed : K → ℕ) (lo
       let as_shut = subst (λ (b : Bool). IsForwarding told_of (took low.taker e) high.taker b high.shut (told new.sink) began (failed new.sink) (raise (handed_count h) side.share)) (sym shut) went in
       subst (λ (n : Delivery K). KeepsForwarding told failed (after_egress_packet from o low) high began n) (sym d.4) as_shut
 
-  pub took_low : (met : Option (Outgoing kinds)) (after : Band) → Met (Some met) low after → PassedMet told failed after.shut met side new → KeepsForwarding told failed after high began new
+  pub took_low : (met : Option (Outgoing kinds)) (after : Band) → Met (Some met) low after → PassedMet told failed is_same after.shut met side new → KeepsForwarding told failed after high began new
   took_low None after m p =
       let e = entry m.0 (Marked m.1) in
       let marked = mark_low told_of low.taker high.taker low.shut high.shut began (failed side.sink) side.share e (told side.sink) (no_payload m.1) k in
@@ -90,7 +90,7 @@ module _ {K : Type 0} (told : K → Option (List Told)) (failed : K → ℕ) (lo
       subst (λ (n : Delivery K). KeepsForwarding told failed after high began n) (sym p) (subst (λ (b : Band). KeepsForwarding told failed b high began side) (sym m.2) as_closed)
   took_low (Some o) after m p =
       let same : after.shut ≡ low.shut = ap (λ (b : Band). b.shut) m.1 in
-      subst (λ (b : Band). KeepsForwarding told failed b high began new) (sym m.1) (handed_low m.0 o low.shut refl (subst (λ (b : Bool). Delivered told failed b o side new) same p))
+      subst (λ (b : Band). KeepsForwarding told failed b high began new) (sym m.1) (handed_low m.0 o low.shut refl (subst (λ (b : Bool). Delivered told failed is_same b o side new) same p))
 
 module _ {K : Type 0} (told : K → Option (List Told)) (failed : K → ℕ) (low high : Band) (began : ℕ) (side : Delivery K) (k : KeepsForwarding told failed low high began side) where
   -- looks that found nothing

@@ -22,27 +22,31 @@ met_same : (met : Option (Outgoing kinds)) (b b' : Band) → Met (Some met) b b'
 met_same None b b' is = subst (λ (t : Taker (Outgoing kinds)). IsSameTaker b.taker t) (sym (ap (λ (x : Band). x.taker) is.2)) (refl, refl, refl)
 met_same (Some o) b b' is = subst (λ (t : Taker (Outgoing kinds)). IsSameTaker b.taker t) (sym (ap (λ (x : Band). x.taker) is.1)) (refl, refl, refl)
 
-module _ {K : Type 0} where
-  pub forwarder_as : (old new : Forwarding K) → new ≡ old → IsSameForwarder old new
-  forwarder_as old new e = subst (λ (f : Forwarding K). IsSameForwarder old f) (sym e) (forwarder_self old)
+module _ {K : Type 0} (same : K → K → Type 0) (itself : (k : K) → same k k) where
+  pub forwarder_as : (old new : Forwarding K) → new ≡ old → IsSameForwarder same old new
+  forwarder_as old new e = subst (λ (f : Forwarding K). IsSameForwarder same old f) (sym e) (forwarder_self same itself old)
 
   module _ (told : K → Option (List Told)) (failed : K → ℕ) where
-    delivered_same : (shut : Bool) (o : Outgoing kinds) (d d' : Delivery K) → Delivered told failed shut o d d' → d'.config ≡ d.config
-    delivered_same true o d d' is = ap (λ (x : Delivery K). x.config) is.1
-    delivered_same false o d d' is = ap (λ (x : Delivery K). x.config) is.4
+    kept : (d d' : Delivery K) → d'.sink ≡ d.sink → same d.sink d'.sink
+    kept d d' e = subst (λ (k : K). same d.sink k) (sym e) (itself d.sink)
 
-    passed_same : (shut : Bool) (met : Option (Outgoing kinds)) (d d' : Delivery K) → PassedMet told failed shut met d d' → d'.config ≡ d.config
-    passed_same shut None d d' is = ap (λ (x : Delivery K). x.config) is
+    delivered_same : (shut : Bool) (o : Outgoing kinds) (d d' : Delivery K) → Delivered told failed same shut o d d' → (d'.config ≡ d.config) × same d.sink d'.sink
+    delivered_same true o d d' is = (ap (λ (x : Delivery K). x.config) is.1, kept d d' (ap (λ (x : Delivery K). x.sink) is.1))
+    delivered_same false o d d' is = (ap (λ (x : Delivery K). x.config) is.4, is.5)
+
+    passed_same : (shut : Bool) (met : Option (Outgoing kinds)) (d d' : Delivery K) → PassedMet told failed same shut met d d' → (d'.config ≡ d.config) × same d.sink d'.sink
+    passed_same shut None d d' is = (ap (λ (x : Delivery K). x.config) is, kept d d' (ap (λ (x : Delivery K). x.sink) is))
     passed_same shut (Some o) d d' is = delivered_same shut o d d' is
 
-    took_same : (b b' : Band) (d d' : Delivery K) → TookOf told failed b b' d d' → IsSameTaker b.taker b'.taker × (d'.config ≡ d.config)
-    took_same b b' d d' is = (met_same is.0 b b' is.1, passed_same b'.shut is.0 d d' is.2)
+    took_same : (b b' : Band) (d d' : Delivery K) → TookOf told failed same b b' d d' → IsSameTaker b.taker b'.taker × (d'.config ≡ d.config) × same d.sink d'.sink
+    took_same b b' d d' is = let p = passed_same b'.shut is.0 d d' is.2 in (met_same is.0 b b' is.1, p.0, p.1)
 
     module _ (old new : Forwarding K) where
-      forwards_same : (turn : Turn) → Forwards told failed turn old new → IsSameForwarder old new
+      forwards_same : (turn : Turn) → Forwards told failed same turn old new → IsSameForwarder same old new
       forwards_same turn (inl is) =
           let e = is.3 in let t = took_same old.high new.high old.side new.side is.2 in record {
             config = t.1;
+            sink = t.2;
             link = ap (λ (f : Forwarding K). f.link) e;
             began = ap (λ (f : Forwarding K). f.began) e;
             low = subst (λ (x : Taker (Outgoing kinds)). IsSameTaker old.low.taker x) (sym (ap (λ (f : Forwarding K). f.low.taker) e)) (taker_self old.low.taker);
@@ -50,11 +54,12 @@ module _ {K : Type 0} where
             unused = λ one. absurd (let z : true ≡ false = sym is.0 ∙ one in cc);
           }
       forwards_same turn (inr (inl is)) =
-          subst (λ (f : Forwarding K). IsSameForwarder old f) (sym is.1)
-          (record { config = refl; link = refl; began = refl; low = (refl, refl, refl); high = looks_same (is_two old) old.high; unused = λ one. unlooked (is_two old) old.high one })
+          subst (λ (f : Forwarding K). IsSameForwarder same old f) (sym is.1)
+          (record { config = refl; link = refl; sink = itself old.side.sink; began = refl; low = (refl, refl, refl); high = looks_same (is_two old) old.high; unused = λ one. unlooked (is_two old) old.high one })
       forwards_same turn (inr (inr is)) =
           let e = is.2 in let t = took_same old.low new.low old.side new.side is.1 in record {
             config = t.1;
+            sink = t.2;
             link = ap (λ (f : Forwarding K). f.link) e;
             began = ap (λ (f : Forwarding K). f.began) e;
             low = t.0;
@@ -62,25 +67,26 @@ module _ {K : Type 0} where
             unused = λ one. ap (λ (f : Forwarding K). f.high) e ∙ unlooked (is_two old) old.high one;
           }
 
-      forwards_on : Forwards told failed Ended old new → ⊥
+      forwards_on : Forwards told failed same Ended old new → ⊥
       forwards_on (inl is) = absurd (let z : Ended ≡ Did = is.1 in cc)
       forwards_on (inr (inl is)) = absurd (let z : Ended ≡ Quiet = is.0 in cc)
       forwards_on (inr (inr is)) = absurd (let z : Ended ≡ Did = is.0 in cc)
 
-      pub forwarded_same : (turn : Turn) → Forwarded told failed turn old new → IsSameForwarder old new
+      pub forwarded_same : (turn : Turn) → Forwarded told failed same turn old new → IsSameForwarder same old new
       forwarded_same turn (inl is) = forwarder_as old new is.2
       forwarded_same turn (inr (inl is)) = forwarder_as old new is.3
       forwarded_same turn (inr (inr is)) = forwards_same turn is.2
 
-      pub forwarded_ended : Forwarded told failed Ended old new → ForwarderEnded new
+      pub forwarded_ended : Forwarded told failed same Ended old new → ForwarderEnded new
       forwarded_ended (inl is) = subst (λ (f : Forwarding K). ForwarderEnded f) (sym is.2) is.0
       forwarded_ended (inr (inl is)) = absurd (let z : Ended ≡ Quiet = is.2 in cc)
       forwarded_ended (inr (inr is)) = absurd (forwards_on is.2)
 
-  pub forwarder_posted : (old new : Forwarding K) → new ≡ posted new.side.share old → IsSameForwarder old new
+  pub forwarder_posted : (old new : Forwarding K) → new ≡ posted new.side.share old → IsSameForwarder same old new
   forwarder_posted old new e =
-      subst (λ (f : Forwarding K). IsSameForwarder old f) (sym e)
-      (record { config = refl; link = refl; began = refl; low = taker_self old.low.taker; high = taker_self old.high.taker; unused = λ one. refl })
+      subst (λ (f : Forwarding K). IsSameForwarder same old f) (sym e)
+      (record { config = refl; link = refl; sink = itself old.side.sink; began = refl; low = taker_self old.low.taker; high = taker_self old.high.taker; unused = λ one. refl })
 
+module _ {K : Type 0} where
   pub forwarder_still : (old new : Forwarding K) → new ≡ posted new.side.share old → ForwarderEnded old → ForwarderEnded new
   forwarder_still old new e is = subst (λ (f : Forwarding K). ForwarderEnded f) (sym e) is

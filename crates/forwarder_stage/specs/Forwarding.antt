@@ -81,23 +81,23 @@ handed o took = record { item = o; took = took }
 abbrev pub count_of : Bool → Bool → Count kinds
 count_of took answer = if took then (if answer then Replied else Sent) else Dropped Fate.SendFailed
 
-module _ {K : Type 0} (told : K → Option (List Told)) (failed : K → ℕ) where
+module _ {K : Type 0} (told : K → Option (List Told)) (failed : K → ℕ) (same : K → K → Type 0) where
   -- it was handed to the sink, which took it or failed
   abbrev pub HandedOn : Outgoing kinds → Delivery K → Delivery K → Type 0
   HandedOn o old new =
       (took : Bool) × AddsTo (told old.sink) (told_of (handed o took)) (told new.sink) × (failed new.sink ≡ failed old.sink + (if took then 0 else 1)) × ((buffer : List ℕ) × GaveBack o.arrived buffer old.free new.free)
-      × (new ≡ record { config = old.config; sink = new.sink; free = new.free; share = raise (handed_count (handed o took)) old.share })
+      × (new ≡ record { config = old.config; sink = new.sink; free = new.free; share = raise (handed_count (handed o took)) old.share }) × same old.sink new.sink
 
 module _ {K : Type 0} where
   -- it was swept
   abbrev pub Swept : Outgoing kinds → Delivery K → Delivery K → Type 0
   Swept o old new = ((buffer : List ℕ) × GaveBack o.arrived buffer old.free new.free) × (new ≡ record { config = old.config; sink = old.sink; free = new.free; share = raise (Dropped Fate.Closed) old.share })
 
-  module _ (told : K → Option (List Told)) (failed : K → ℕ) where
+  module _ (told : K → Option (List Told)) (failed : K → ℕ) (same : K → K → Type 0) where
     -- before the closing mark of its pipe it is handed on, after that it is swept
     abbrev pub Delivered : Bool → Outgoing kinds → Delivery K → Delivery K → Type 0
     Delivered true o old new = Swept o old new
-    Delivered false o old new = HandedOn told failed o old new
+    Delivered false o old new = HandedOn told failed same o old new
 
     -- what was met is passed on
     abbrev pub PassedMet : Bool → Option (Outgoing kinds) → Delivery K → Delivery K → Type 0
@@ -144,13 +144,13 @@ module _ {K : Type 0} where
   abbrev pub posted : Held → Forwarding K → Forwarding K
   posted share f = with_bands f.low f.high (with_share share f.side) f
 
-  module _ (told : K → Option (List Told)) (failed : K → ℕ) where
+  module _ (told : K → Option (List Told)) (failed : K → ℕ) (same : K → K → Type 0) where
     -- one entry is taken of the high band, or, where that was seen empty, of the low one
     abbrev pub Forwards : Turn → Forwarding K → Forwarding K → Type 0
     Forwards turn old new =
-        ((is_two old ≡ true) × (turn ≡ Did) × TookOf told failed old.high new.high old.side new.side × (new ≡ with_bands old.low new.high new.side old))
+        ((is_two old ≡ true) × (turn ≡ Did) × TookOf told failed same old.high new.high old.side new.side × (new ≡ with_bands old.low new.high new.side old))
         ⊎ ((turn ≡ Quiet) × (new ≡ with_bands (after_look old.low) (looks_first (is_two old) old.high) old.side old))
-        ⊎ ((turn ≡ Did) × TookOf told failed old.low new.low old.side new.side × (new ≡ with_bands new.low (looks_first (is_two old) old.high) new.side old))
+        ⊎ ((turn ≡ Did) × TookOf told failed same old.low new.low old.side new.side × (new ≡ with_bands new.low (looks_first (is_two old) old.high) new.side old))
 
     -- one turn
     abbrev pub Forwarded : Turn → Forwarding K → Forwarding K → Type 0

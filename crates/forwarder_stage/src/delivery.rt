@@ -101,7 +101,7 @@ impl<N: Router, K: Sink> Delivery<N, K> {
     pub fn deliver<R: Wait>(&mut self, rt: &R, shut: bool, egress_packet: EgressPacket<N>)
         requires sink { K.failed self.old.sink < 2 ^ 64 - 1 }
         requires room { MayRaise self.old.share.counts }
-        ensures { Delivered K.told K.failed shut egress_packet self.old self.new }
+        ensures { Delivered K.told K.failed K.same shut egress_packet self.old self.new }
     {
         if shut {
             self.sweep(rt, egress_packet)
@@ -114,7 +114,7 @@ impl<N: Router, K: Sink> Delivery<N, K> {
     pub fn pass<R: Wait>(&mut self, rt: &R, shut: bool, met: Option<EgressPacket<N>>)
         requires sink { K.failed self.old.sink < 2 ^ 64 - 1 }
         requires room { MayRaise self.old.share.counts }
-        ensures { PassedMet K.told K.failed shut met self.old self.new }
+        ensures { PassedMet K.told K.failed K.same shut met self.old self.new }
     {
         if let Some(egress_packet) = met {
             self.deliver(rt, shut, egress_packet);
@@ -124,7 +124,7 @@ impl<N: Router, K: Sink> Delivery<N, K> {
     fn hand_on<R: Wait>(&mut self, rt: &R, egress_packet: EgressPacket<N>)
         requires sink { K.failed self.old.sink < 2 ^ 64 - 1 }
         requires room { MayRaise self.old.share.counts }
-        ensures { HandedOn K.told K.failed egress_packet self.old self.new }
+        ensures { HandedOn K.told K.failed K.same egress_packet self.old self.new }
     {
         let link = egress_packet.arrived();
         let took = self

@@ -131,7 +131,7 @@ impl<N: Router, K: Sink> Stage for Forwarder<N, K> {
     ghost use Rattle.forwarder_stage.specs.Forwarding.{ForwarderEnded};
     ghost use Rattle.forwarder_stage.specs.SameForwarder.{IsSameForwarder};
 
-    ghost same = { λ a b. IsSameForwarder a b };
+    ghost same = { λ a b. IsSameForwarder K.same a b };
 
     ghost has_ended = { λ f. ForwarderEnded f };
 }
@@ -148,7 +148,7 @@ impl<N: Router, K: Sink> Turns<Book<N>> for Forwarder<N, K> {
 
     ghost may_turn = { λ f. HasRoom f.side.share.counts };
 
-    ghost has_turned = { λ turn a b. Forwarded K.told K.failed turn a b };
+    ghost has_turned = { λ turn a b. Forwarded K.told K.failed K.same turn a b };
 
     ghost awaits = { λ f said. MatchBool said (AwaitsPush K.failed f) (AwaitsPush K.failed f → ⊥) };
 
@@ -202,13 +202,13 @@ impl<N: Router, K: Sink> Turns<Book<N>> for Forwarder<N, K> {
         self.delivery.post(rt, book);
     }
 
-    ghost same_self = { λ x. forwarder_self x };
+    ghost same_self = { λ x. forwarder_self K.same K.same_self x };
 
-    ghost same_then = { λ x y z p q. forwarder_then x y z p q };
+    ghost same_then = { λ x y z p q. forwarder_then K.same K.same_then x y z p q };
 
-    ghost turn_keeps = { λ turn x y is. (forwarded_same K.told K.failed x y turn is, λ e. forwarded_ended K.told K.failed x y (subst (λ (t : Turn). Forwarded K.told K.failed t x y) e is)) };
+    ghost turn_keeps = { λ turn x y is. (forwarded_same K.same K.same_self K.told K.failed x y turn is, λ e. forwarded_ended K.same K.same_self K.told K.failed x y (subst (λ (t : Turn). Forwarded K.told K.failed K.same t x y) e is)) };
 
-    ghost wait_keeps = { λ waited x y is. forwarder_as x y is.1 };
+    ghost wait_keeps = { λ waited x y is. forwarder_as K.same K.same_self x y is.1 };
 
-    ghost post_keeps = { λ x y is. (forwarder_posted x y is.1, λ ended. forwarder_still x y is.1 ended, posted_drains x.side.share y.side.share is.0) };
+    ghost post_keeps = { λ x y is. (forwarder_posted K.same K.same_self x y is.1, λ ended. forwarder_still x y is.1 ended, posted_drains x.side.share y.side.share is.0) };
 }

@@ -23,26 +23,6 @@ outcome_same x Accepted old new is = gave_same old.stock.free.pipe every (place 
 outcome_same x Refused old new is = kept_same old.stock.free.pipe every (place old.config x) x old.processors new.processors refl is.1
 
 module _ {S : Type 0} where
-  as_side : (old new : Receiving S) → new.side ≡ old.side → IsSameReceiver old new
-  as_side old new e = record {
-    config = ap (λ (i : Intake). i.config) e;
-    link = ap (λ (i : Intake). i.link) e;
-    interface = ap (λ (i : Intake). i.interface) e;
-    processors = ends_as every old.side.processors new.side.processors (ap (λ (i : Intake). i.processors) e);
-  }
-
-  heard_same : (turn : Turn) (h : Heard) (old new : Receiving S) → Heeds turn h old new → IsSameReceiver old new
-  heard_same turn (Gave from now bytes) old new is =
-      let p = is.3 in record {
-        config = p.same.0;
-        link = p.same.1;
-        interface = p.same.2;
-        processors = outcome_same (arrival old.side.link old.side.interface (old.number + 1) from now bytes) p.outcome old.side new.side p.ended;
-      }
-  heard_same turn WasQuiet old new is = as_side old new is.1
-  heard_same turn HadFailed old new is = as_side old new is.1
-  heard_same turn WasAtEnd old new is = as_side old new is.2
-
   idles_on : (old new : Receiving S) → Idles Ended old new → ⊥
   idles_on old new is = go is.2
     where
@@ -56,19 +36,8 @@ module _ {S : Type 0} where
   heeds_on HadFailed old new is = idles_on old new is
   heeds_on WasAtEnd old new is = absurd (let z : Ended ≡ Did = is.0 in cc)
 
-  module _ (told : S → Option (List Heard)) (failed : S → ℕ) (old new : Receiving S) where
-    pub received_same : (turn : Turn) → Received told failed turn old new → IsSameReceiver old new
-    received_same turn (inl is) =
-        let all = is.1.0 in let trying = is.1.1 in let e = is.1.3 in record {
-          config = ap (λ (r : Receiving S). r.side.config) e;
-          link = ap (λ (r : Receiving S). r.side.link) e;
-          interface = ap (λ (r : Receiving S). r.side.interface) e;
-          processors = tried_same every old.side.processors new.side.processors trying.tried;
-        }
-    received_same turn (inr (inl is)) = as_side old new (ap (λ (r : Receiving S). r.side) is.3)
-    received_same turn (inr (inr is)) = heard_same turn is.1.0 old new is.1.2
-
-    pub received_ended : Received told failed Ended old new → ReceiverEnded new
+  module _ (told : S → Option (List Heard)) (failed : S → ℕ) (same : S → S → Type 0) (old new : Receiving S) where
+    pub received_ended : Received told failed same Ended old new → ReceiverEnded new
     received_ended (inl is) = record {
       ended = ap (λ (r : Receiving S). r.ended) is.1.3 ∙ is.0;
       processors = all_there is.1.0 every new.side.processors is.1.2 is.1.1.there;
@@ -76,11 +45,51 @@ module _ {S : Type 0} where
     received_ended (inr (inl is)) = absurd (let z : Ended ≡ Quiet = is.2 in cc)
     received_ended (inr (inr is)) = absurd (heeds_on is.1.0 old new is.1.2)
 
-    pub waited_same : Waited told failed old new → IsSameReceiver old new
-    waited_same is = as_side old new (ap (λ (r : Receiving S). r.side) is.2)
-
-  pub receiver_posted : (old new : Receiving S) → new ≡ posted new.side.share old → IsSameReceiver old new
-  receiver_posted old new e = subst (λ (r : Receiving S). IsSameReceiver old r) (sym e) (record { config = refl; link = refl; interface = refl; processors = ends_self every old.side.processors })
-
   pub receiver_still : (old new : Receiving S) → new ≡ posted new.side.share old → ReceiverEnded old → ReceiverEnded new
   receiver_still old new e is = subst (λ (r : Receiving S). ReceiverEnded r) (sym e) (record { ended = is.ended; processors = is.processors })
+
+module _ {S : Type 0} (same : S → S → Type 0) (itself : (s : S) → same s s) where
+  as_side : (old new : Receiving S) → same old.source new.source → new.side ≡ old.side → IsSameReceiver same old new
+  as_side old new source e = record {
+    config = ap (λ (i : Intake). i.config) e;
+    link = ap (λ (i : Intake). i.link) e;
+    interface = ap (λ (i : Intake). i.interface) e;
+    source = source;
+    processors = ends_as every old.side.processors new.side.processors (ap (λ (i : Intake). i.processors) e);
+  }
+
+  -- a source that was not touched
+  kept : (old new : Receiving S) → new.source ≡ old.source → same old.source new.source
+  kept old new e = subst (λ (s : S). same old.source s) (sym e) (itself old.source)
+
+  heard_same : (turn : Turn) (h : Heard) (old new : Receiving S) → same old.source new.source → Heeds turn h old new → IsSameReceiver same old new
+  heard_same turn (Gave from now bytes) old new source is =
+      let p = is.3 in record {
+        config = p.same.0;
+        link = p.same.1;
+        interface = p.same.2;
+        source = source;
+        processors = outcome_same (arrival old.side.link old.side.interface (old.number + 1) from now bytes) p.outcome old.side new.side p.ended;
+      }
+  heard_same turn WasQuiet old new source is = as_side old new source is.1
+  heard_same turn HadFailed old new source is = as_side old new source is.1
+  heard_same turn WasAtEnd old new source is = as_side old new source is.2
+
+  module _ (told : S → Option (List Heard)) (failed : S → ℕ) (old new : Receiving S) where
+    pub received_same : (turn : Turn) → Received told failed same turn old new → IsSameReceiver same old new
+    received_same turn (inl is) =
+        let all = is.1.0 in let trying = is.1.1 in let e = is.1.3 in record {
+          config = ap (λ (r : Receiving S). r.side.config) e;
+          link = ap (λ (r : Receiving S). r.side.link) e;
+          interface = ap (λ (r : Receiving S). r.side.interface) e;
+          source = kept old new (ap (λ (r : Receiving S). r.source) e);
+          processors = tried_same every old.side.processors new.side.processors trying.tried;
+        }
+    received_same turn (inr (inl is)) = as_side old new (kept old new (ap (λ (r : Receiving S). r.source) is.3)) (ap (λ (r : Receiving S). r.side) is.3)
+    received_same turn (inr (inr is)) = heard_same turn is.1.0 old new is.1.1.3 is.1.2
+
+    pub waited_same : Waited told failed same old new → IsSameReceiver same old new
+    waited_same is = as_side old new is.3 (ap (λ (r : Receiving S). r.side) is.2)
+
+  pub receiver_posted : (old new : Receiving S) → new ≡ posted new.side.share old → IsSameReceiver same old new
+  receiver_posted old new e = subst (λ (r : Receiving S). IsSameReceiver same old r) (sym e) (record { config = refl; link = refl; interface = refl; source = itself old.source; processors = ends_self every old.side.processors })

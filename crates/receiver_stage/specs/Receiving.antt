@@ -84,10 +84,10 @@ module _ {S : Type 0} where
       (all : Bool) × Trying (λ j. true) old.side.processors new.side.processors all × (turn ≡ ending all)
       × (new ≡ with_side (with_processors new.side.processors old.side) old)
 
-  module _ (told : S → Option (List Heard)) (failed : S → ℕ) where
+  module _ (told : S → Option (List Heard)) (failed : S → ℕ) (same : S → S → Type 0) where
     -- the source was asked once, and answered
     abbrev pub Asked : Heard → S → S → Type 0
-    Asked h old new = (failed old < 2 ^ 64 - 1) × (failed new ≡ failed old + failures_in h) × AddsTo (told old) h (told new)
+    Asked h old new = (failed old < 2 ^ 64 - 1) × (failed new ≡ failed old + failures_in h) × AddsTo (told old) h (told new) × same old new
 
     -- one turn
     abbrev pub Received : Turn → Receiving S → Receiving S → Type 0
@@ -98,7 +98,7 @@ module _ {S : Type 0} where
 
     -- it waited for its source, which told nothing new
     abbrev pub Waited : Receiving S → Receiving S → Type 0
-    Waited old new = (told new.source ≡ told old.source) × (failed new.source ≡ failed old.source) × (new ≡ record { number = old.number; source = new.source; ended = old.ended; side = old.side })
+    Waited old new = (told new.source ≡ told old.source) × (failed new.source ≡ failed old.source) × (new ≡ record { number = old.number; source = new.source; ended = old.ended; side = old.side }) × same old.source new.source
 
   -- its counts are posted, which leaves this share
   abbrev pub posted : Held → Receiving S → Receiving S

@@ -110,6 +110,7 @@ impl<N: Router> Intake<N> {
         ensures fits { fits result }
         ensures failed { S.failed source.new ≡ S.failed source.old + failures_of result }
         ensures told { AddsTo (S.told source.old) (heard self.new.room result) (S.told source.new) }
+        ensures device { S.same source.old source.new }
     {
         self.pool.read(source)
     }

@@ -118,7 +118,7 @@ impl<N: Router, S: Source> Receiver<N, S> {
 impl<N: Router, S: Source> Stage for Receiver<N, S> {
     ghost use Rattle.receiver_stage.specs.SameReceiver.{IsSameReceiver, ReceiverEnded};
 
-    ghost same = { λ a b. IsSameReceiver a b };
+    ghost same = { λ a b. IsSameReceiver S.same a b };
 
     ghost has_ended = { λ r. ReceiverEnded r };
 }
@@ -135,11 +135,11 @@ impl<N: Router, S: Source> Turns<Book<N>> for Receiver<N, S> {
 
     ghost may_turn = { λ r. HasRoom r.side.share.counts };
 
-    ghost has_turned = { λ turn a b. Received S.told S.failed turn a b };
+    ghost has_turned = { λ turn a b. Received S.told S.failed S.same turn a b };
 
     ghost awaits = { λ r said. said ≡ false };
 
-    ghost has_waited = { λ waited a b. Waited S.told S.failed a b × MatchBool a.ended (waited ≡ false) (S.waits a.source waited) };
+    ghost has_waited = { λ waited a b. Waited S.told S.failed S.same a b × MatchBool a.ended (waited ≡ false) (S.waits a.source waited) };
 
     ghost has_posted = { λ a b. IsPosted a.side.share b.side.share × (b ≡ posted b.side.share a) };
 
@@ -202,13 +202,13 @@ impl<N: Router, S: Source> Turns<Book<N>> for Receiver<N, S> {
         self.intake.post(rt, book);
     }
 
-    ghost same_self = { λ x. receiver_self x };
+    ghost same_self = { λ x. receiver_self S.same S.same_self x };
 
-    ghost same_then = { λ x y z p q. receiver_then x y z p q };
+    ghost same_then = { λ x y z p q. receiver_then S.same S.same_then x y z p q };
 
-    ghost turn_keeps = { λ turn x y is. (received_same S.told S.failed x y turn is, λ e. received_ended S.told S.failed x y (subst (λ (t : Turn). Received S.told S.failed t x y) e is)) };
+    ghost turn_keeps = { λ turn x y is. (received_same S.same S.same_self S.told S.failed x y turn is, λ e. received_ended S.told S.failed S.same x y (subst (λ (t : Turn). Received S.told S.failed S.same t x y) e is)) };
 
-    ghost wait_keeps = { λ waited x y is. waited_same S.told S.failed x y is.0 };
+    ghost wait_keeps = { λ waited x y is. waited_same S.same S.same_self S.told S.failed x y is.0 };
 
-    ghost post_keeps = { λ x y is. (receiver_posted x y is.1, λ ended. receiver_still x y is.1 ended, posted_drains x.side.share y.side.share is.0) };
+    ghost post_keeps = { λ x y is. (receiver_posted S.same S.same_self x y is.1, λ ended. receiver_still x y is.1 ended, posted_drains x.side.share y.side.share is.0) };
 }

@@ -29,6 +29,7 @@ use Rattle.stage_parts.specs.Back.{AreBack}
 use Rattle.router_stages.specs.SameReceiver.{IsSameReceiver, ReceiverEnded}
 use Rattle.router_stages.specs.SameProcessor.{IsSameProcessor, ProcessorEnded}
 use Rattle.router_stages.specs.SameSlowPath.{IsSameSlowPath, SlowPathEnded}
+use Rattle.router_run.proofs.Devices.{any}
 use Rattle.router_run.specs.Wiring.{AreAnswering, AreForwarding, AreWorking, IsCrew, IsReceivingAt}
 use Rattle.run_report.specs.Crew.{Crew, inner_rows, inner_takers, middle_row, outer_rows, takers_of}
 use Rattle.wired_workers.specs.Kits.{IsAnsweringAt, IsWorkingAt}
@@ -77,7 +78,7 @@ module _ {S : Type 0} (told : S → Option (List Heard)) (c : Config) (p : Pipin
   abbrev KeptIn : Receiving S → Type 0
   KeptIn r = IsReceiving r.side.config r.side.link r.side.interface r.number (told r.source) r.side.stock.free.looks (senders r.side.processors) r.side.share × NeverClosed (senders r.side.processors)
 
-  receiver_kept : (n : ℕ) (a b : Receiving S) → IsReceivingAt c p n a → IsSameReceiver a b × ReceiverEnded b → KeptIn b → IsBackReceiver c n (receiver_back told b)
+  receiver_kept : (n : ℕ) (a b : Receiving S) → IsReceivingAt c p n a → IsSameReceiver any a b × ReceiverEnded b → KeptIn b → IsBackReceiver c n (receiver_back told b)
   receiver_kept n a b is back kept =
       let config : b.side.config ≡ c = back.0.config ∙ is.config in
       let link : b.side.link ≡ n = back.0.link ∙ is.link in
@@ -88,7 +89,7 @@ module _ {S : Type 0} (told : S → Option (List Heard)) (c : Config) (p : Pipin
         ends ∙ processors,
       )
 
-  pub receivers_kept : (n : ℕ) (xs ys : List (Receiving S)) → AllAt (IsReceivingAt c p) n xs → AreBack (λ a b. IsSameReceiver a b × ReceiverEnded b) xs ys → Each KeptIn ys → AllAt (IsBackReceiver c) n (map (receiver_back told) ys)
+  pub receivers_kept : (n : ℕ) (xs ys : List (Receiving S)) → AllAt (IsReceivingAt c p) n xs → AreBack (λ a b. IsSameReceiver any a b × ReceiverEnded b) xs ys → Each KeptIn ys → AllAt (IsBackReceiver c) n (map (receiver_back told) ys)
   receivers_kept n [] [] all back kept = tt
   receivers_kept n [] (y ∷ ys) all back kept = absurd back
   receivers_kept n (x ∷ xs) [] all back kept = absurd back
@@ -164,7 +165,7 @@ module _ {T : Type 0} where
 -- ---- all together
 
 module _ {S G K : Type 0} (told : S → Option (List Heard)) (shown : K → Option (List Told)) (failed : K → ℕ) (c : Config) (p : Piping) (old new : Crew S G K) (a : Answering)
-    (is : IsCrew c p old) (back : IsBack old new) (kept : HasKept told shown failed new) (settled : HasSettled p new) (one : new.slow ≡ a ∷ []) where
+    (is : IsCrew c p old) (back : IsBack any any old new) (kept : HasKept told shown failed new) (settled : HasSettled p new) (one : new.slow ≡ a ∷ []) where
   abbrev b : Returned Told
   b = back_of told shown failed new a
 

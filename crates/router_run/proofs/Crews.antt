@@ -15,6 +15,7 @@ use Rattle.pipe_ends.specs.Rows.{Row, rows_of}
 use Rattle.pipe_ends.specs.Settled.{AreBundles, AreTaken, HasTaken, HaveEnded, IsEnded}
 use Rattle.pipe_ends.specs.Shutting.{shutter_ends}
 use Rattle.stage_parts.specs.Back.{AreBack}
+use Rattle.router_run.proofs.Devices.{any}
 use Rattle.router_run.specs.Wiring.{AreAnswering, IsCrew}
 use Rattle.run_report.specs.Crew.{Crew, inner_rows, inner_takers, middle_row, middle_takers, outer_rows, takers_of}
 use Rattle.router_pipes.specs.Piping.{Piping}
@@ -42,7 +43,7 @@ module _ (c : Config) (p : Piping) where
   middle_taken (a ∷ []) (b ∷ d ∷ ys) t are back same = absurd back.1
   middle_taken (a ∷ []) (b ∷ []) t are back same = let e : b.taker ≡ t = cc in subst (λ (u : Taker (SlowPathRequest kinds)). HasTaken true p.middle u) e (slow_taken c p a b are back.0)
 
-module _ {S G K : Type 0} (c : Config) (p : Piping) (old new : Crew S G K) (is : IsCrew c p old) (back : IsBack old new) (marked : HasMarked new) where
+module _ {S G K : Type 0} (c : Config) (p : Piping) (old new : Crew S G K) (is : IsCrew c p old) (back : IsBack any any old new) (marked : HasMarked new) where
   worked : length new.processors ≡ c.processors
   worked = back_long (P c p) old.processors new.processors back.processors ∙ (working_long c p 0 p.inner old.processors is.processors ∙ is.pipes.processors)
 

@@ -26,6 +26,7 @@ use Rattle.stage_parts.specs.Told.{Told, told_of}
 use Rattle.pipe_ends.specs.Rows.{HaveLeft, Row, rows_of}
 use Rattle.pipe_ends.specs.Settled.{AreSettled, HaveEnded, IsDone, IsEnded}
 use Rattle.run_report.specs.Parting.{HasKept, IsParted, IsSized, shares_in}
+use Rattle.router_run.proofs.Devices.{any, without_devices}
 use Rattle.router_run.specs.Back.{HasSettled, back_of, forwarder_back, processor_back, receiver_back, IsBack}
 use Rattle.run_report.specs.Crew.{Crew, inner_rows, inner_takers, middle_takers, outer_rows, takers_of}
 use Rattle.router_run.specs.Wiring.{IsCrew}
@@ -42,7 +43,7 @@ one_of (x ∷ []) e = (x, refl)
 one_of (x ∷ y ∷ xs) e = absurd (omega arith)
 
 -- receivers that came back, ended, had asked their sources to the end
-asked_quietly : {S : Type 0} (told : S → Option (List Heard)) (old new : List (Receiving S)) → AreBack (λ a b. IsSameReceiver a b × ReceiverEnded b) old new
+asked_quietly : {S : Type 0} (told : S → Option (List Heard)) (old new : List (Receiving S)) → AreBack (λ a b. IsSameReceiver any a b × ReceiverEnded b) old new
     → Each (λ (r : Receiving S). r.ended ≡ true → EndsQuietly r.number (told r.source)) new → Each (λ (r : Receiving S). EndsQuietly r.number (told r.source)) new
 asked_quietly told old [] back quiet = tt
 asked_quietly told [] (y ∷ ys) back quiet = absurd back
@@ -120,18 +121,18 @@ module _ {S G K : Type 0} where
         ∙ ap (λ (xs : List Held). map (λ (r : ReceiverBack). r.share) (map (receiver_back told) w.receivers) ++ (map (λ (p : ProcessorBack). p.share) (map processor_back w.processors) ++ (a.side.share ∷ xs))) (sym fs)))
 
     -- all together
-    pub has_run : RunsAsTold Told → (r : Run S G K) (w : Crew S G K) (a : Answering) (totals : Totals) (shares : List Held) (sent : List ℕ) (sources : List S) (sinks : List K)
-        → IsCrew r.config r.pipes r.crew → IsBack r.crew w → HasKept told shown failed w → HasSettled r.pipes w → w.slow ≡ a ∷ []
+    pub has_run : (same_source : S → S → Type 0) (same_sink : K → K → Type 0) → RunsAsTold Told → (r : Run S G K) (w : Crew S G K) (a : Answering) (totals : Totals) (shares : List Held) (sent : List ℕ) (sources : List S) (sinks : List K)
+        → IsCrew r.config r.pipes r.crew → IsBack same_source same_sink r.crew w → HasKept told shown failed w → HasSettled r.pipes w → w.slow ≡ a ∷ []
         → shares ≡ shares_in w → totals ≡ totals_of shares → sent ≡ map (λ (f : Forwarding K). forwarded f.side.share) w.forwarders → sources ≡ map (λ (x : Receiving S). x.source) w.receivers → sinks ≡ map (λ (f : Forwarding K). f.side.sink) w.forwarders
-        → HasRun told shown failed r totals sent sources sinks
-    has_run runs r w a totals shares sent sources sinks is back kept set one same counts sends reads writes = record {
+        → HasRun told shown failed same_source same_sink r totals sent sources sinks
+    has_run same_source same_sink runs r w a totals shares sent sources sinks is back kept set one same counts sends reads writes = let plain = without_devices same_source same_sink r.crew w back in record {
       crew = w;
       slow = a;
       one = one;
       back = back;
       settled = set;
-      asked = asked_quietly told r.crew.receivers w.receivers back.receivers kept.quiet;
-      ran = runs told_of r.config (back_of told shown failed w a) _ (crews_return told shown failed r.config r.pipes r.crew w a is back kept set one);
+      asked = asked_quietly told r.crew.receivers w.receivers plain.receivers kept.quiet;
+      ran = runs told_of r.config (back_of told shown failed w a) _ (crews_return told shown failed r.config r.pipes r.crew w a is plain kept set one);
       totals_are = counts ∙ ap totals_of (same ∙ shares_same w a one);
       sent_are = sends;
       sources_are = reads;
@@ -140,9 +141,9 @@ module _ {S G K : Type 0} where
 
 -- ---- a running router, seen as its parts
 
-module _ {S G K : Type 0} (told : S → Option (List Heard)) (shown : K → Option (List Told)) (failed : K → ℕ) where
-  pub run_as : (q r : Run S G K) (totals : Totals) (sent : List ℕ) (sources : List S) (sinks : List K) → q ≡ r → HasRun told shown failed q totals sent sources sinks → HasRun told shown failed r totals sent sources sinks
-  run_as q r totals sent sources sinks e ran = subst (λ (x : Run S G K). HasRun told shown failed x totals sent sources sinks) e ran
+module _ {S G K : Type 0} (told : S → Option (List Heard)) (shown : K → Option (List Told)) (failed : K → ℕ) (same_source : S → S → Type 0) (same_sink : K → K → Type 0) where
+  pub run_as : (q r : Run S G K) (totals : Totals) (sent : List ℕ) (sources : List S) (sinks : List K) → q ≡ r → HasRun told shown failed same_source same_sink q totals sent sources sinks → HasRun told shown failed same_source same_sink r totals sent sources sinks
+  run_as q r totals sent sources sinks e ran = subst (λ (x : Run S G K). HasRun told shown failed same_source same_sink x totals sent sources sinks) e ran
 
 pub left_as : {T : Type 0} (n m : ℕ) (ss : List Shape) (rs : List (Row T)) → n ≡ m → HaveLeft m 0 ss rs → HaveLeft n 0 ss rs
 left_as n m ss rs e left = subst (λ (k : ℕ). HaveLeft k 0 ss rs) (sym e) left

@@ -7,3 +7,4 @@ pub mod CrewLemmas
 pub mod Finish
 pub mod Sized
 pub mod TeamLemmas
+pub mod Devices

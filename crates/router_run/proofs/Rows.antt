@@ -27,6 +27,7 @@ use Rattle.router_stages.specs.SameReceiver.{IsSameReceiver, ReceiverEnded}
 use Rattle.router_stages.specs.SameProcessor.{IsSameProcessor, ProcessorEnded}
 use Rattle.router_stages.specs.SameSlowPath.{IsSameSlowPath, SlowPathEnded}
 use Rattle.router_stages.specs.SameForwarder.{IsSameForwarder}
+use Rattle.router_run.proofs.Devices.{any}
 use Rattle.router_run.specs.Wiring.{IsReceivingAt, AreWorking, AreAnswering, IsForwardingAt, AreForwarding}
 use Rattle.router_pipes.specs.Piping.{Piping, IsTakerOf}
 use Rattle.wired_workers.specs.Kits.{IsWorkingAt, IsAnsweringAt}
@@ -56,7 +57,7 @@ has_taken used s t is all = record { pipe = is.0; producers = is.1; capacity = i
 
 module _ {S : Type 0} (c : Config) (p : Piping) where
   abbrev pub R : Receiving S → Receiving S → Type 0
-  R a b = IsSameReceiver a b × ReceiverEnded b
+  R a b = IsSameReceiver any a b × ReceiverEnded b
 
   receiver_finished : (n : ℕ) (a b : Receiving S) → IsReceivingAt c p n a → R a b → AreMarked b.side.processors → AreFinished (λ j. true) 0 n p.inner (senders b.side.processors)
   receiver_finished n a b is back marked =
@@ -198,7 +199,7 @@ module _ (c : Config) (p : Piping) where
 
 module _ {K : Type 0} (c : Config) (p : Piping) where
   abbrev pub F : Forwarding K → Forwarding K → Type 0
-  F a b = IsSameForwarder a b × ForwarderEnded b
+  F a b = IsSameForwarder any a b × ForwarderEnded b
 
   low_taken : (l : ℕ) (low high : Shape) (a b : Forwarding K) → IsForwardingAt c p l low high a → F a b → HasTaken (are_used c (2 * l)) low b.low.taker
   low_taken l low high a b is back = has_taken (are_used c (2 * l)) low b.low.taker (taken_of low a.low.taker b.low.taker is.low back.0.low) (λ u. back.1.0)

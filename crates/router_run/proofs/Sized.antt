@@ -13,6 +13,7 @@ use Rattle.stage_parts.specs.Back.{AreBack}
 use Rattle.router_stages.specs.SameReceiver.{IsSameReceiver, ReceiverEnded}
 use Rattle.router_stages.specs.SameProcessor.{IsSameProcessor, ProcessorEnded}
 use Rattle.router_stages.specs.SameSlowPath.{IsSameSlowPath, SlowPathEnded}
+use Rattle.router_run.proofs.Devices.{any}
 use Rattle.router_run.specs.Wiring.{AreAnswering, AreWorking, IsCrew, IsReceivingAt}
 use Rattle.run_report.specs.Crew.{Crew}
 use Rattle.router_pipes.specs.Piping.{Piping}
@@ -24,7 +25,7 @@ use Rattle.router_run.proofs.Rows.{back_long, working_long}
 use Rattle.run_report.specs.Parting.{IsSized}
 
 module _ {S : Type 0} (c : Config) (p : Piping) where
-  receivers_sized : (n : ℕ) (xs ys : List (Receiving S)) → AllAt (IsReceivingAt c p) n xs → AreBack (λ a b. IsSameReceiver a b × ReceiverEnded b) xs ys → Each (λ (r : Receiving S). length r.side.processors ≡ length p.inner) ys
+  receivers_sized : (n : ℕ) (xs ys : List (Receiving S)) → AllAt (IsReceivingAt c p) n xs → AreBack (λ a b. IsSameReceiver any a b × ReceiverEnded b) xs ys → Each (λ (r : Receiving S). length r.side.processors ≡ length p.inner) ys
   receivers_sized n [] [] all back = tt
   receivers_sized n [] (y ∷ ys) all back = absurd back
   receivers_sized n (x ∷ xs) [] all back = absurd back
@@ -60,7 +61,7 @@ module _ {S G K : Type 0} (c : Config) (p : Piping) (w : Crew S G K) (is : IsCre
   crew_forwarders : length w.forwarders ≡ link_count c
   crew_forwarders = let x = forwarding_long c p 0 p.outer w.forwarders is.forwarders in let y = is.pipes.links in omega arith
 
-pub is_sized : {S G K : Type 0} (c : Config) (p : Piping) (old new : Crew S G K) → IsCrew c p old → IsBack old new → IsSized (link_count c) c.processors new
+pub is_sized : {S G K : Type 0} (c : Config) (p : Piping) (old new : Crew S G K) → IsCrew c p old → IsBack any any old new → IsSized (link_count c) c.processors new
 is_sized {S = S} {G = G} c p old new is back =
     let inner = is.pipes.processors in
     let outer = is.pipes.links in

@@ -21,12 +21,12 @@ use Rattle.router_stages.specs.SameProcessor.{IsSameProcessor, ProcessorEnded}
 use Rattle.router_stages.specs.SameSlowPath.{IsSameSlowPath, SlowPathEnded}
 use Rattle.router_stages.specs.SameForwarder.{IsSameForwarder}
 
--- Each worker is the same and has ended; the controller's end marks are there.
-pub record IsBack {S G K : Type 0} (old new : Crew S G K) : Type 0 where
-  pub receivers : AreBack (λ a b. IsSameReceiver a b × ReceiverEnded b) old.receivers new.receivers
+-- Each worker is the same, over the same device, and has ended; the controller's end marks are there.
+pub record IsBack {S G K : Type 0} (same_source : S → S → Type 0) (same_sink : K → K → Type 0) (old new : Crew S G K) : Type 0 where
+  pub receivers : AreBack (λ a b. IsSameReceiver same_source a b × ReceiverEnded b) old.receivers new.receivers
   pub processors : AreBack (λ a b. IsSameProcessor a b × ProcessorEnded b) old.processors new.processors
   pub slow : AreBack (λ a b. IsSameSlowPath a b × SlowPathEnded b) old.slow new.slow
-  pub forwarders : AreBack (λ a b. IsSameForwarder a b × ForwarderEnded b) old.forwarders new.forwarders
+  pub forwarders : AreBack (λ a b. IsSameForwarder same_sink a b × ForwarderEnded b) old.forwarders new.forwarders
   pub shutters : EachEnds old.shutters new.shutters
 
 -- All pipes were gathered.

@@ -35,14 +35,14 @@ pub record IsSameRun {S G K : Type 0} (old new : Run S G K) : Type 0 where
   pub slow : new.crew.slow ≡ old.crew.slow
   pub forwarders : new.crew.forwarders ≡ old.crew.forwarders
 
-module _ {S G K : Type 0} (told : S → Option (List Heard)) (shown : K → Option (List Told)) (failed : K → ℕ) where
-  -- Its workers came back, each the same and ended, and what they did is what the running theorem says. The report has their totals,
+module _ {S G K : Type 0} (told : S → Option (List Heard)) (shown : K → Option (List Told)) (failed : K → ℕ) (same_source : S → S → Type 0) (same_sink : K → K → Type 0) where
+  -- Its workers came back, each the same over the same device, and ended, and what they did is what the running theorem says. The report has their totals,
   -- what each sink took, and the sources and sinks, in the order of the links.
   pub record HasRun (r : Run S G K) (totals : Totals) (sent : List ℕ) (sources : List S) (sinks : List K) : Type 0 where
     pub crew : Crew S G K
     pub slow : Answering
     pub one : crew.slow ≡ slow ∷ []
-    pub back : IsBack r.crew crew
+    pub back : IsBack same_source same_sink r.crew crew
     pub settled : HasSettled r.pipes crew
     -- each source that tells was asked to an answer that is no datagram, or gave 2^56 datagrams
     pub asked : Each (λ (w : Receiving S). EndsQuietly w.number (told w.source)) crew.receivers

@@ -44,7 +44,7 @@ where
     G: Gate,
     R: Threads + Wait + Clock,
     requires unmarked { AreUnended controller.shutters.items }
-    ensures { IsBack (crew_of threads.receivers threads.processors threads.slow threads.forwarders controller.shutters.items) result }
+    ensures { IsBack S.same K.same (crew_of threads.receivers threads.processors threads.slow threads.forwarders controller.shutters.items) result }
 {
     let Threaded {
         receivers,

@@ -227,7 +227,7 @@ where
     /// Ends the router: the workers come to their ends and are joined, and the pipes gathered. It takes
     /// no memory.
     pub fn finish(self) -> Report<S, K>
-        ensures { HasRun S.told K.told K.failed self result.totals result.sent.items result.sources.items result.sinks.items }
+        ensures { HasRun S.told K.told K.failed S.same K.same self result.totals result.sent.items result.sources.items result.sinks.items }
     {
         rules_are_lawful();
         links_stand_in_order();

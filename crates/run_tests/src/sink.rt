@@ -69,6 +69,12 @@ impl Sink for PlannedSink {
 
     ghost failed = { λ s. s.list.failed };
 
+    ghost same = { λ a b. Unit {0} };
+
+    ghost same_self = { λ x. tt };
+
+    ghost same_then = { λ x y z p q. tt };
+
     fn send(&mut self, out: &Outgoing, bytes: &[u8]) -> Result<(), SinkFault> {
         self.words.handed.fetch_add(1, Ordering::SeqCst);
         if self.holds {

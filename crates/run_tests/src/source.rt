@@ -144,6 +144,12 @@ impl Source for PlannedSource {
 
     ghost failed = { λ s. s.failed };
 
+    ghost same = { λ a b. Unit {0} };
+
+    ghost same_self = { λ x. tt };
+
+    ghost same_then = { λ x y z p q. tt };
+
     ghost waits = { λ s said. said ≡ false };
 
     fn next_into(&mut self, buffer: &mut [u8]) -> NextLen {

@@ -132,15 +132,25 @@ impl ListSink {
 }
 
 impl Sink for ListSink {
+    ghost use Rattle.std.specs.Prelude.{◌≡◌};
+    ghost use Rattle.std.proofs.Common.{refl, ◌∙◌};
+
     ghost told = { λ s. s.told };
 
     ghost failed = { λ s. s.failed };
+
+    ghost same = { λ a b. b.fails ≡ a.fails };
+
+    ghost same_self = { λ x. refl };
+
+    ghost same_then = { λ x y z p q. q ∙ p };
 
     fn send(&mut self, out: &Outgoing, bytes: &[u8]) -> Result<(), SinkFault>
         requires { self.old.failed < 2 ^ 64 - 1 }
         ensures failed { self.new.failed ≡ self.old.failed + (if is_ok result then 0 else 1) }
         ensures told { AddsTo self.old.told (telling out.now bytes.now (is_ok result)) self.new.told }
         ensures sends { Sends (is_ok result) self.old self.new }
+        ensures device { self.new.fails ≡ self.old.fails }
     {
         let took = self.takes_next();
         let kept = self.note(out, bytes, took);

@@ -111,6 +111,12 @@ impl Source for ListSource {
 
     ghost failed = { λ s. s.failed };
 
+    ghost same = { λ a b. Unit {0} };
+
+    ghost same_self = { λ x. tt };
+
+    ghost same_then = { λ x y z p q. tt };
+
     ghost waits = { λ s said. said ≡ false };
 
     fn next_into(&mut self, buffer: &mut [u8]) -> NextLen
@@ -121,6 +127,7 @@ impl Source for ListSource {
         ensures failed { self.new.failed ≡ self.old.failed + failures_of result }
         ensures told { AddsTo self.old.told (heard buffer.new result) self.new.told }
         ensures gives { Gives self.old.coming (heard buffer.new result) self.new.coming }
+        ensures device { Unit {0} }
     {
         if self.given >= self.answers.len() {
             self.ends = self.ends.saturating_add(1);

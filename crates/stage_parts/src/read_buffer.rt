@@ -41,6 +41,7 @@ impl ReadBuffer {
         ensures fits { fits result }
         ensures failed { S.failed source.new ≡ S.failed source.old + failures_of result }
         ensures told { AddsTo (S.told source.old) (heard self.new result) (S.told source.new) }
+        ensures device { S.same source.old source.new }
     {
         source.next_into(self.storage.bytes.as_mut_slice())
     }

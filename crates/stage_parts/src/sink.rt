@@ -21,11 +21,19 @@ pub trait Sink {
     /// How often it failed.
     ghost failed: { Self → ℕ };
 
+    /// The same device, whatever it did between: no call makes it another one.
+    ghost same: { Self → Self → Type 0 };
+
+    ghost same_self: { (x : Self) → same x x };
+
+    ghost same_then: { (x y z : Self) → same x y → same y z → same x z };
+
     /// Sends a datagram.
     fn send(&mut self, out: &Outgoing, bytes: &[u8]) -> Result<(), SinkFault>
         requires { failed self.old < 2 ^ 64 - 1 }
         ensures failed { failed self.new ≡ failed self.old + (if is_ok result then 0 else 1) }
-        ensures told { AddsTo (told self.old) (telling out.now bytes.now (is_ok result)) (told self.new) };
+        ensures told { AddsTo (told self.old) (telling out.now bytes.now (is_ok result)) (told self.new) }
+        ensures device { same self.old self.new };
 
     /// How often it failed.
     fn failures(&self) -> u64

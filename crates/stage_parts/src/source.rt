@@ -36,6 +36,13 @@ pub trait Source {
     /// How often it failed.
     ghost failed: { Self → ℕ };
 
+    /// The same device, whatever it did between: no call makes it another one.
+    ghost same: { Self → Self → Type 0 };
+
+    ghost same_self: { (x : Self) → same x x };
+
+    ghost same_then: { (x y z : Self) → same x y → same y z → same x z };
+
     /// What it may say of a wait: whether it waited in a way of its own.
     ghost waits: { Self → Bool → Type 0 };
 
@@ -46,14 +53,16 @@ pub trait Source {
         ensures same { length buffer.new ≡ length buffer.old }
         ensures fits { fits result }
         ensures failed { failed self.new ≡ failed self.old + failures_of result }
-        ensures told { AddsTo (told self.old) (heard buffer.new result) (told self.new) };
+        ensures told { AddsTo (told self.old) (heard buffer.new result) (told self.new) }
+        ensures device { same self.old self.new };
 
     /// Waits until there may be a datagram, and says whether it waited: at false its caller has to wait
     /// in a way of its own. It may return at any moment, and is to return within a tenth of a second.
     fn wait(&mut self) -> bool
         ensures told { told self.new ≡ told self.old }
         ensures failed { failed self.new ≡ failed self.old }
-        ensures waits { waits self.old result };
+        ensures waits { waits self.old result }
+        ensures device { same self.old self.new };
 
     /// How often it failed.
     fn failures(&self) -> u64

@@ -39,6 +39,12 @@ impl Source for Flows {
 
     ghost failed = { λ s. 0 };
 
+    ghost same = { λ a b. Unit {0} };
+
+    ghost same_self = { λ x. tt };
+
+    ghost same_then = { λ x y z p q. tt };
+
     ghost waits = { λ s said. said ≡ false };
 
     fn next_into(&mut self, buffer: &mut [u8]) -> NextLen {
@@ -76,6 +82,12 @@ impl Sink for Sums {
     ghost told = { λ s. None };
 
     ghost failed = { λ s. 0 };
+
+    ghost same = { λ a b. Unit {0} };
+
+    ghost same_self = { λ x. tt };
+
+    ghost same_then = { λ x y z p q. tt };
 
     fn send(&mut self, out: &Outgoing, bytes: &[u8]) -> Result<(), SinkFault> {
         let mut sum = self.sum.wrapping_add(out.number);

@@ -1,16 +1,12 @@
 -- Devices bound one by one.
-use Rattle.std.proofs.Common.{◌≡◌, ◌≤◌, ℕ, ◌+◌, List, [], ◌∷◌, ◌++◌, map, replicate, ap, sym, ◌∙◌, arith}
+use Rattle.std.proofs.Common.{◌≡◌, ◌≤◌, ℕ, ◌+◌, List, [], ◌∷◌, ◌++◌, map, ap, sym, ◌∙◌, arith}
 use Rattle.std.specs.List.{range_with_len}
-use Rattle.std.proofs.lemmas.List.{replicate_more}
 use Rattle.std.proofs.lemmas.List.FromFn.{map-range_with_len_more}
 
 module _ {X : Type 0} where
-  pub one_more_source : (all before : List X) (x y : X) (n : ℕ) → before ≡ replicate n y → x ≡ y → all ≡ before ++ x ∷ [] → all ≡ replicate (n + 1) y
-  one_more_source all before x y n so_far is pushed = pushed ∙ ap (λ xs. xs ++ x ∷ []) so_far ∙ ap (λ z. replicate n y ++ z ∷ []) is ∙ replicate_more n y
-
-  pub one_more_sink : (f : ℕ → X) (all before : List X) (x : X) (n : ℕ) → before ≡ map f (range_with_len 0 n) → x ≡ f n → all ≡ before ++ x ∷ []
+  pub one_more : (f : ℕ → X) (all before : List X) (x : X) (n : ℕ) → before ≡ map f (range_with_len 0 n) → x ≡ f n → all ≡ before ++ x ∷ []
       → all ≡ map f (range_with_len 0 (n + 1))
-  one_more_sink f all before x n so_far is pushed =
+  one_more f all before x n so_far is pushed =
       let here : 0 + n ≡ n = omega arith in
       pushed ∙ ap (λ xs. xs ++ x ∷ []) so_far ∙ ap (λ y. map f (range_with_len 0 n) ++ y ∷ []) is ∙ sym (map-range_with_len_more f 0 n n here)
 

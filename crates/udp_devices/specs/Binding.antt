@@ -2,12 +2,16 @@
 use Rattle.std.specs.Prelude.{◌≡◌, ◌<◌, ⊤, ℕ}
 use Rattle.process_packet.specs.declared.config.Config.{Config}
 use Rattle.router_rules.specs.Links.{interface_at, link_count}
-use Rattle.udp_devices.specs.Devices.{Sending}
+use Rattle.udp_devices.specs.Devices.{Reading, Sending}
 use Rattle.udp_devices.specs.Ends.{ends_of}
 use Rattle.udp_devices.specs.declared.binding.BindFault.{BindFault}
 use Rattle.udp_devices.specs.declared.binding.BindFault.TheVariants as fault
 
--- the sink of the link with a number
+-- the source of the link with a number
+abbrev pub source_at : Config → ℕ → Reading
+source_at c index = record { local = (ends_of c (interface_at c index)).local; failed = 0 }
+
+-- its sink
 abbrev pub sink_at : Config → ℕ → Sending
 sink_at c index = record { ends = ends_of c (interface_at c index); failed = 0 }
 

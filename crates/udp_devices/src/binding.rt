@@ -1,9 +1,9 @@
 //! Binding the sockets of a router's links.
 
-ghost use Rattle.std.specs.Prelude.{◌≡◌, ◌<◌, ℕ, IfOk, IfErr, map, replicate};
+ghost use Rattle.std.specs.Prelude.{◌≡◌, ◌<◌, ℕ, IfOk, IfErr, map};
 ghost use Rattle.std.specs.List.{range_with_len};
 ghost use Rattle.router_rules.specs.Links.{interface_at, link_count};
-ghost use Rattle.udp_devices.specs.Binding.{IsOfRouter, sink_at};
+ghost use Rattle.udp_devices.specs.Binding.{IsOfRouter, sink_at, source_at};
 ghost use Rattle.udp_devices.specs.declared.binding.BindFault.TheVariants.{Memory};
 
 use crate::address::socket_address;
@@ -59,10 +59,13 @@ pub fn open_link<R: Net + Clock + Copy + Drop>(
     rt: &R,
     ends: Ends,
 ) -> io::Result<(UdpSource<R>, UdpSink)>
-    ensures { IfOk result (λ both. (both.0 ≡ 0) × (both.1 ≡ record { ends = ends; failed = 0 })) }
+    ensures { IfOk result (λ both. (both.0 ≡ record { local = ends.local; failed = 0 }) × (both.1 ≡ record { ends = ends; failed = 0 })) }
 {
     let (reads, sends) = open(rt, &ends)?;
-    Ok((UdpSource::of(*rt, reads), UdpSink::of(sends, ends)))
+    Ok((
+        UdpSource::of(*rt, reads, ends.local),
+        UdpSink::of(sends, ends),
+    ))
 }
 
 /// Binds a socket at the internal address, and then one at each link's own address, in ascending order of
@@ -72,7 +75,7 @@ pub fn bind_links<R: Net + Clock + Copy + Drop>(
     alloc: Global,
     config: &Config,
 ) -> Result<Devices<R>, BindFault>
-    ensures sources { IfOk result (λ d. d.sources.items ≡ replicate (link_count config.now) 0) }
+    ensures sources { IfOk result (λ d. d.sources.items ≡ map (source_at config.now) (range_with_len 0 (link_count config.now))) }
     ensures sinks { IfOk result (λ d. d.sinks.items ≡ map (sink_at config.now) (range_with_len 0 (link_count config.now))) }
     ensures fault { IfErr result (IsOfRouter config.now) }
 {

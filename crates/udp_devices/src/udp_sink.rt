@@ -78,15 +78,24 @@ impl UdpSink {
 }
 
 impl Sink for UdpSink {
+    ghost use Rattle.std.specs.Prelude.{◌≡◌};
+    ghost use Rattle.std.proofs.Common.{refl, ◌∙◌};
+
     ghost told = { λ s. None };
 
     ghost failed = { λ s. s.failed };
+
+    ghost same = { λ a b. b.ends ≡ a.ends };
+
+    ghost same_self = { λ x. refl };
+
+    ghost same_then = { λ x y z p q. q ∙ p };
 
     fn send(&mut self, out: &Outgoing, bytes: &[u8]) -> Result<(), SinkFault>
         requires { self.old.failed < 2 ^ 64 - 1 }
         ensures failed { self.new.failed ≡ self.old.failed + (if is_ok result then 0 else 1) }
         ensures told { AddsTo None (telling out.now bytes.now (is_ok result)) None }
-        ensures ends { self.new.ends ≡ self.old.ends }
+        ensures device { self.new.ends ≡ self.old.ends }
         ensures nowhere { destination self.old.ends out.now.to ≡ None → is_ok result ≡ false }
     {
         if self.is_sent(out.to, bytes) {

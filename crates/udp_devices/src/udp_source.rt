@@ -14,19 +14,20 @@ use std::net::{SocketAddr, UdpSocket};
 use std::time::{Clock, SystemTime, UNIX_EPOCH};
 
 /// Reads a socket without waiting, and the machine's clock. It never answers that there will be none any
-/// more. Contracts see how often it failed.
+/// more. Contracts see the address at which the socket was opened, and how often it failed.
 pub struct UdpSource<R: Clock + Drop> {
     clock: R,
     socket: UdpSocket,
+    local: Underlay,
     failed: u64,
 }
 
 impl<R: Clock + Drop> Model for UdpSource<R> {
-    ghost use Rattle.std.specs.Prelude.{ℕ};
+    ghost use Rattle.udp_devices.specs.Devices.{Reading};
 
-    ghost Value = { ℕ };
+    ghost Value = { Reading };
 
-    ghost view = { λ s. s.failed };
+    ghost view = { λ s. record { local = s.local; failed = s.failed } };
 }
 
 // Not derived: a derived drop is proved again in each crate that drops one.
@@ -35,6 +36,7 @@ impl<R: Clock + Drop> Drop for UdpSource<R> {
         let UdpSource {
             clock: _,
             socket: _,
+            local: _,
             failed: _,
         } = self;
     }
@@ -76,13 +78,14 @@ fn read_one<R: Clock>(clock: &R, socket: &UdpSocket, buffer: &mut [u8]) -> NextL
 }
 
 impl<R: Clock + Drop> UdpSource<R> {
-    /// A source over a socket that doesn't wait.
-    pub(crate) fn of(clock: R, socket: UdpSocket) -> UdpSource<R>
-        ensures { result ≡ 0 }
+    /// A source over a socket that was opened at this address and doesn't wait.
+    pub(crate) fn of(clock: R, socket: UdpSocket, local: Underlay) -> UdpSource<R>
+        ensures { result ≡ record { local = local; failed = 0 } }
     {
         UdpSource {
             clock,
             socket,
+            local,
             failed: 0,
         }
     }
@@ -97,9 +100,18 @@ impl<R: Clock + Drop> UdpSource<R> {
 }
 
 impl<R: Clock + Drop> Source for UdpSource<R> {
+    ghost use Rattle.std.specs.Prelude.{◌≡◌};
+    ghost use Rattle.std.proofs.Common.{refl, ◌∙◌};
+
     ghost told = { λ s. None };
 
-    ghost failed = { λ s. s };
+    ghost failed = { λ s. s.failed };
+
+    ghost same = { λ a b. b.local ≡ a.local };
+
+    ghost same_self = { λ x. refl };
+
+    ghost same_then = { λ x y z p q. q ∙ p };
 
     ghost waits = { λ s said. Unit {0} };
 

@@ -1,7 +1,6 @@
 -- The interfaces of the links, one by one, and what the start of a router with a device a link gives.
 use Rattle.std.proofs.Common.{◌≡◌, ◌≤◌, ◌+◌, ℕ, List, [], ◌∷◌, ◌++◌, length, map, None, Some, ap, sym, subst, ◌∙◌, arith}
 use Rattle.std.specs.List.{AllByRecursion, range_with_len}
-use Rattle.std.proofs.lemmas.List.{length-replicate}
 use Rattle.std.proofs.lemmas.List.FromFn.{length-map-range_with_len, map-range_with_len_more}
 use Rattle.process_packet.specs.declared.config.Config.{Config}
 use Rattle.router_rules.specs.Links.{link_count}
@@ -9,8 +8,8 @@ use Rattle.router_run.specs.Starting.{Begins, GivesBack}
 use Rattle.router_run.specs.declared.fault.StartFault.{StartFault}
 use Rattle.router_run.specs.declared.fault.StartFault.TheVariants as begin
 use Rattle.run_engine.specs.declared.fault.RunFault.{RunFault}
-use Rattle.udp_devices.specs.Binding.{sink_at}
-use Rattle.udp_devices.specs.Devices.{Sending}
+use Rattle.udp_devices.specs.Binding.{sink_at, source_at}
+use Rattle.udp_devices.specs.Devices.{Reading, Sending}
 use Rattle.udp_router.specs.OverUdp.{Router}
 use Rattle.udp_router.specs.Run.{IsFault, IsNew, new_sinks, new_sources, unstarted}
 
@@ -32,16 +31,16 @@ untold X Y [] = tt
 untold X Y (x ∷ xs) = (λ ys no. cc, untold X Y xs)
 
 -- a router that began with new devices is new
-pub is_new : (c : Config) (r : Router) (sources : List ℕ) (sinks : List Sending) → sources ≡ new_sources c → sinks ≡ new_sinks c → Begins (λ (k : Sending). k.failed) c sources sinks r → IsNew c r
+pub is_new : (c : Config) (r : Router) (sources : List Reading) (sinks : List Sending) → sources ≡ new_sources c → sinks ≡ new_sinks c → Begins (λ (k : Sending). k.failed) c sources sinks r → IsNew c r
 is_new c r sources sinks from to begins =
-    let P : List ℕ → Type 0 = λ xs. Begins (λ (k : Sending). k.failed) c xs sinks r in
+    let P : List Reading → Type 0 = λ xs. Begins (λ (k : Sending). k.failed) c xs sinks r in
     let Q : List Sending → Type 0 = λ xs. Begins (λ (k : Sending). k.failed) c (new_sources c) xs r in
     subst Q to (subst P from begins)
 
 -- it isn't for the count of devices that it doesn't start
-pub is_no_count : (c : Config) (f : StartFault ℕ Sending) (e : RunFault) (sources : List ℕ) (sinks : List Sending) → sources ≡ new_sources c → sinks ≡ new_sinks c
+pub is_no_count : (c : Config) (f : StartFault Reading Sending) (e : RunFault) (sources : List Reading) (sinks : List Sending) → sources ≡ new_sources c → sinks ≡ new_sinks c
     → GivesBack (link_count c) f sources sinks → e ≡ unstarted f → IsFault c e
 is_no_count c (begin.NoMemory a b) e sources sinks from to gives is = let P : RunFault → Type 0 = λ x. IsFault c x in subst P (sym is) tt
 is_no_count c (begin.Count a b) e sources sinks from to gives is =
-    absurd (gives.2 (ap length from ∙ length-replicate (link_count c) 0, ap length to ∙ length-map-range_with_len (sink_at c) 0 (link_count c)))
+    absurd (gives.2 (ap length from ∙ length-map-range_with_len (source_at c) 0 (link_count c), ap length to ∙ length-map-range_with_len (sink_at c) 0 (link_count c)))
 is_no_count c begin.Thread e sources sinks from to gives is = let P : RunFault → Type 0 = λ x. IsFault c x in subst P (sym is) tt

@@ -1,5 +1,5 @@
 -- A router that runs over its sockets, as the one who runs it sees it.
-use Rattle.std.specs.Prelude.{⊤, ℕ, List, None, Result, Ok, Err}
+use Rattle.std.specs.Prelude.{◌≡◌, ⊤, ℕ, List, None, Result, Ok, Err}
 use Rattle.router_lines.specs.declared.closing.Closing.{Closing}
 use Rattle.router_lines.specs.declared.closing.Closing.TheVariants as closing
 use Rattle.router_pipes.specs.Closing.{Closing as Marking}
@@ -7,11 +7,11 @@ use Rattle.router_run.specs.Run.{HasRun, IsSameRun, Run}
 use Rattle.router_pipes.specs.declared.closing.CloseFault.{CloseFault}
 use Rattle.router_pipes.specs.declared.closing.CloseFault.TheVariants as fault
 use Rattle.run_engine.specs.declared.control.Figures.{Figures}
-use Rattle.udp_devices.specs.Devices.{Sending}
+use Rattle.udp_devices.specs.Devices.{Reading, Sending}
 
--- A source over a socket is seen as how often it failed; the gate holds nothing back.
+-- A source over a socket is seen as the address at which that was opened, and how often it failed; the gate holds nothing back.
 abbrev pub Router : Type 0
-Router = Run ℕ ⊤ Sending
+Router = Run Reading ⊤ Sending
 
 abbrev pub result_of : Closing → Result (Unit {0}) CloseFault
 result_of closing.Closed = Ok tt
@@ -26,4 +26,4 @@ pub record Closes (before : Router) (link : ℕ) (told : Closing) (after : Route
 
 -- The figures are those of a run of it. Neither its sources nor its sinks tell what a socket gave or took.
 abbrev pub Tells : Router → Figures → Type 0
-Tells router figures = (sources : List ℕ) × (sinks : List Sending) × HasRun (λ s. None) (λ k. None) (λ k. k.failed) router figures.totals figures.sent.items sources sinks
+Tells router figures = (sources : List Reading) × (sinks : List Sending) × HasRun (λ s. None) (λ k. None) (λ k. k.failed) (λ a b. b.local ≡ a.local) (λ a b. b.ends ≡ a.ends) router figures.totals figures.sent.items sources sinks

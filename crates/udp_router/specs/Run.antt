@@ -1,5 +1,5 @@
 -- What `router run` does over its sockets.
-use Rattle.std.specs.Prelude.{◌≡◌, ◌⊎◌, ◌<◌, ℕ, ⊤, List, Option, Result, Ok, Err, map, replicate}
+use Rattle.std.specs.Prelude.{◌≡◌, ◌⊎◌, ◌<◌, ℕ, ⊤, List, Option, Result, Ok, Err, map}
 use Rattle.std.specs.List.{range_with_len}
 use Rattle.process_packet.specs.declared.config.Config.{Config}
 use Rattle.router_engine.specs.declared.fault.LinesFault.{LinesFault}
@@ -11,18 +11,18 @@ use Rattle.router_run.specs.declared.fault.StartFault.TheVariants as begin
 use Rattle.run_engine.specs.Run.{Ran}
 use Rattle.run_engine.specs.declared.fault.RunFault.{RunFault}
 use Rattle.run_engine.specs.declared.fault.RunFault.TheVariants as fault
-use Rattle.udp_devices.specs.Binding.{sink_at}
+use Rattle.udp_devices.specs.Binding.{sink_at, source_at}
 use Rattle.udp_devices.specs.declared.binding.BindFault.{BindFault}
 use Rattle.udp_devices.specs.declared.binding.BindFault.TheVariants as bind
-use Rattle.udp_devices.specs.Devices.{Sending}
+use Rattle.udp_devices.specs.Devices.{Reading, Sending}
 use Rattle.udp_router.specs.OverUdp.{Closes, Router, Tells}
 
 -- the interfaces of the links, ascending
 abbrev pub ascending : Config → List ℕ
 ascending c = map (interface_at c) (range_with_len 0 (link_count c))
 
-abbrev pub new_sources : Config → List ℕ
-new_sources c = replicate (link_count c) 0
+abbrev pub new_sources : Config → List Reading
+new_sources c = map (source_at c) (range_with_len 0 (link_count c))
 
 abbrev pub new_sinks : Config → List Sending
 new_sinks c = map (sink_at c) (range_with_len 0 (link_count c))

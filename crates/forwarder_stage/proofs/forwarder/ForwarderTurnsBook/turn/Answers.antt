@@ -16,8 +16,8 @@ invariant_of-self g c =
     let s = c.self.inside in
     let T = g.K.Sink.told in
     let F = g.K.Sink.failed in
-    let passed = subst (λ (b : Bool). PassedMet T F b c.in-Some.met s.delivery c.pass.new.self) c.is_shut.ensures c.pass.ensures in
-    took_high T F s.low s.high s.began s.delivery c.pass.new.self c.self.invariant c.in-Some.met c.take_if.new.self c.in-Some.ensures.1 passed
+    let passed = subst (λ (b : Bool). PassedMet T F g.K.Sink.same b c.in-Some.met s.delivery c.pass.new.self) c.is_shut.ensures c.pass.ensures in
+    took_high T F g.K.Sink.same s.low s.high s.began s.delivery c.pass.new.self c.self.invariant c.in-Some.met c.take_if.new.self c.in-Some.ensures.1 passed
 
 pub invariant_of-self-in-Some-take : goal.invariant_of-self-in-Some-take
 invariant_of-self-in-Some-take g c =
@@ -26,9 +26,9 @@ invariant_of-self-in-Some-take g c =
     let F = g.K.Sink.failed in
     let two = c.has_two_bands-two_bands.result in
     let looked = looked_first T F s.low s.high s.began s.delivery c.self.invariant two c.take_if.new.self c.in_default.ensures in
-    let passed = subst (λ (b : Bool). PassedMet T F b c.in-Some-take.met s.delivery c.pass-in-Some-take.new.self) c.is_shut-in-Some-take.ensures c.pass-in-Some-take.ensures in
+    let passed = subst (λ (b : Bool). PassedMet T F g.K.Sink.same b c.in-Some-take.met s.delivery c.pass-in-Some-take.new.self) c.is_shut-in-Some-take.ensures c.pass-in-Some-take.ensures in
     let k : KeepsForwarding T F c.take.new.self c.take_if.new.self s.began c.pass-in-Some-take.new.self =
-    took_low T F s.low c.take_if.new.self s.began s.delivery c.pass-in-Some-take.new.self looked c.in-Some-take.met c.take.new.self c.in-Some-take.ensures passed in
+    took_low T F g.K.Sink.same s.low c.take_if.new.self s.began s.delivery c.pass-in-Some-take.new.self looked c.in-Some-take.met c.take.new.self c.in-Some-take.ensures passed in
     k
 
 pub returns-in-None : goal.returns-in-None

@@ -60,8 +60,8 @@ returns-in-Datagram g c =
     let adds : AddsTo (T s.source) (Gave from now bytes) (T c.read.new.source) = subst (λ (n : NextLen). AddsTo (T s.source) (heard c.read.new.self.room n) (T c.read.new.source)) c.in-Datagram.is c.read.ensures.told in
     let failed : F c.read.new.source ≡ F s.source + 0 = subst (λ (n : NextLen). F c.read.new.source ≡ F s.source + failures_of n) c.in-Datagram.is c.read.ensures.failed in
     let few : F s.source < 2 ^ 64 - 1 = let r = c.failures.ensures in let n = c.if-failures.false in let t = c.failures.type_inv in grind arith in
-    let is : Received T F Did u new = inr (inr (c.if-self.false, (Gave from now bytes, (few, failed, adds), (refl, refl, refl, passed)))) in
-    subst (λ (v : Receiving g.row.S.Denot). Received T F Did v new) c.self.view_is is
+    let is : Received T F g.S.Source.same Did u new = inr (inr (c.if-self.false, (Gave from now bytes, (few, failed, adds, c.read.ensures.device), (refl, refl, refl, passed)))) in
+    subst (λ (v : Receiving g.row.S.Denot). Received T F g.S.Source.same Did v new) c.self.view_is is
 
 pub returns-then-self : goal.returns-then-self
 returns-then-self g c = search rules
