@@ -128,7 +128,7 @@ impl<N: Router, G: Gate> Processor<N, G> {
 }
 
 impl<N: Router, G: Gate + Drop> Processor<N, G> {
-    /// Its ends of pipes and its counts, which tell what it did.
+    /// Its ends of pipes and its counts, which tell what it did, and its gate.
     pub fn into_parts(
         self,
     ) -> (
@@ -137,12 +137,13 @@ impl<N: Router, G: Gate + Drop> Processor<N, G> {
         Outlet<SlowPathRequest<N>>,
         Vec<Producer<Buffer>>,
         Share<N>,
+        Arc<G, Global>,
     )
-        ensures parts { (result.0 ≡ self.taker) × (result.1.items ≡ self.side.links) × (result.2 ≡ self.slow) × (result.3.items ≡ self.side.free) × (result.4 ≡ self.side.share) }
+        ensures parts { (result.0 ≡ self.taker) × (result.1.items ≡ self.side.links) × (result.2 ≡ self.slow) × (result.3.items ≡ self.side.free) × (result.4 ≡ self.side.share) × (arc_value result.5 ≡ self.gate) }
         ensures law { IsWorking self.side.config self.taker self.hand (senders self.side.links) self.slow.sender self.side.share }
     {
         let Processor {
-            gate: _,
+            gate,
             index: _,
             from,
             hand: _,
@@ -150,7 +151,7 @@ impl<N: Router, G: Gate + Drop> Processor<N, G> {
             exits,
         } = self;
         let (links, free, share) = exits.into_parts();
-        (from, links, slow, free, share)
+        (from, links, slow, free, share, gate)
     }
 }
 

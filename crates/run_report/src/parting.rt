@@ -116,7 +116,7 @@ pub fn part_processors<N: Router, G: Gate + Drop>(
     for k in 0..count {
         let processor = processors.next();
         let row = rows.next();
-        let (from, links, slow, _, share) = processor.into_parts();
+        let (from, links, slow, _, share, _) = processor.into_parts();
         takers.push_reserved(from.into_consumer());
         asking.put(slow.into_producer());
         bundles.push_reserved(bare(links, row));
