@@ -23,7 +23,8 @@ fn words_of<R: Env + AllocGlobal>(rt: &R) -> io::Result<Vec<String>> {
 fn asks_for_help(words: &[String]) -> bool
     ensures { length words.now ≢ 1 → result ≡ false }
 {
-    words.len() == 1 && words[0].as_str() == "--help"
+    let is_one = words.len() == 1;
+    is_one && words[0].as_str() == "--help"
 }
 
 /// Tries the path that these words ask for.
