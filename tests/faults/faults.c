@@ -219,6 +219,14 @@ static bool tells_one(const struct command *command, const struct ending *ending
     return tells(command, ending, (const char *const[]){fault, NULL});
 }
 
+/* The fault of a file that can't be read. `check` says why. */
+static bool tells_file(const struct command *command, const struct ending *ending) {
+    char why[256];
+    if (strcmp(command->name, "check")) return tells_one(command, ending, "file");
+    snprintf(why, sizeof why, "file: %s (os error %d)", strerror(page->error), page->error);
+    return tells_one(command, ending, why);
+}
+
 /* Of a running router: nothing was refused to the one who gives it commands, and the report accounts for each
    datagram but those lost before the router had them. */
 static bool adds_up(const struct command *command, const struct ending *ending, unsigned long lost,
@@ -264,10 +272,11 @@ static bool is_good(const struct command *command, const struct ending *ending) 
     switch (page->kind) {
     case GROWTH:
         return is_right(command, ending) || tells(command, ending, command->runs ? lacks : lacks + 2);
-    case OPEN: return is_right(command, ending) || tells_one(command, ending, "file");
+    case OPEN: return is_right(command, ending) || tells_file(command, ending);
     case READ:
         if (page->error == EINTR) return is_right(command, ending);
-        return tells_one(command, ending, descriptor ? "file" : "input");
+        if (descriptor) return tells_file(command, ending) || (!strcmp(command->name, "check") && is_right(command, ending));
+        return tells_one(command, ending, "input");
     case WRITE:
         if (page->error == EINTR && is_right(command, ending)) return true;
         /* Where no write succeeds the fault can't be printed. */

@@ -127,12 +127,13 @@ def try_words(trial):
         "ok": writes(b"ok\n"),
         "no file": faults(b"file"),
         "no link": faults(b"link"),
+        "unread": (1, b"", b"fault: file: [^\n]+\n"),
         "refused": (2, b"", b".+"),
     }
     for row in rows_of("words.txt"):
         end, words = row.split(":", 1)
         # where words are wrongly taken, a missing `c` shows it, and starts no router
-        trial.compare(row, ends[end], words.split(), None if end in ("no file", "refused") else config)
+        trial.compare(row, ends[end], words.split(), None if end in ("no file", "unread", "refused") else config)
 
 
 def try_addresses(trial):
@@ -149,7 +150,8 @@ def try_configs(trial):
         told, change = row.split(": ", 1)
         config = changed(sound, *change.split(" -> ", 1))
         if told == "ok":
-            trial.compare(row, writes(b"ok\n"), CHECK, config)
+            # what is good may hurt all the same
+            trial.compare(row, (0, b"ok\n", b"(warning: [^\n]+\n)*"), CHECK, config)
             continue
         trial.compare(row, (1, b"", f"fault: config {told}: [^\n]+\n".encode()), CHECK, config)
         for words in (ROUTE, REPLAY, RUN):
@@ -163,6 +165,27 @@ def try_fault_words(trial):
         pattern = re.escape(words[:-2]) + "[^\n]*" if words.endswith("..") else re.escape(words)
         fault = (1, b"", f"fault: config [1-8]: {pattern}\n".encode())
         trial.compare(row, fault, CHECK, changed(sound, old, new))
+
+
+def try_warnings(trial):
+    sound, cores = text_of("router.toml"), os.cpu_count() or 1
+    for row in rows_of("warnings.txt"):
+        old, new, words = row.split(" -> ", 2)
+        if "`processors`" in words and cores >= 16:
+            continue
+        pattern = re.escape(words[:-2]) + "[^\n]*" if words.endswith("..") else re.escape(words)
+        warned = f"warning: {pattern}\n".encode()
+        config = changed(sound, old, new)
+        trial.compare(row, (0, b"ok\n", warned), CHECK, config)
+        trial.compare(f"--strict: {row}", (1, b"", warned + b"fault: warnings\n"), [*CHECK, "--strict"], config)
+
+
+def try_sockets(trial):
+    # addresses of documentation, which no machine has
+    config = re.sub(r'"10\.(\d)\.0\.(\d)', r'"192.0.2.\1\2', text_of("router.toml"))
+    lines = "".join(f"socket {link} at 192\\.0\\.2\\.{link}1:[34]0000: [^\n]+\n" for link in range(4))
+    unbound = (1, b"", f"{lines}fault: socket 0\n".encode())
+    trial.compare("--bind", unbound, [*CHECK, "--bind"], config)
 
 
 # Worked datagrams.
@@ -341,6 +364,8 @@ def main():
         try_addresses(trial)
         try_configs(trial)
         try_fault_words(trial)
+        try_warnings(trial)
+        try_sockets(trial)
         try_datagrams(trial)
         try_longest(trial)
         try_cases(trial, "routes.txt", ROUTE, text_of("router.toml"))

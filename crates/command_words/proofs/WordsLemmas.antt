@@ -1,6 +1,10 @@
 -- What the getters of a parse's matches read of the subcommand that was entered.
-use Rattle.std.proofs.Common.{◌≡◌, ◌≤◌, ℕ, List, Option, Some, None, option_map, Bor, sym, ap, ◌∙◌, codes, decimal, refl, true, subst, [], inl, inr}
-use Rattle.std.specs.Prelude.{◌≢◌, IfSome, IfNone}
+use Rattle.std.proofs.Common.{◌≡◌, ◌≤◌, ℕ, List, Option, Some, None, Result, Ok, Err, option_map, Bor, sym, ap, ◌∙◌, codes, decimal, refl, true, subst, [], inl, inr}
+use Rattle.std.specs.Prelude.{◌≢◌, IfOk, IfSome, IfNone}
+use Rattle.std.specs.Option.{IsSomeAnd}
+use Rattle.std.specs.declared.alloc.AllocError.{AllocError}
+use Rattle.clap.specs.declared.builder.command.Command.{Command}
+use Rattle.clap.specs.declared.builder.command.Command.TheViews.{out-Command as fields_of}
 use Rattle.std.proofs.lemmas.Bool.{false≢true}
 use Rattle.std.proofs.lemmas.Slice.Eq.{bytes_eq-Decides}
 use Rattle.clap.specs.Matches.{first_value}
@@ -9,7 +13,7 @@ use Rattle.clap.specs.declared.parser.matches.Found.{Found}
 use Rattle.clap.specs.Faults.{fault_of, is_simple_and_free}
 use Rattle.clap.specs.Kinds.{HasKind}
 use Rattle.clap.specs.Values.{kind_of}
-use Rattle.clap.specs.Simple.{App, HasMatchesOf, is_simple, subcommand_of, subcommand_rows, subcommand_rows_of}
+use Rattle.clap.specs.Simple.{App, HasMatchesOf, app_of, app_of_fields, is_simple, subcommand_of, subcommand_rows, subcommand_rows_of}
 use Rattle.clap.specs.declared.error.Error.{Error}
 use Rattle.clap.specs.declared.error.kind.ErrorKind.{ErrorKind}
 use Rattle.clap.specs.declared.error.kind.ErrorKind.TheVariants.{OutOfMemory}
@@ -21,7 +25,7 @@ use Rattle.std.specs.Box.{box_value}
 use Rattle.std.specs.Prelude.{Box}
 use Rattle.clap.proofs.WalkLemmas.{first_value-rows}
 use Rattle.process_packet.specs.declared.underlay.Underlay.{Underlay}
-use Rattle.command_words.specs.Words.{Asked, Routes, Replays, Runs, Checks, Asks, AsksOf, AsksRoute, asked_of, from_of, router}
+use Rattle.command_words.specs.Words.{Asked, Routes, Replays, Runs, Checks, Asks, AsksOf, AsksRoute, asked_of, from_of, is_given, router}
 use Rattle.command_words.specs.declared.words.Order.{Order}
 
 -- names that differ
@@ -56,25 +60,25 @@ route_asked : (rows : List Row) (asked : Asked) → ((config : Text) (link now :
 route_asked rows (Routes config link now from) none asks = none config link now from asks.1
 route_asked rows (Replays config) none asks = route_replay asks.0
 route_asked rows (Runs config) none asks = route_run asks.0
-route_asked rows (Checks config) none asks = route_check asks.0
+route_asked rows (Checks config strict bind) none asks = route_check asks.0
 
 replay_asked : (rows : List Row) (asked : Asked) → ((config : Text) → first_of (codes "config") rows ≢ Some config) → ¬ Asks (codes "replay", rows) asked
 replay_asked rows (Routes config link now from) none asks = route_replay (sym asks.0)
 replay_asked rows (Replays config) none asks = none config asks.1
 replay_asked rows (Runs config) none asks = replay_run asks.0
-replay_asked rows (Checks config) none asks = replay_check asks.0
+replay_asked rows (Checks config strict bind) none asks = replay_check asks.0
 
 run_asked : (rows : List Row) (asked : Asked) → ((config : Text) → first_of (codes "config") rows ≢ Some config) → ¬ Asks (codes "run", rows) asked
 run_asked rows (Routes config link now from) none asks = route_run (sym asks.0)
 run_asked rows (Replays config) none asks = replay_run (sym asks.0)
 run_asked rows (Runs config) none asks = none config asks.1
-run_asked rows (Checks config) none asks = run_check asks.0
+run_asked rows (Checks config strict bind) none asks = run_check asks.0
 
 check_asked : (rows : List Row) (asked : Asked) → ((config : Text) → first_of (codes "config") rows ≢ Some config) → ¬ Asks (codes "check", rows) asked
 check_asked rows (Routes config link now from) none asks = route_check (sym asks.0)
 check_asked rows (Replays config) none asks = replay_check (sym asks.0)
 check_asked rows (Runs config) none asks = run_check (sym asks.0)
-check_asked rows (Checks config) none asks = none config asks.1
+check_asked rows (Checks config strict bind) none asks = none config asks.1.config_is
 
 pub name_read : {Z : Type 0} → (o : Option (Box SubCommand Z)) → option_map (λ (p : Text × List Row). p.0) (subcommand_rows o) ≡ option_map (λ (b : Box SubCommand Z). (out-SubCommand (box_value b)).name.now) o
 name_read None = refl
@@ -140,7 +144,7 @@ no_order None name named route replay run check asked asks = absurd asks
 no_order (Some p) name named route replay run check (Routes config link now from) asks = route (sym named ∙ ap (λ (n : Text). Some n) asks.0)
 no_order (Some p) name named route replay run check (Replays config) asks = replay (sym named ∙ ap (λ (n : Text). Some n) asks.0)
 no_order (Some p) name named route replay run check (Runs config) asks = run (sym named ∙ ap (λ (n : Text). Some n) asks.0)
-no_order (Some p) name named route replay run check (Checks config) asks = check (sym named ∙ ap (λ (n : Text). Some n) asks.0)
+no_order (Some p) name named route replay run check (Checks config strict bind) asks = check (sym named ∙ ap (λ (n : Text). Some n) asks.0)
 
 -- ---- the parse of the words
 
@@ -166,3 +170,15 @@ words_taken a words is taken = ap (λ (b : App). fault_of b words) (sym is) ∙ 
 
 pub rows_found : (a : App) (words : List Text) (m : ArgMatches) → a ≡ router → HasMatchesOf a words m → subcommand_rows_of m ≡ subcommand_of router words
 rows_found a words m is found = (found (ap is_simple is ∙ simple)).1 ∙ ap (λ (b : App). subcommand_of b words) is
+
+-- a command that is given the name in its usage takes the same words
+pub named_alike : (r : Result Command AllocError) (old : Command) (top : App) → app_of old ≡ top
+    → IfOk r (λ c. (fields_of c ≡ record (fields_of old) { bin_name = (fields_of c).bin_name }) × IsSomeAnd (fields_of c).bin_name (λ s. s.bytes.items ≡ codes "router"))
+    → IfOk r (λ c. app_of c ≡ top)
+named_alike (Ok c) old top is named = ap app_of_fields named.0 ∙ is
+named_alike (Err e) old top is named = tt
+
+-- an option without a value, as it is read
+pub flag_read : (found : Found) (id : Text) (got : Option (Bor Text)) (word : Option Text) → option_map (λ (t : Bor Text). t.now) got ≡ first_value found id
+    → option_map (λ (t : Bor Text). t.now) got ≡ word → is_given word ≡ is_given (first_of id (rows_of found))
+flag_read found id got word read is = ap is_given (sym (text_read found id got read ∙ is))

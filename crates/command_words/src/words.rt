@@ -6,7 +6,7 @@ ghost use Rattle.clap.specs.Matches.{found_of};
 ghost use Rattle.clap.specs.Walk.{first_of, rows_of, rule_of};
 ghost use Rattle.clap.specs.declared.error.kind.ErrorKind.TheVariants.{OutOfMemory};
 ghost use Rattle.process_packet.specs.declared.underlay.Underlay.{Underlay as Address};
-ghost use Rattle.command_words.specs.Words.{Asked, Asks, AsksOf, AsksRoute, IsGrammar, Orders, alone, asked_of, from_of, offered, route, router, wanted};
+ghost use Rattle.command_words.specs.Words.{Asked, Asks, AsksOf, AsksRoute, IsGrammar, Orders, alone, asked_of, check, flag, from_of, is_given, offered, route, router, wanted};
 ghost use Rattle.command_words.specs.declared.words.WordsFault.TheVariants.{Memory, Told};
 
 use clap::error::ErrorKind;
@@ -37,7 +37,14 @@ const REPLAY_ABOUT: &str =
 const RUN_ABOUT: &str =
     "Runs the router over its sockets until its standard input ends, and reports";
 
-const CHECK_ABOUT: &str = "Tells whether a configuration is good, and else where it isn't";
+const CHECK_ABOUT: &str =
+    "Tells whether a configuration is good, and else where it isn't; and warns of what will hurt";
+
+/// The help of the other options of `check`.
+const STRICT_HELP: &str = "Takes a warning for a fault";
+
+const BIND_HELP: &str =
+    "Opens the sockets too, tells of each that can't be had why, and closes them";
 
 /// What the command line asks for.
 #[derive(Clone, Copy)]
@@ -67,6 +74,10 @@ pub enum Order<'a> {
     Check {
         /// The path of the configuration.
         config: &'a str,
+        /// Whether a warning is a fault.
+        strict: bool,
+        /// Whether its sockets are opened too.
+        bind: bool,
     },
 }
 
@@ -134,6 +145,17 @@ fn offered<'a>(alloc: Global, name: &'a str, value: &'a str, help: &'a str) -> A
         .action(ArgAction::Set)
 }
 
+/// The option `--name`, which may be there and takes no value.
+fn flag<'a>(alloc: Global, name: &'a str, help: &'a str) -> Arg<'a>
+    ensures rule { rule_of result ≡ flag name.now }
+    ensures own { result.global ≡ false }
+{
+    Arg::new(alloc, name)
+        .long(name)
+        .help(help)
+        .action(ArgAction::SetTrue)
+}
+
 /// The command with an option more, unless memory ran out before.
 fn with_option<'a>(
     command: Result<Command<'a>, AllocError>,
@@ -173,6 +195,15 @@ fn alone_grammar<'a>(
     Command::new(alloc, name).about(about).arg(config)
 }
 
+/// The words of `check`.
+fn check_grammar<'a>(alloc: Global) -> Result<Command<'a>, AllocError>
+    ensures { IsGrammar check result }
+{
+    let command = alone_grammar(alloc, "check", CHECK_ABOUT);
+    let command = with_option(command, flag(alloc, "strict", STRICT_HELP));
+    with_option(command, flag(alloc, "bind", BIND_HELP))
+}
+
 /// The words of a program with an order more, unless memory ran out before.
 fn with_order<'a>(
     program: Result<Command<'a>, AllocError>,
@@ -194,11 +225,12 @@ fn grammar<'a>(alloc: Global) -> Result<Command<'a>, AllocError>
         .about("A SCION border router")
         .version("0.1.0")
         .no_binary_name(true)
-        .subcommand_required(true);
-    let program = with_order(Ok(program), route_grammar(alloc));
+        .subcommand_required(true)
+        .bin_name("router");
+    let program = with_order(program, route_grammar(alloc));
     let program = with_order(program, alone_grammar(alloc, "replay", REPLAY_ABOUT));
     let program = with_order(program, alone_grammar(alloc, "run", RUN_ABOUT));
-    with_order(program, alone_grammar(alloc, "check", CHECK_ABOUT))
+    with_order(program, check_grammar(alloc))
 }
 
 /// The address that a word names, if it is one; no word names none.
@@ -255,13 +287,29 @@ fn run_of<'a>(run: &ArgMatches<'a>) -> Option<Order<'a>>
     }
 }
 
-/// The order that the option of `check` gives.
+/// Whether an option without a value is there.
+fn is_given(matches: &ArgMatches<'_>, name: &str) -> bool
+    ensures { result ≡ is_given (first_of name.now (rows_of (found_of matches.now))) }
+{
+    match matches.get_str(name) {
+        Some(word) => word == "true",
+        None => false,
+    }
+}
+
+/// The order that the options of `check` give.
 fn check_of<'a>(check: &ArgMatches<'a>) -> Option<Order<'a>>
     ensures found { IfSome result (λ order. Asks (codes "check", rows_of (found_of check.now)) (asked_of order)) }
     ensures none { IfNone result ((config : List ℕ) → first_of (codes "config") (rows_of (found_of check.now)) ≢ Some config) }
 {
+    let strict = is_given(check, "strict");
+    let bind = is_given(check, "bind");
     match check.get_str("config") {
-        Some(config) => Some(Order::Check { config }),
+        Some(config) => Some(Order::Check {
+            config,
+            strict,
+            bind,
+        }),
         None => None,
     }
 }

@@ -22,12 +22,18 @@ pub enum Fault {
     /// The configuration's file can't be read, or isn't UTF-8.
     #[error("file")]
     File,
+    /// The configuration's file can't be read, with the system's reason.
+    #[error("file: {0}")]
+    Unread(io::Error),
     /// The configuration is none.
     #[error("config {number}", number = .0.number())]
     Config(ConfigFault),
     /// The configuration is none, in words: where it isn't, what is there, and what is wanted.
     #[error("config {number}: {1}", number = .0.number())]
     Told(ConfigFault, String),
+    /// Something in the configuration will hurt, and that is to be a fault.
+    #[error("warnings")]
+    Warned,
     /// The configuration has no such link.
     #[error("link")]
     Link,
@@ -54,6 +60,17 @@ impl Fault {
         match error.kind() {
             io::ErrorKind::OutOfMemory => Fault::Memory,
             _ => Fault::File,
+        }
+    }
+
+    /// The same, with the system's reason.
+    pub fn of_unread(error: io::Error) -> Fault
+        ensures memory { error_kind error ≡ kind.OutOfMemory → result ≡ fault.Memory }
+        ensures file { error_kind error ≢ kind.OutOfMemory → result ≡ fault.Unread error }
+    {
+        match error.kind() {
+            io::ErrorKind::OutOfMemory => Fault::Memory,
+            _ => Fault::Unread(error),
         }
     }
 

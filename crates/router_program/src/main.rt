@@ -5,13 +5,13 @@
 
 ghost use Rattle.std.specs.Prelude.{◌≡◌, true, false};
 
+use check_command::check_config;
 use command_words::{Order, WordsFault, read_words};
 use process_packet::{Config, Underlay};
-use router_config::{ConfigFault, fault_words, read_config};
+use router_config::read_config;
 use router_engine::{replay_lines, route_lines};
 use router_faults::Fault;
 use router_lines::{ArrivalContext, usual_source};
-use std::alloc::Global;
 use std::io::BufReader;
 use std::net::Net;
 use std::process::ExitCode;
@@ -30,33 +30,10 @@ fn words_of<R: Env + AllocGlobal>(rt: &R) -> Result<Vec<String>, Fault> {
     Ok(words)
 }
 
-/// The text in a file.
-fn text_at<R: Files + AllocGlobal>(rt: &R, path: &str) -> Result<String, Fault> {
-    fs::read_to_string(rt, path).map_err(Fault::of_file)
-}
-
 /// The configuration that a file holds.
 fn config_at<R: Files + AllocGlobal>(rt: &R, path: &str) -> Result<Config, Fault> {
-    let text = text_at(rt, path)?;
+    let text = fs::read_to_string(rt, path).map_err(Fault::of_file)?;
     read_config(rt.alloc(), text.as_str()).map_err(Fault::Config)
-}
-
-/// The fault of a text that is no configuration, with its words where there is memory for them.
-fn told(alloc: Global, fault: ConfigFault, text: &str) -> Fault {
-    match (fault, fault_words(alloc, text)) {
-        (ConfigFault::Memory, _) => Fault::Config(fault),
-        (_, Ok(Some(words))) => Fault::Told(fault, words),
-        _ => Fault::Config(fault),
-    }
-}
-
-/// Tells whether the configuration in a file is good, and else where it isn't.
-fn check_config<R: Files + Print + AllocGlobal>(rt: &R, path: &str) -> Result<(), Fault> {
-    let text = text_at(rt, path)?;
-    match read_config(rt.alloc(), text.as_str()) {
-        Ok(_) => println!(rt; "ok").map_err(Fault::of_output),
-        Err(fault) => Err(told(rt.alloc(), fault, text.as_str())),
-    }
 }
 
 /// Answers the datagrams on the standard input, which arrive on a link at a moment.
@@ -124,6 +101,7 @@ where
         + Env
         + Input
         + Print
+        + Eprint
         + AllocGlobal
         + Net
         + Threads
@@ -144,7 +122,11 @@ where
         } => route_datagrams(rt, config, link, now, from),
         Order::Replay { config } => replay_schedule(rt, config),
         Order::Run { config } => run_over_sockets(rt, config),
-        Order::Check { config } => check_config(rt, config),
+        Order::Check {
+            config,
+            strict,
+            bind,
+        } => check_config(rt, config, strict, bind),
     }
 }
 

@@ -5,8 +5,14 @@ use Rattle.command_words.proofs.WordsLemmas.{text_read}
 use Rattle.command_words.proofs.words.check_of.Goals as goal
 
 pub returns-in-Some-clause-found : goal.returns-in-Some-clause-found
-returns-in-Some-clause-found c =
-    (refl, rw c.in-Some.is at (text_read (found_of c.args.check.now) (codes "config") c.get_str.result c.get_str.ensures))
+returns-in-Some-clause-found c = (
+  refl,
+  record {
+    config_is = rw c.in-Some.is at (text_read (found_of c.args.check.now) (codes "config") c.get_str.result c.get_str.ensures);
+    strict_is = c.is_given-strict.ensures;
+    bind_is = c.is_given-bind.ensures;
+  },
+)
 
 pub returns-in-None-clause-none : goal.returns-in-None-clause-none
 returns-in-None-clause-none c = λ config there.
