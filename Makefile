@@ -3,16 +3,22 @@ RT ?= rt
 PREFIX ?= /usr/local
 PROGRAM = crates/router_program/out/router_program
 
-.PHONY: all try demo test bench-decision install clean
+.PHONY: all try try-net demo demo-net test bench-decision install clean
 
 all: bin/router
 
 # What a proof reads.
 PROVED = crates.txt HANDLES $(shell find crates -name out -prune -o \( -name '*.rt' -o -name '*.antt' \) -print)
 
+# How many checks are made side by side: one for each processor that has 4 GiB of memory. Each is one job, since two jobs
+# take more of the processors' time for the same check.
+LANES ?= $(shell awk -v cores=$$(nproc) '/^MemAvailable/ { n = int($$2 / 4194304) } \
+	END { if (n > cores) n = cores; print (n > 1 ? n : 1) }' /proc/meminfo)
+
 # Proves the program and all that it stands on, and builds it. Where nothing changed it is taken as it is: the kit takes
 # minutes to find that out.
 bin/router: $(PROVED)
+	RT="$(RT)" tools/prove.sh router_program $(LANES)
 	cd crates/router_program && $(RT) run -- --version
 	mkdir -p bin
 	cp $(PROGRAM) bin/router
@@ -25,6 +31,16 @@ try:
 	cd crates/router_program && $(RT) try -- $(ROUTE_FIRST) < $(CURDIR)/examples/first-datagram.hex
 	@echo 'Nothing was proved: `make demo` proves the program before it runs it.'
 
+THREE_ASES = $(CURDIR)/examples/three-ases
+HOSTS = 127.0.1.10:30041 127.0.3.10:30041
+
+# Runs three ASes in one process over loopback addresses of this machine, and carries a packet and a traceroute through
+# them, by the program as it is compiled before any proof.
+try-net:
+	cd crates/try_net && $(RT) try $(foreach name,first core-1 core-2 last,--data $(name).toml=$(THREE_ASES)/$(name).toml) \
+		-- $(HOSTS) first.toml core-1.toml core-2.toml last.toml
+	@echo 'Nothing was proved: `make demo-net` proves the programs before it runs them, each router in a process of its own.'
+
 # Carries the first datagram from link 1 to link 2 through the proved program.
 demo: bin/router
 	bin/router $(ROUTE_FIRST) < examples/first-datagram.hex
@@ -34,15 +50,9 @@ bin/path_probe: $(PROVED)
 	mkdir -p bin
 	cp crates/path_probe/out/path_probe bin/path_probe
 
-# Runs three ASes on loopback addresses of this machine, and carries a packet and a traceroute through them.
-.PHONY: try-net
-try-net: bin/router bin/path_probe
+# The same by the proved program, in a process for each router.
+demo-net: bin/router bin/path_probe
 	examples/three-ases/try.sh
-
-# How many checks the gate makes side by side: one for each processor that has 4 GiB of memory. Each is one job, since
-# two jobs take more of the processors' time for the same check.
-LANES ?= $(shell awk -v cores=$$(nproc) '/^MemAvailable/ { n = int($$2 / 4194304) } \
-	END { if (n > cores) n = cores; print (n > 1 ? n : 1) }' /proc/meminfo)
 
 # The crates of tests in which the gate refuses growths.
 GROWN = engine_tests pipeline_tests run_tests
