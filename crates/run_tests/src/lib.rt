@@ -19,6 +19,8 @@ mod many;
 #[cfg(test)]
 mod memory;
 #[cfg(test)]
+mod no_hosts;
+#[cfg(test)]
 mod play;
 #[cfg(test)]
 mod pool;
