@@ -59,13 +59,13 @@ GROWN = engine_tests pipeline_tests run_tests
 GROWN_TESTS = $(foreach it,$(GROWN),crates/$(it)/out/$(it)_tests)
 
 # The merge gate; last, the program that it built is given the tables of tests/lines, and its commands and some tests are
-# refused each growth in turn. It needs python3 too.
+# refused each growth in turn, unless the system forbids that (77). It needs python3 too.
 test:
 	rm -f $(PROGRAM) $(GROWN_TESTS)
 	RT_JOBS=$(LANES) $(RT) ci
 	$(MAKE) $(PROGRAM) $(GROWN_TESTS)
 	tests/lines/check.py $(PROGRAM)
-	tests/faults/growths.py check route replay run $(GROWN)
+	tests/faults/growths.py check route replay run $(GROWN) || [ $$? -eq 77 ]
 
 # Where the gate took an earlier run's results, it may have built no program.
 $(PROGRAM):

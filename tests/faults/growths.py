@@ -4,7 +4,7 @@
 A growth is a call by which a program asks for memory or for a thread. This script stands over the program as a debugger
 does: it puts an address where nothing is in place of each of these functions, so that the program stops at each call,
 and lets it go on, or answers in the function's place that there is none. It needs python3 and Linux on x86-64, and a
-system that lets a program trace those that it starts.
+system that lets a program trace those that it starts: where that is forbidden it says so, and its status is 77.
 
 Each run has to end by itself within PATIENCE seconds, by no signal, with what TRIALS lists for it. A panic is no answer.
 
@@ -46,6 +46,9 @@ RELOCATIONS, DYNAMIC_SYMBOLS = 4, 11
 
 # How a run ends that is refused nothing, and the status of a test that returns an error.
 WELL, RETURNED = "well", 101
+
+# The status where the system forbids tracing, as test harnesses use it for a test that was skipped.
+FORBIDDEN = 77
 
 # No address of a program begins so: a call of the function at place k stops at this plus k.
 NOWHERE = 0x1000
@@ -120,7 +123,8 @@ class Run:
     def follow(self):
         """The exit status, or minus the signal."""
         if not os.WIFSTOPPED(os.waitpid(self.pid, 0)[1]):
-            sys.exit("this system lets no program trace those that it starts")
+            print("no growth was refused: this system lets no program trace those that it starts", file=sys.stderr)
+            sys.exit(FORBIDDEN)
         trace(SET_OPTIONS, self.pid, TRACE_THREADS | KILL_AT_EXIT)
         self.to_its_entry()
         self.take_slots()
