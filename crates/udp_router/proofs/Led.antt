@@ -11,7 +11,7 @@ use Rattle.run_engine.specs.declared.fault.RunFault.{RunFault}
 use Rattle.run_engine.specs.declared.fault.RunFault.TheVariants as fault
 use Rattle.udp_devices.specs.declared.binding.BindFault.{BindFault}
 use Rattle.udp_devices.specs.declared.binding.BindFault.TheVariants as bind
-use Rattle.udp_devices.specs.Devices.{Sending}
+use Rattle.udp_devices.specs.Devices.{Reading, Sending}
 use Rattle.udp_router.specs.OverUdp.{Closes, Router, Tells}
 use Rattle.udp_router.specs.Run.{IsNew, Leads, Runs, ascending, unbound, unstarted}
 
@@ -42,7 +42,7 @@ not_bound c f e None before is = tt
 not_bound c (bind.Socket link) e (Some input) before is = subst (λ (x : RunFault). Runs c (Err x) (lines_of input) before before) (sym is) refl
 not_bound c bind.Memory e (Some input) before is = subst (λ (x : RunFault). Runs c (Err x) (lines_of input) before before) (sym is) (inl (refl, refl))
 
-pub not_started : (c : Config) (f : StartFault ℕ Sending) (e : RunFault) (known before : Option (List ℕ)) → e ≡ unstarted f → IfSome known (λ input. Runs c (Err e) (lines_of input) before before)
+pub not_started : (c : Config) (f : StartFault Reading Sending) (e : RunFault) (known before : Option (List ℕ)) → e ≡ unstarted f → IfSome known (λ input. Runs c (Err e) (lines_of input) before before)
 not_started c f e None before is = tt
 not_started c (begin.NoMemory a b) e (Some input) before is = subst (λ (x : RunFault). Runs c (Err x) (lines_of input) before before) (sym is) refl
 not_started c (begin.Count a b) e (Some input) before is = subst (λ (x : RunFault). Runs c (Err x) (lines_of input) before before) (sym is) refl

@@ -1,5 +1,5 @@
-use Rattle.std.proofs.Common.{ℕ, subst, sym}
-use Rattle.udp_devices.specs.Devices.{Sending}
+use Rattle.std.proofs.Common.{subst, sym}
+use Rattle.udp_devices.specs.Devices.{Reading, Sending}
 use Rattle.udp_router.specs.OverUdp.{Router}
 use Rattle.udp_router.specs.Run.{IsNew}
 use Rattle.udp_router.proofs.Devices.{is_new, is_no_count, untold}
@@ -7,7 +7,7 @@ use Rattle.udp_router.proofs.Led.{led_ill, led_well, not_started}
 use Rattle.udp_router.proofs.run.start_and_lead.Goals as goal
 
 pub start-requires-clause-sources : goal.start-requires-clause-sources
-start-requires-clause-sources g c κs within = untold ℕ _ c.args.devices.sources.items
+start-requires-clause-sources g c κs within = untold Reading _ c.args.devices.sources.items
 
 pub start-requires-clause-sinks : goal.start-requires-clause-sinks
 start-requires-clause-sinks g c κs within = untold Sending _ c.args.devices.sinks.items
