@@ -182,8 +182,8 @@ def try_warnings(trial):
 
 def try_sockets(trial):
     # addresses of documentation, which no machine has
-    config = re.sub(r'"10\.(\d)\.0\.(\d)', r'"192.0.2.\1\2', text_of("router.toml"))
-    lines = "".join(f"socket {link} at 192\\.0\\.2\\.{link}1:[34]0000: [^\n]+\n" for link in range(4))
+    config = re.sub(r'"10\.(\d)\.0\.(\d)', r'"192.0.2.1\1\2', text_of("router.toml"))
+    lines = "".join(f"socket {link} at 192\\.0\\.2\\.1{link}1:[34]0000: [^\n]+\n" for link in range(4))
     unbound = (1, b"", f"{lines}fault: socket 0\n".encode())
     trial.compare("--bind", unbound, [*CHECK, "--bind"], config)
 
