@@ -3,7 +3,7 @@ RT ?= rt
 PREFIX ?= /usr/local
 PROGRAM = crates/router_program/out/router_program
 
-.PHONY: all try try-net demo demo-net test bench-decision install clean
+.PHONY: all try demo demo-net test bench-decision install clean
 
 all: bin/router
 
@@ -31,16 +31,6 @@ try:
 	cd crates/router_program && $(RT) try -- $(ROUTE_FIRST) < $(CURDIR)/examples/first-datagram.hex
 	@echo 'Nothing was proved: `make demo` proves the program before it runs it.'
 
-THREE_ASES = $(CURDIR)/examples/three-ases
-HOSTS = 127.0.1.10:30041 127.0.3.10:30041
-
-# Runs three ASes in one process over loopback addresses of this machine, and carries a packet and a traceroute through
-# them, by the program as it is compiled before any proof.
-try-net:
-	cd crates/try_net && $(RT) try $(foreach name,first core-1 core-2 last,--data $(name).toml=$(THREE_ASES)/$(name).toml) \
-		-- $(HOSTS) first.toml core-1.toml core-2.toml last.toml
-	@echo 'Nothing was proved: `make demo-net` proves the programs before it runs them, each router in a process of its own.'
-
 # Carries the first datagram from link 1 to link 2 through the proved program.
 demo: bin/router
 	bin/router $(ROUTE_FIRST) < examples/first-datagram.hex
@@ -50,7 +40,8 @@ bin/path_probe: $(PROVED)
 	mkdir -p bin
 	cp crates/path_probe/out/path_probe bin/path_probe
 
-# The same by the proved program, in a process for each router.
+# Carries a packet and a traceroute through three ASes over loopback addresses of this machine, by the proved program, in a
+# process for each router.
 demo-net: bin/router bin/path_probe
 	examples/three-ases/try.sh
 
