@@ -16,6 +16,7 @@ use Rattle.process_packet.specs.Hosts.{IsReachedAt}
 use Rattle.walk_laws.specs.LawfulStart.{IsIpHost, IsKnown, LawfulStart}
 use Rattle.walk_laws.specs.Net.{Router}
 use Rattle.walk_laws.specs.Domain.{Domain}
+use Rattle.walk_laws.proofs.ExampleFields.{is_hop}
 use Rattle.walk_laws.proofs.ExampleHops.{along_is}
 
 number_is : (d e : Domain) → d ≡ e → d.autonomous_system ≡ e.autonomous_system
@@ -113,13 +114,13 @@ info : Fits (info_table info_along)
 info = ((omega arith, (omega arith, (omega arith, tt))), ((omega arith, tt), ((omega arith, tt), ((omega arith, tt), tt))))
 
 is_hop_0 : IsHop hop_0
-is_hop_0 = record { fits = ((omega arith, (omega arith, (omega arith, tt))), ((omega arith, tt), ((omega arith, tt), ((omega arith, tt), tt)))); mac_len = six_0 }
+is_hop_0 = is_hop 0 17 hop_0.mac (omega arith) (omega arith) six_0
 
 is_hop_1 : IsHop hop_1
-is_hop_1 = record { fits = ((omega arith, (omega arith, (omega arith, tt))), ((omega arith, tt), ((omega arith, tt), ((omega arith, tt), tt)))); mac_len = six_1 }
+is_hop_1 = is_hop 1 2 hop_1.mac (omega arith) (omega arith) six_1
 
 is_hop_2 : IsHop hop_2
-is_hop_2 = record { fits = ((omega arith, (omega arith, (omega arith, tt))), ((omega arith, tt), ((omega arith, tt), ((omega arith, tt), tt)))); mac_len = six_2 }
+is_hop_2 = is_hop 18 0 hop_2.mac (omega arith) (omega arith) six_2
 
 pub packet_is : IsPacket example_packet
 packet_is = record {
