@@ -7,7 +7,7 @@ use Rattle.pipeline_laws.specs.Deeds.{Pushed, payload_of, payloads}
 use Rattle.ruled_pipe.specs.declared.entry.Entry.{Entry}
 use Rattle.ruled_pipe.specs.declared.entry.Load.TheVariants.{Payload}
 use Rattle.ruled_pipe.specs.Consumer.{Taker}
-use Rattle.ruled_pipe.specs.Producer.{Sender, entry}
+use Rattle.ruled_pipe.specs.Producer.{Sender, entry, offered}
 use Rattle.ruled_pipe.specs.Pipe.{Shape}
 use Rattle.router_rules.specs.Links.{link_count}
 use Rattle.stage_laws.specs.Ends.{pushed_in, pushes}
@@ -26,6 +26,10 @@ payload_more {T = T} es n x =
 -- the same end, with so many buffers put into its pipe
 abbrev pub HasPut : ℕ → Sender (List ℕ) → Sender (List ℕ) → Type 0
 HasPut buffers old new = IsSameEnd old new × (length (payloads (pushes new.offers)) ≡ buffers)
+
+-- one buffer more
+pub put_more : (n : ℕ) (e s t : Sender (List ℕ)) (x : List ℕ) → t ≡ offered s (entry s.number (Payload x)) → HasPut n e s → HasPut (n + 1) e t
+put_more n e s t x more put = subst (λ (v : Sender (List ℕ)). HasPut (n + 1) e v) (sym more) (put.0, payload_more s.offers s.number x ∙ ap (λ (m : ℕ). m + 1) put.1)
 
 pub back_more : {X Y : Type 0} (R : X → Y → Type 0) (xs : List X) (ys : List Y) (x : X) (y : Y) → AreBack R xs ys → R x y → AreBack R (xs ++ x ∷ []) (ys ++ y ∷ [])
 back_more R [] [] x y all r = (r, tt)
