@@ -14,6 +14,7 @@ use Rattle.router_laws.specs.Shares.{raise_all}
 use Rattle.router_laws.proofs.Keeping.{works_none, works_taken, works_did, works_mark, works_looked, works_tried, works_posted}
 use Rattle.router_rules.specs.Links.{has_two_bands}
 use Rattle.router_rules.specs.Rules.{decided, is_urgent, kinds, rules}
+use Rattle.router_rules.specs.declared.worker.Worker.{Worker}
 use Rattle.ruled_pipe.specs.declared.entry.Load.TheVariants.{Payload, Marked}
 use Rattle.ruled_pipe.specs.declared.entry.Mark.{Mark}
 use Rattle.ruled_pipe.specs.declared.entry.Mark.TheVariants as mark
@@ -27,10 +28,11 @@ use Rattle.stage_laws.proofs.Works.{did_send, did_refuse, did_ask, did_not_ask, 
 use Rattle.stage_parts.specs.Items.{asking}
 use Rattle.stage_parts.specs.Outlet.{Offering, Tried, gave, kept}
 use Rattle.stage_parts.specs.Outlets.{AreFresh, AreUnended, Trying, senders}
+use Rattle.stage_parts.specs.declared.turn.Turn.{Turn}
 use Rattle.stage_parts.proofs.Marks.{ends_more}
 use Rattle.stage_parts.proofs.EndLemmas.{gave_sent, kept_away, gave_open, kept_open, senders_long, tried_each, tried_once, fresh_open, fresh_senders}
 use Rattle.router_stages.specs.Exits.{Leaving, DroppedAs, SentAs, pipe_for, with_links, with_share}
-use Rattle.router_stages.specs.Working.{After, AskedAs, KeepsWorking, PassedOn, out}
+use Rattle.router_stages.specs.Working.{After, AskedAs, KeepsWorking, PassedOn, Worked, Working, WorksFor, WorksOn, out, with_taker}
 
 -- the place of a link's pipe, as the pipeline numbers them
 pub home_is : (c : Config) (o : Outgoing kinds) → home (rules c) (Out o) ≡ place_of (rules c) (pipe_for c o)
@@ -160,6 +162,14 @@ module _ (named : Option Config) (taker : Taker (Arrival kinds)) (hand : Option 
       subst (λ (n : Leaving). KeepsWorking named taker hand slow n) (sym (is_shared ∙ ap (λ (s : Held). with_share s side) is.1))
       (record { config = k.config; law = works_posted side.config taker (senders side.links) (senders side.links) slow.sender slow.sender side.share hand k.law; unended = k.unended; busy = k.busy })
   keeps_posted new (inr is) is_shared = subst (λ (n : Leaving). KeepsWorking named taker hand slow n) (sym (is_shared ∙ ap (λ (s : Held). with_share s side) is.1)) k
+
+-- with an empty hand, a packet that is taken and worked on at once is one turn
+pub taken_worked : {G : Type 0} (answers : G → Worker → ℕ → ℕ → Bool → Type 0) (turn : Turn) (old new : Working G) (from : ℕ) (x : Arrival kinds) → old.hand ≡ None → ends_in old.taker.taken < old.taker.producers
+    → WorksFor answers turn (with_taker (took old.taker (entry from (Payload x))) (Some x) old) new → Worked answers turn old new
+taken_worked {G} answers turn old new from x free lt (y, is, on) =
+    let same : y ≡ x = cc in
+    let had = with_taker (took old.taker (entry from (Payload x))) (Some x) old in
+    inr (inr (free, lt, inr (inr (from, x, subst (λ (z : Arrival kinds). WorksOn answers turn z had new) same on))))
 
 pub nobody : {X : Type 0} (hand : Option X) → is_some hand ≡ false → hand ≡ None
 nobody None e = refl

@@ -1,11 +1,12 @@
 use Rattle.std.proofs.Common.{Some, refl, sym, ap, subst, ◌∙◌, rules}
+use Rattle.std.specs.Arc.{arc_value}
 use Rattle.pipeline_laws.specs.Item.{Arrival}
 use Rattle.router_rules.specs.Rules.{kinds}
 use Rattle.ruled_pipe.specs.Consumer.{Taker, took}
 use Rattle.ruled_pipe.specs.Producer.{entry}
 use Rattle.ruled_pipe.specs.declared.entry.Load.{Load}
-use Rattle.router_stages.specs.Working.{KeepsWorking}
-use Rattle.router_stages.proofs.WorkingLemmas.{keeps_taken, nobody}
+use Rattle.router_stages.specs.Working.{KeepsWorking, Worked, Working, WorksFor, with_taker}
+use Rattle.router_stages.proofs.WorkingLemmas.{keeps_taken, nobody, taken_worked}
 use Rattle.router_stages.proofs.processor.ProcessorTurnsBook.turn.Goals as goal
 
 pub invariant_of-self-in-Some-Payload : goal.invariant_of-self-in-Some-Payload
@@ -22,3 +23,17 @@ returns-in-Some-Marked g c = search rules
 
 pub returns-in-None : goal.returns-in-None
 returns-in-None g c = search rules
+
+pub returns-in-Some-Payload : goal.returns-in-Some-Payload
+returns-in-Some-Payload g c =
+    let s = c.self.inside in
+    let e = c.in-Some-Payload.ensures in
+    let x = c.in-Some-Payload.packet in
+    let turn = c.work-in-Some-Payload.result in
+    let new = c.work-in-Some-Payload.new.self in
+    let answers = g.G.Gate.answers in
+    let old : Working g.row.G.Denot = record { gate = arc_value s.gate; index = s.index; taker = s.from; hand = s.hand; slow = s.slow; side = s.exits } in
+    let free = nobody s.hand (sym c.is_some.ensures ∙ c.if-is_some.false) in
+    let is = e.2 ∙ ap (λ (l : Load (Arrival kinds)). took s.from (entry e.0 l)) c.in-Some-Payload.field-0-is in
+    let worked = subst (λ (t : Taker (Arrival kinds)). WorksFor answers turn (with_taker t (Some x) old) new) is c.work-in-Some-Payload.ensures in
+    subst (λ (w : Working g.row.G.Denot). Worked answers turn w new) c.self.view_is (taken_worked answers turn old new e.0 x free (c.if-is_done.ensures.left refl) worked)
