@@ -2,3 +2,4 @@ pub mod ColumnLemmas
 pub mod KeyLemmas
 pub mod RoundLemmas
 pub mod TableRules
+pub mod CipherBytes
