@@ -1,9 +1,9 @@
 //! The flow that a datagram belongs to.
 
-ghost use Rattle.std.specs.Prelude.{◌≡◌, None, option_map};
+ghost use Rattle.std.specs.Prelude.{◌≡◌, ◌≤◌, length, option_map};
 ghost use Rattle.flow_key.specs.Flow.{flow_at, flow_of, is_high};
 ghost use Rattle.flow_key.specs.Key.{flow};
-ghost use Rattle.scion_packet.specs.Header.{header_fault};
+ghost use Rattle.scion_packet.specs.Header.{front_end};
 
 use crate::key::FlowKey;
 use scion_header::{check_header, flow_id, front_end, traffic_class};
@@ -19,10 +19,11 @@ pub fn is_high(traffic_class: u8) -> bool
     traffic_class / 4 == EXPEDITED_FORWARDING
 }
 
-/// The flow of a datagram whose header has no fault: its FlowID, the kinds of its hosts and its
-/// addresses, and where `banded`, the band of its traffic class.
+/// The flow of a datagram that is as long as its addresses, on a SCION path or on a path of one hop:
+/// its FlowID, the kinds of its hosts and its addresses, and where `banded`, the band of its traffic
+/// class.
 pub fn flow_at(bytes: &[u8], banded: bool) -> FlowKey<'_>
-    requires sound { header_fault bytes.now ≡ None }
+    requires addresses { front_end bytes.now ≤ length bytes.now }
     ensures { flow result ≡ flow_at banded bytes.now }
 {
     FlowKey {
@@ -33,7 +34,7 @@ pub fn flow_at(bytes: &[u8], banded: bool) -> FlowKey<'_>
     }
 }
 
-/// The flow of a datagram, as `flow_at` has it. There is none where the header is refused.
+/// The flow of a datagram on a SCION path, as `flow_at` has it. There is none where the header is refused.
 pub fn flow_of(bytes: &[u8], banded: bool) -> Option<FlowKey<'_>>
     ensures { option_map flow result ≡ flow_of banded bytes.now }
 {

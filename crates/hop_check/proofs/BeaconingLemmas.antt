@@ -1,9 +1,8 @@
 -- Hop fields whose MACs are made one after the other.
-use Rattle.std.proofs.Common.{◌≡◌, ◌<◌, ◌+◌, ℕ, zero, suc, List, [], length, slice_index_or, set, take, refl, sym, ap, ap₂, subst, ◌∙◌, arith, inl, inr}
+use Rattle.std.proofs.Common.{◌≡◌, ◌<◌, ◌+◌, ℕ, zero, suc, List, [], length, slice_index_or, set, refl, sym, ap, ap₂, subst, ◌∙◌, arith, inl, inr}
 use Rattle.std.proofs.lemmas.Bool.{cases_eq}
 use Rattle.std.proofs.lemmas.List.{get_or-set_other, get_or-set_same}
-use Rattle.cmac_core.specs.Cmac.{tag}
-use Rattle.hop_check.specs.Mac.{chain, mac6, mac_input}
+use Rattle.hop_check.specs.Mac.{chain, mac6}
 use Rattle.hop_check.specs.Beaconing.{beta_at, hop_at}
 use Rattle.scion_packet.specs.Path.{HopField, InfoField}
 use Rattle.scion_packet.specs.Places.{no_hop}
@@ -53,9 +52,6 @@ chained_more beta hops k h there =
     ∙ ap₂ chain (beta_of_those_before beta (set hops k h) hops k (kept hops k h)) (ap (λ (x : HopField). x.mac) (get_or-set_same hops k h no_hop there))
 
 -- of an info field a MAC takes the timestamp alone, and of a hop field nothing of its MAC
-pub mac_of_input : (key block mac : List ℕ) (beta : ℕ) (made info : InfoField) (h : HopField) → mac ≡ take 6 (tag key block)
-    → block ≡ mac_input beta made h → info.timestamp ≡ made.timestamp → mac ≡ mac6 key beta info (record h { mac = mac })
-mac_of_input key block mac beta made info h of_block input same =
-    of_block
-    ∙ ap (λ (b : List ℕ). take 6 (tag key b)) input
-    ∙ ap (λ (t : ℕ). mac6 key beta (record made { timestamp = t }) h) (sym same)
+pub mac_of_timestamp : (key mac : List ℕ) (beta : ℕ) (made info : InfoField) (h : HopField) → mac ≡ mac6 key beta made h
+    → info.timestamp ≡ made.timestamp → mac ≡ mac6 key beta info (record h { mac = mac })
+mac_of_timestamp key mac beta made info h is same = is ∙ ap (λ (t : ℕ). mac6 key beta (record made { timestamp = t }) h) (sym same)

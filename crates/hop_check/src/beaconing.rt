@@ -6,7 +6,7 @@ ghost use Rattle.hop_check.specs.Beaconing.{AreBeaconed, without_mac};
 ghost use Rattle.hop_check.specs.Mac.{chain, mac6};
 ghost use Rattle.path_fields.specs.Fields.{hop_field};
 
-use crate::mac::{chain, mac_input};
+use crate::mac::{chain, hop_mac};
 use cmac_core::Cmac;
 use path_fields::{Hop, Info};
 
@@ -24,7 +24,7 @@ fn write_mac(key: &Cmac, segment_id: u16, timestamp: u32, hop: &mut Hop) -> u16
         segment_id,
         timestamp,
     };
-    let mac = key.tag6_block(&mac_input(&info, hop));
+    let mac = hop_mac(key, &info, hop);
     hop.mac = mac;
     chain(segment_id, &mac)
 }

@@ -14,4 +14,4 @@ mod mac;
 pub use beaconing::beacon;
 pub use expiry::expired;
 pub use laws::{hops_expire_on_time, inputs_are_one_to_one, macs_are_whole};
-pub use mac::{chain, mac_input, verify};
+pub use mac::{chain, hop_mac, mac_input, verify};

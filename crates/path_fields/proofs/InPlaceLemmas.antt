@@ -12,7 +12,7 @@ use Rattle.path_fields.specs.InPlace.{with_segment_id}
 
 -- ---- a write within a longer text
 
-after : (a old new : List ℕ) (at : ℕ) (text : List ℕ) → Puts old new at text → Puts (a ++ old) (a ++ new) (length a + at) text
+pub after : (a old new : List ℕ) (at : ℕ) (text : List ℕ) → Puts old new at text → Puts (a ++ old) (a ++ new) (length a + at) text
 after a old new at text puts =
     let place : length a + at + length text ≡ length a + (at + length text) = omega arith in
     let front : take (length a + at) (a ++ old) ≡ a ++ take at old = take-append-add a old at in
@@ -33,7 +33,7 @@ before b old new at text puts =
       room = omega (arith, length-append old b, puts.room);
     }
 
-same_write : (old new new' : List ℕ) (at : ℕ) (text : List ℕ) → Puts old new at text → Puts old new' at text → new ≡ new'
+pub same_write : (old new new' : List ℕ) (at : ℕ) (text : List ℕ) → Puts old new at text → Puts old new' at text → new ≡ new'
 same_write old new new' at text p q = p.parts ∙ sym q.parts
 
 -- ---- the parts of the text

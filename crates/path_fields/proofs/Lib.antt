@@ -3,4 +3,5 @@ mod SegmentLemmas
 mod PlaceLemmas
 mod WritingLemmas
 mod InPlaceLemmas
+mod OneHopLemmas
 mod ReversingLemmas

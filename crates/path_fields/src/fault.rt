@@ -7,7 +7,7 @@ pub enum PathFault {
     #[error("the header length is not that of the path")]
     Header,
     /// The segment lengths are no path's, or the cursor is at no hop, or at a hop of another segment
-    /// than it says.
+    /// than it says; or a path of one hop is travelled against its construction.
     #[error("the path meta header has wrong lengths or a wrong cursor")]
     Path,
     /// A segment is a peering one.

@@ -14,13 +14,11 @@ use crate::path::Path;
 use arrayvec::ArrayVec;
 use field_rows::{array_at, u16_at, u32_at};
 
-/// The info field of a segment, counted from 0, read from the bytes of a path. The peering flag isn't looked
-/// at.
-pub fn read_info(path: &[u8], segment: usize) -> Info
-    requires { info_place segment + 8 ≤ length path.now }
-    ensures { info_field result ≡ info_at path.now (info_place segment) }
+/// The info field that begins at byte `at` of a path. The peering flag isn't looked at.
+pub(crate) fn info_at(path: &[u8], at: usize) -> Info
+    requires { at + 8 ≤ length path.now }
+    ensures { info_field result ≡ info_at path.now at }
 {
-    let at = 4 + 8 * segment;
     let flags = path[at];
     Info {
         reserved_flags: flags / 4,
@@ -29,6 +27,15 @@ pub fn read_info(path: &[u8], segment: usize) -> Info
         segment_id: u16_at(path, at + 2),
         timestamp: u32_at(path, at + 4),
     }
+}
+
+/// The info field of a segment, counted from 0, read from the bytes of a path. The peering flag isn't looked
+/// at.
+pub fn read_info(path: &[u8], segment: usize) -> Info
+    requires { info_place segment + 8 ≤ length path.now }
+    ensures { info_field result ≡ info_at path.now (info_place segment) }
+{
+    info_at(path, 4 + 8 * segment)
 }
 
 /// The hop field that begins at byte `at` of a path (`Meta::hop_place`).

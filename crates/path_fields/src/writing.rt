@@ -56,7 +56,7 @@ fn write_info(info: &Info, out: &mut [u8], at: usize)
     put_u32(out, at + 4, info.timestamp);
 }
 
-fn write_hop(hop: &Hop, out: &mut [u8], at: usize)
+pub(crate) fn write_hop(hop: &Hop, out: &mut [u8], at: usize)
     requires { at + 12 ≤ length out.old }
     ensures { Puts out.old out.new at (hop_text (hop_field hop.now)) }
 {

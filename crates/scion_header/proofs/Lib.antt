@@ -1,3 +1,2 @@
-mod FieldLemmas
 mod ReadingLemmas
 mod WritingLemmas

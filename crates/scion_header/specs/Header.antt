@@ -1,5 +1,5 @@
 -- The plain record of a header.
-use Rattle.scion_packet.specs.Header.{HeaderFields}
+use Rattle.scion_packet.specs.Header.{HeaderFields, scion_path}
 use Rattle.scion_header.specs.Address.{host_address}
 use Rattle.scion_header.specs.declared.header.Header.{Header}
 
@@ -10,6 +10,7 @@ header_fields h = record {
   next_header = h.next_header;
   header_length = h.header_length;
   payload_length = h.payload_length;
+  path_type = scion_path;
   reserved = h.reserved;
   destination = host_address h.destination;
   source = host_address h.source;

@@ -9,7 +9,7 @@ pub enum HeaderFault {
     /// The version is not 0.
     #[error("the version is not 0")]
     Version,
-    /// The path type is not that of a SCION path.
+    /// The path type is not the one that is asked for, mostly that of a SCION path.
     #[error("the path type is not SCION")]
     PathType,
     /// The header is too short to hold its addresses.

@@ -1,7 +1,8 @@
-//! Single fields of a header without a fault, read where they lie; the traffic class, of any datagram.
+//! Single fields of a header, read where they lie in a datagram that is as long as its addresses, whatever
+//! its path's type; the traffic class, of any datagram.
 
-ghost use Rattle.std.specs.Prelude.{◌≡◌, ◌≤◌, length, None, slice_index};
-ghost use Rattle.scion_packet.specs.Header.{front_end, header_fault, header_of};
+ghost use Rattle.std.specs.Prelude.{◌≡◌, ◌≤◌, length, slice_index};
+ghost use Rattle.scion_packet.specs.Header.{front_end, header_of};
 ghost use Rattle.scion_header.specs.Address.{host_address};
 
 use crate::address::Address;
@@ -25,7 +26,7 @@ pub fn traffic_class(bytes: &[u8]) -> u8
 
 /// The flow that the source has chosen (FlowID), 20 bits.
 pub fn flow_id(bytes: &[u8]) -> u32
-    requires sound { header_fault bytes.now ≡ None }
+    requires addresses { front_end bytes.now ≤ length bytes.now }
     ensures { result ≡ (header_of bytes.now).flow_id }
 {
     u32_at(bytes, 0) & 0xf_ffff
@@ -33,7 +34,7 @@ pub fn flow_id(bytes: &[u8]) -> u32
 
 /// Where the addresses end, counted in bytes from the datagram's start: the path begins there.
 pub fn front_end(bytes: &[u8]) -> usize
-    requires sound { header_fault bytes.now ≡ None }
+    requires addresses { front_end bytes.now ≤ length bytes.now }
     ensures end { result ≡ front_end bytes.now }
     ensures whole { result ≤ length bytes.now }
 {
@@ -42,7 +43,7 @@ pub fn front_end(bytes: &[u8]) -> usize
 
 /// The protocol of what follows the header (NextHdr).
 pub fn next_header(bytes: &[u8]) -> u8
-    requires sound { header_fault bytes.now ≡ None }
+    requires addresses { front_end bytes.now ≤ length bytes.now }
     ensures { result ≡ (header_of bytes.now).next_header }
 {
     bytes[4]
@@ -50,7 +51,7 @@ pub fn next_header(bytes: &[u8]) -> u8
 
 /// The length in bytes of what follows the header, as the header has it (PayloadLen).
 pub fn payload_length(bytes: &[u8]) -> u16
-    requires sound { header_fault bytes.now ≡ None }
+    requires addresses { front_end bytes.now ≤ length bytes.now }
     ensures { result ≡ (header_of bytes.now).payload_length }
 {
     u16_at(bytes, 6)
@@ -58,7 +59,7 @@ pub fn payload_length(bytes: &[u8]) -> u16
 
 /// The destination's AS (DstISD, DstAS).
 pub fn destination_domain(bytes: &[u8]) -> Domain
-    requires sound { header_fault bytes.now ≡ None }
+    requires addresses { front_end bytes.now ≤ length bytes.now }
     ensures isd { result.isd ≡ (header_of bytes.now).destination.isd }
     ensures autonomous_system { result.autonomous_system ≡ (header_of bytes.now).destination.autonomous_system }
 {
@@ -70,7 +71,7 @@ pub fn destination_domain(bytes: &[u8]) -> Domain
 
 /// The source's AS (SrcISD, SrcAS).
 pub fn source_domain(bytes: &[u8]) -> Domain
-    requires sound { header_fault bytes.now ≡ None }
+    requires addresses { front_end bytes.now ≤ length bytes.now }
     ensures isd { result.isd ≡ (header_of bytes.now).source.isd }
     ensures autonomous_system { result.autonomous_system ≡ (header_of bytes.now).source.autonomous_system }
 {
@@ -82,7 +83,7 @@ pub fn source_domain(bytes: &[u8]) -> Domain
 
 /// The destination with its host (DstISD, DstAS, DstHostAddr, by DT and DL).
 pub fn destination_address(bytes: &[u8]) -> Address
-    requires sound { header_fault bytes.now ≡ None }
+    requires addresses { front_end bytes.now ≤ length bytes.now }
     ensures { host_address result ≡ (header_of bytes.now).destination }
 {
     address_at(bytes, 12, 28, bytes[9] / 16)

@@ -31,6 +31,6 @@ pub use fields::{
 pub use header::Header;
 pub use host::Host;
 pub use laws::header_is_lawful;
-pub use reading::{check_header, read_header};
+pub use reading::{check_header, check_header_as, read_header};
 pub use upper::{Upper, UpperPlace};
 pub use writing::write_header;

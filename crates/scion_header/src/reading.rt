@@ -1,5 +1,5 @@
-ghost use Rattle.std.specs.Prelude.{◌≡◌, ◌+◌, ◌/◌, ◌%◌, ◌<◌, ◌≤◌, length, None, Some, MatchResult, IfOk};
-ghost use Rattle.scion_packet.specs.Header.{address_of, front_end, header_end, header_fault, header_of, host_kinds, host_len};
+ghost use Rattle.std.specs.Prelude.{◌≡◌, ◌+◌, ◌/◌, ◌%◌, ◌<◌, ◌≤◌, length, slice_index, None, Some, MatchResult, IfOk};
+ghost use Rattle.scion_packet.specs.Header.{address_of, front_end, header_end, header_fault, header_fault_as, header_of, host_kinds, host_len, scion_path};
 ghost use Rattle.scion_header.specs.Address.{host_address};
 ghost use Rattle.scion_header.specs.Fault.{fault_of};
 ghost use Rattle.scion_header.specs.Header.{header_fields};
@@ -12,6 +12,9 @@ use crate::fields::traffic_class;
 use crate::header::Header;
 use crate::host::host_at;
 use field_rows::{u16_at, u32_at, u48_at};
+
+/// The path type of a SCION path (PathType).
+pub(crate) const SCION_PATH: u8 = 1;
 
 /// How many bytes a host of this length code has.
 fn host_len(code: u8) -> usize
@@ -53,6 +56,7 @@ pub(crate) fn addresses_end(kinds: u8) -> usize
 
 /// The header of a datagram that passed the tests.
 fn header_at(bytes: &[u8]) -> Header
+    requires path_type { slice_index bytes.now 8 ≡ scion_path }
     requires whole { front_end bytes.now ≤ length bytes.now }
     requires covers { front_end bytes.now ≤ header_end bytes.now }
     ensures { header_fields result ≡ header_of bytes.now }
@@ -71,10 +75,12 @@ fn header_at(bytes: &[u8]) -> Header
 }
 
 /// Where the parts of a datagram's header end, where all its tests pass; else the fault of the first
-/// that fails: the length of the common header, the version, the path type, that the header covers its
-/// addresses, and that the datagram is as long as its header says. No address is looked at.
-pub fn check_header(bytes: &[u8]) -> Result<HeaderEnds, HeaderFault>
-    ensures fault { MatchResult result (λ _. header_fault bytes.now ≡ None) (λ e. header_fault bytes.now ≡ Some (fault_of e)) }
+/// that fails: the length of the common header, the version, that the path is of this type (PathType),
+/// that the header covers its addresses, and that the datagram is as long as its header says. No
+/// address is looked at.
+#[inline(always)]
+pub fn check_header_as(path_type: u8, bytes: &[u8]) -> Result<HeaderEnds, HeaderFault>
+    ensures fault { MatchResult result (λ _. header_fault_as path_type bytes.now ≡ None) (λ e. header_fault_as path_type bytes.now ≡ Some (fault_of e)) }
     ensures addresses { IfOk result (λ ends. ends.addresses ≡ front_end bytes.now) }
     ensures header { IfOk result (λ ends. ends.header ≡ header_end bytes.now) }
     // what the tests show
@@ -87,7 +93,7 @@ pub fn check_header(bytes: &[u8]) -> Result<HeaderEnds, HeaderFault>
     if bytes[0] / 16 != 0 {
         return Err(HeaderFault::Version);
     }
-    if bytes[8] != 1 {
+    if bytes[8] != path_type {
         return Err(HeaderFault::PathType);
     }
     let addresses = addresses_end(bytes[9]);
@@ -99,6 +105,18 @@ pub fn check_header(bytes: &[u8]) -> Result<HeaderEnds, HeaderFault>
         return Err(HeaderFault::Short);
     }
     Ok(HeaderEnds { addresses, header })
+}
+
+/// What `check_header_as` tells of a datagram on a SCION path (path type 1).
+pub fn check_header(bytes: &[u8]) -> Result<HeaderEnds, HeaderFault>
+    ensures fault { MatchResult result (λ _. header_fault bytes.now ≡ None) (λ e. header_fault bytes.now ≡ Some (fault_of e)) }
+    ensures addresses { IfOk result (λ ends. ends.addresses ≡ front_end bytes.now) }
+    ensures header { IfOk result (λ ends. ends.header ≡ header_end bytes.now) }
+    // what the tests show
+    ensures covers { IfOk result (λ ends. ends.addresses ≤ ends.header) }
+    ensures whole { IfOk result (λ ends. ends.header ≤ length bytes.now) }
+{
+    check_header_as(SCION_PATH, bytes)
 }
 
 /// The header of a datagram, where all its tests pass; else the fault of the first that fails, as

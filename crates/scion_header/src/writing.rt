@@ -9,6 +9,7 @@ ghost use Rattle.scion_header.specs.Host.{length_code};
 use crate::address::Address;
 use crate::fault::NoRoom;
 use crate::header::Header;
+use crate::reading::SCION_PATH;
 use field_rows::{put, put_u8, put_u16, put_u32, put_u48};
 
 /// The four bits of byte 9 for an address: its kind, then its length code.
@@ -28,7 +29,7 @@ fn write_common(header: &Header, out: &mut [u8])
     put_u8(out, 4, header.next_header);
     put_u8(out, 5, header.header_length);
     put_u16(out, 6, header.payload_length);
-    put_u8(out, 8, 1);
+    put_u8(out, 8, SCION_PATH);
     put_u8(out, 9, kinds);
     put_u16(out, 10, header.reserved);
 }

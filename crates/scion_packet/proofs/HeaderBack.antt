@@ -5,7 +5,7 @@ use Rattle.field_rows.specs.Row.{field, row, rows}
 use Rattle.field_rows.specs.Place.{StandsAt, number_at, text_at}
 use Rattle.field_rows.proofs.Rows.{StandsAt-front}
 use Rattle.field_rows.proofs.Unique.{byte_of}
-use Rattle.scion_packet.specs.Header.{HeaderFields, HostAddress, IsAddress, SpellsHeader, address_of, common_table, domain_table, front_end, front_len, header_end, header_fault, header_of, header_tests, host_code, host_kinds, host_len}
+use Rattle.scion_packet.specs.Header.{HeaderFields, HostAddress, IsAddress, SpellsHeader, address_of, common_table, domain_table, front_end, front_len, header_end, header_fault_as, header_of, header_tests_as, host_code, host_kinds, host_len}
 use Rattle.scion_packet.proofs.Fields.{stands_after, number_back}
 use Rattle.scion_packet.proofs.Tests.{none_fails}
 
@@ -18,7 +18,7 @@ record HeaderRead (bytes : List ℕ) (h : HeaderFields) : Type 0 where
   next : slice_index bytes 4 ≡ h.next_header
   len : slice_index bytes 5 ≡ h.header_length
   payload : number_at bytes 6 2 ≡ h.payload_length
-  path_type : slice_index bytes 8 ≡ 1
+  path_type : slice_index bytes 8 ≡ h.path_type
   destination_kind : host_kinds bytes / 64 ≡ h.destination.kind
   destination_code : host_kinds bytes / 16 % 4 ≡ host_code h.destination
   source_kind : host_kinds bytes / 4 % 4 ≡ h.source.kind
@@ -36,6 +36,7 @@ common_read bytes h spells =
     let next-fits : h.next_header < 256 = fits.1.0.0 in
     let len-fits : h.header_length < 256 = fits.1.1.0.0 in
     let payload-fits : h.payload_length < 65536 = fits.1.1.1.0.0 in
+    let type-fits : h.path_type < 256 = fits.1.1.1.1.0.0 in
     let kinds = fits.1.1.1.1.1.0 in
     let dk-fits : h.destination.kind < 4 = kinds.0 in
     let dc-fits : host_code h.destination < 4 = kinds.1.0 in
@@ -51,7 +52,7 @@ common_read bytes h spells =
     let r1 = row (field 8 h.next_header ∷ []) in
     let r2 = row (field 8 h.header_length ∷ []) in
     let r3 = row (field 16 h.payload_length ∷ []) in
-    let r4 = row (field 8 1 ∷ []) in
+    let r4 = row (field 8 h.path_type ∷ []) in
     let r5 = row (field 2 h.destination.kind ∷ field 2 (host_code h.destination) ∷ field 2 h.source.kind ∷ field 2 (host_code h.source) ∷ []) in
     let r6 = row (field 16 h.reserved ∷ []) in
     let front6 : List ℕ = r0 ++ (r1 ++ r2) in
@@ -65,7 +66,7 @@ common_read bytes h spells =
       next = omega arith;
       len = omega arith;
       payload = number_back bytes 6 2 h.payload_length _ payload-fits from6;
-      path_type = byte8;
+      path_type = omega arith;
       destination_kind = omega arith;
       destination_code = omega arith;
       source_kind = omega arith;
@@ -73,14 +74,14 @@ common_read bytes h spells =
       reserved = number_back bytes 10 2 h.reserved [] reserved-fits from10;
     }
 
-pub header_passes_back : (bytes : List ℕ) (h : HeaderFields) → SpellsHeader bytes h → header_fault bytes ≡ None
+pub header_passes_back : (bytes : List ℕ) (h : HeaderFields) → SpellsHeader bytes h → header_fault_as h.path_type bytes ≡ None
 header_passes_back bytes h spells =
     let read = common_read bytes h spells in
     let lawful = spells.lawful in
     let covers : front_end bytes ≤ header_end bytes =
     omega (arith, read.len, read.destination_code, read.source_code, lawful.covers, lawful.destination.1, lawful.source.1) in
     let whole : header_end bytes ≤ length bytes = omega (arith, read.len, spells.whole) in
-    none_fails (header_tests bytes) (
+    none_fails (header_tests_as h.path_type bytes) (
       le-leb _ _ (omega (arith, covers, whole)),
       (eq-eqb _ _ read.version, (eq-eqb _ _ read.path_type, (le-leb _ _ covers, (le-leb _ _ whole, tt)))),
     )
@@ -95,16 +96,17 @@ same_address a b e0 e1 e2 e3 =
     ∙ ap (λ (x : List ℕ). record b { host = x }) e3
 
 same_header : (h g : HeaderFields) → h.traffic_class ≡ g.traffic_class → h.flow_id ≡ g.flow_id → h.next_header ≡ g.next_header → h.header_length ≡ g.header_length
-    → h.payload_length ≡ g.payload_length → h.reserved ≡ g.reserved → h.destination ≡ g.destination → h.source ≡ g.source → h ≡ g
-same_header h g e0 e1 e2 e3 e4 e5 e6 e7 =
+    → h.payload_length ≡ g.payload_length → h.path_type ≡ g.path_type → h.reserved ≡ g.reserved → h.destination ≡ g.destination → h.source ≡ g.source → h ≡ g
+same_header h g e0 e1 e2 e3 e4 e5 e6 e7 e8 =
     ap (λ (x : ℕ). record h { traffic_class = x }) e0
     ∙ ap (λ (x : ℕ). record h { traffic_class = g.traffic_class; flow_id = x }) e1
     ∙ ap (λ (x : ℕ). record h { traffic_class = g.traffic_class; flow_id = g.flow_id; next_header = x }) e2
     ∙ ap (λ (x : ℕ). record h { traffic_class = g.traffic_class; flow_id = g.flow_id; next_header = g.next_header; header_length = x }) e3
-    ∙ ap (λ (x : ℕ). record g { payload_length = x; reserved = h.reserved; destination = h.destination; source = h.source }) e4
-    ∙ ap (λ (x : ℕ). record g { reserved = x; destination = h.destination; source = h.source }) e5
-    ∙ ap (λ (x : HostAddress). record g { destination = x; source = h.source }) e6
-    ∙ ap (λ (x : HostAddress). record g { source = x }) e7
+    ∙ ap (λ (x : ℕ). record g { payload_length = x; path_type = h.path_type; reserved = h.reserved; destination = h.destination; source = h.source }) e4
+    ∙ ap (λ (x : ℕ). record g { path_type = x; reserved = h.reserved; destination = h.destination; source = h.source }) e5
+    ∙ ap (λ (x : ℕ). record g { reserved = x; destination = h.destination; source = h.source }) e6
+    ∙ ap (λ (x : HostAddress). record g { destination = x; source = h.source }) e7
+    ∙ ap (λ (x : HostAddress). record g { source = x }) e8
 
 -- an address whose domain and host stand at these places is read there
 address_read : (bytes : List ℕ) (a : HostAddress) (domain host bits : ℕ) (rest : List ℕ) → IsAddress a → StandsAt bytes domain (rows (domain_table a) ++ rest)
@@ -139,7 +141,7 @@ header_only bytes h spells =
     let sk : b % 16 / 4 ≡ h.source.kind = omega (arith, read.source_kind) in
     let sc : b % 16 % 4 ≡ host_code h.source = omega (arith, read.source_code) in
     let dk : b / 16 / 4 ≡ h.destination.kind = omega (arith, read.destination_kind) in
-    same_header h (header_of bytes) w-class w-flow (sym read.next) (sym read.len) (sym read.payload) (sym read.reserved)
+    same_header h (header_of bytes) w-class w-flow (sym read.next) (sym read.len) (sym read.payload) (sym read.path_type) (sym read.reserved)
     (address_read bytes h.destination 12 28 (b / 16) _ lawful.destination from12 (StandsAt-front bytes 28 dh sh from28) dk read.destination_code)
     (address_read bytes h.source 20 place (b % 16) _ lawful.source from20 last sk sc)
 

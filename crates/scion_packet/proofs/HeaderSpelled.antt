@@ -7,21 +7,21 @@ use Rattle.field_rows.specs.Row.{Fits, field, row, rows}
 use Rattle.field_rows.specs.Place.{IsBytes, StandsAt, number_at}
 use Rattle.field_rows.proofs.Numbers.{bytes_of_number}
 use Rattle.field_rows.proofs.Rows.{StandsAt-next, cell_stands}
-use Rattle.scion_packet.specs.Header.{HeaderFields, HostAddress, IsAddress, SpellsHeader, address_of, common_table, domain_table, front_end, header_end, header_fault, header_of, header_tests, host_code, host_kinds, host_len}
+use Rattle.scion_packet.specs.Header.{HeaderFields, HostAddress, IsAddress, SpellsHeader, address_of, common_table, domain_table, front_end, header_end, header_fault_as, header_of, header_tests_as, host_code, host_kinds, host_len}
 use Rattle.scion_packet.proofs.Fields.{number-lt, text_stands}
 use Rattle.scion_packet.proofs.Tests.{all_pass}
 
--- What the header's tests show.
-pub record HeaderPasses (bytes : List ℕ) : Type 0 where
+-- What the header's tests show, where its path is to be of type t.
+pub record HeaderPasses (t : ℕ) (bytes : List ℕ) : Type 0 where
   pub long : 12 ≤ length bytes
   pub version : slice_index bytes 0 / 16 ≡ 0
-  pub path_type : slice_index bytes 8 ≡ 1
+  pub path_type : slice_index bytes 8 ≡ t
   pub covers : front_end bytes ≤ header_end bytes
   pub whole : header_end bytes ≤ length bytes
 
-pub header_passes : (bytes : List ℕ) → header_fault bytes ≡ None → HeaderPasses bytes
-header_passes bytes none =
-    let all = all_pass (header_tests bytes) none in
+pub header_passes : (t : ℕ) (bytes : List ℕ) → header_fault_as t bytes ≡ None → HeaderPasses t bytes
+header_passes t bytes none =
+    let all = all_pass (header_tests_as t bytes) none in
     record {
       long = leb-true _ _ all.0;
       version = eqb-true _ _ all.1.0;
@@ -65,18 +65,19 @@ record CommonSpelled (bytes : List ℕ) (h : HeaderFields) : Type 0 where
   fits : Fits (common_table h)
 
 -- the numbers of the common header as the tests and the places give them
-common_spelled : (bytes : List ℕ) (h : HeaderFields) → IsBytes bytes → HeaderPasses bytes
+common_spelled : (t : ℕ) (bytes : List ℕ) (h : HeaderFields) → IsBytes bytes → HeaderPasses t bytes
     → h.traffic_class ≡ number_at bytes 0 4 / 2 ^ 20 % 2 ^ 8 → h.flow_id ≡ number_at bytes 0 4 % 2 ^ 20
-    → h.next_header ≡ slice_index bytes 4 → h.header_length ≡ slice_index bytes 5 → h.payload_length ≡ number_at bytes 6 2 → h.reserved ≡ number_at bytes 10 2
+    → h.next_header ≡ slice_index bytes 4 → h.header_length ≡ slice_index bytes 5 → h.payload_length ≡ number_at bytes 6 2 → h.path_type ≡ slice_index bytes 8 → h.reserved ≡ number_at bytes 10 2
     → h.destination.kind ≡ host_kinds bytes / 64 → host_code h.destination ≡ host_kinds bytes / 16 % 4 → h.source.kind ≡ host_kinds bytes / 4 % 4 → host_code h.source ≡ host_kinds bytes % 4
     → CommonSpelled bytes h
-common_spelled bytes h are passes class-is flow-is next-is len-is payload-is reserved-is dk-is dc-is sk-is sc-is =
+common_spelled t bytes h are passes class-is flow-is next-is len-is payload-is type-is reserved-is dk-is dc-is sk-is sc-is =
     let long = passes.long in
     let w = number_at bytes 0 4 in
     let b = slice_index bytes 9 in
     let b-fits : b < 256 = are 9 in
     let next-fits : slice_index bytes 4 < 256 = are 4 in
     let len-fits : slice_index bytes 5 < 256 = are 5 in
+    let type-fits : slice_index bytes 8 < 256 = are 8 in
     let b1 : slice_index bytes 1 < 256 = are 1 in
     let b2 : slice_index bytes 2 < 256 = are 2 in
     let b3 : slice_index bytes 3 < 256 = are 3 in
@@ -90,7 +91,7 @@ common_spelled bytes h are passes class-is flow-is next-is len-is payload-is res
     let r1 : StandsAt bytes 4 (row (field 8 h.next_header ∷ [])) = cell_stands bytes h.next_header 4 next-fits next-is (omega arith) in
     let r2 : StandsAt bytes 5 (row (field 8 h.header_length ∷ [])) = cell_stands bytes h.header_length 5 len-fits len-is (omega arith) in
     let r3 : StandsAt bytes 6 (row (field 16 h.payload_length ∷ [])) = subst (λ (n : ℕ). StandsAt bytes 6 (big_bytes 2 n)) (sym payload-is) (bytes_of_number bytes 6 2 are (omega arith)) in
-    let r4 : StandsAt bytes 8 (row (field 8 1 ∷ [])) = cell_stands bytes 1 8 (are 8) (sym passes.path_type) (omega arith) in
+    let r4 : StandsAt bytes 8 (row (field 8 h.path_type ∷ [])) = cell_stands bytes h.path_type 8 type-fits type-is (omega arith) in
     let r5 : StandsAt bytes 9 (row (field 2 h.destination.kind ∷ field 2 (host_code h.destination) ∷ field 2 h.source.kind ∷ field 2 (host_code h.source) ∷ [])) = cell_stands bytes _ 9 b-fits kinds-is (omega arith) in
     let r6 : StandsAt bytes 10 (row (field 16 h.reserved ∷ [])) = subst (λ (n : ℕ). StandsAt bytes 10 (big_bytes 2 n)) (sym reserved-is) (bytes_of_number bytes 10 2 are (omega arith)) in
     let end : StandsAt bytes 12 [] = record { read = refl } in
@@ -120,9 +121,9 @@ common_spelled bytes h are passes class-is flow-is next-is len-is payload-is res
       );
     }
 
-pub header_spelled : (bytes : List ℕ) → IsBytes bytes → header_fault bytes ≡ None → SpellsHeader bytes (header_of bytes)
-header_spelled bytes are none =
-    let passes = header_passes bytes none in
+pub header_spelled : (t : ℕ) (bytes : List ℕ) → IsBytes bytes → header_fault_as t bytes ≡ None → SpellsHeader bytes (header_of bytes)
+header_spelled t bytes are none =
+    let passes = header_passes t bytes none in
     let b = host_kinds bytes in
     let b-fits : b < 256 = are 9 in
     let h = header_of bytes in
@@ -131,7 +132,7 @@ header_spelled bytes are none =
     let place = 28 + host_len dc in
     let d = address_spelled bytes 12 28 (b / 16) are (omega (arith, passes.covers, passes.whole)) (omega (arith, passes.covers, passes.whole)) in
     let s = address_spelled bytes 20 place (b % 16) are (omega (arith, passes.covers, passes.whole)) (omega (arith, passes.covers, passes.whole, sc)) in
-    let common = common_spelled bytes h are passes refl refl refl refl refl refl (omega arith) d.code_is (omega arith) (s.code_is ∙ sc) in
+    let common = common_spelled t bytes h are passes refl refl refl refl refl refl refl (omega arith) d.code_is (omega arith) (s.code_is ∙ sc) in
     let hosts = StandsAt-next bytes 28 place h.destination.host h.source.host d.host_text s.host_text (omega (arith, d.len)) in
     let from20 = StandsAt-next bytes 20 28 (rows (domain_table h.source)) _ s.text hosts refl in
     let from12 = StandsAt-next bytes 12 20 (rows (domain_table h.destination)) _ d.text from20 refl in
@@ -140,3 +141,6 @@ header_spelled bytes are none =
       front = StandsAt-next bytes 0 12 (rows (common_table h)) _ common.text from12 refl;
       whole = passes.whole;
     }
+
+pub header_type : (t : ℕ) (bytes : List ℕ) → header_fault_as t bytes ≡ None → (header_of bytes).path_type ≡ t
+header_type t bytes none = (header_passes t bytes none).path_type

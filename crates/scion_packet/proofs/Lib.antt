@@ -8,6 +8,7 @@ pub mod PathBack
 pub mod HeaderSpelled
 pub mod HeaderBack
 pub mod PacketLaws
+pub mod OneHopLaws
 pub mod Parts
 pub mod Offsets
 pub mod Reversing

@@ -2,7 +2,7 @@
 use Rattle.std.proofs.Common.{◌≡◌, ◌≤◌, ◌-◌, ◌*◌, ℕ, None, List, length, take, drop, sym, ap, ap₂, ◌∙◌, arith, length-drop}
 use Rattle.std.proofs.lemmas.List.{take_all}
 use Rattle.field_rows.specs.Place.{IsBytes, text_at}
-use Rattle.scion_packet.specs.Header.{HeaderFields, front_end, front_len, header_end, header_fault, header_of}
+use Rattle.scion_packet.specs.Header.{HeaderFields, front_end, front_len, header_end, header_fault, header_fault_as, header_of, scion_path}
 use Rattle.scion_packet.specs.Packet.{path_bytes}
 use Rattle.scion_packet.proofs.HeaderBack.{front_is}
 use Rattle.scion_packet.proofs.HeaderSpelled.{header_passes, header_spelled}
@@ -14,16 +14,19 @@ pub record PathLies (bytes : List ℕ) (h : HeaderFields) : Type 0 where
   pub order : front_end bytes ≤ header_end bytes
   pub inside : header_end bytes ≤ length bytes
 
-pub path_lies : (bytes : List ℕ) (h : HeaderFields) → IsBytes bytes → header_fault bytes ≡ None → h ≡ header_of bytes → PathLies bytes h
-path_lies bytes h are none is =
-    let ends = front_is bytes (header_of bytes) (header_spelled bytes are none) in
-    let passes = header_passes bytes none in
+pub path_lies_as : (t : ℕ) (bytes : List ℕ) (h : HeaderFields) → IsBytes bytes → header_fault_as t bytes ≡ None → h ≡ header_of bytes → PathLies bytes h
+path_lies_as t bytes h are none is =
+    let ends = front_is bytes (header_of bytes) (header_spelled t bytes are none) in
+    let passes = header_passes t bytes none in
     record {
       begin = ap front_len is ∙ sym ends.0;
       end = ap (λ (g : HeaderFields). 4 * g.header_length) is ∙ sym ends.1;
       order = passes.covers;
       inside = passes.whole;
     }
+
+pub path_lies : (bytes : List ℕ) (h : HeaderFields) → IsBytes bytes → header_fault bytes ≡ None → h ≡ header_of bytes → PathLies bytes h
+path_lies bytes h are none is = path_lies_as scion_path bytes h are none is
 
 -- the bytes between these places are those of the path
 pub path_between : (bytes : List ℕ) (begin end : ℕ) → begin ≡ front_end bytes → end ≡ header_end bytes → text_at bytes begin (end - begin) ≡ path_bytes bytes

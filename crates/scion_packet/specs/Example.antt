@@ -1,6 +1,9 @@
--- The first datagram, read by hand: the definitions compute what a reader of the standard's tables would.
+-- The first datagram, and one on a path of one hop, read by hand: the definitions compute what a reader of the standard's
+-- tables would.
 use Rattle.std.specs.Prelude.{◌≡◌, ℕ, true, false, List, [], ◌∷◌, None, refl}
 use Rattle.scion_packet.specs.Path.{HopField, place_at}
+use Rattle.scion_packet.specs.Header.{HostAddress}
+use Rattle.scion_packet.specs.OneHop.{OneHopPacket, one_hop_fault, one_hop_packet_of, one_hop_spelling}
 use Rattle.scion_packet.specs.Packet.{Packet, first_fault, packet_of, spelling}
 
 -- from 1-ff00:0:111, 10.1.0.5 to 1-ff00:0:112, 10.2.0.7, on a segment of three hops, at the second one
@@ -26,6 +29,13 @@ hop_field ingress egress mac = record {
   mac = mac;
 }
 
+-- the end hosts
+abbrev pub destination : HostAddress
+destination = record { isd = 1; autonomous_system = 0xff0000000112; kind = 0; host = 10 ∷ 2 ∷ 0 ∷ 7 ∷ [] }
+
+abbrev pub source : HostAddress
+source = record { isd = 1; autonomous_system = 0xff0000000111; kind = 0; host = 10 ∷ 1 ∷ 0 ∷ 5 ∷ [] }
+
 abbrev pub packet : Packet
 packet = record {
   header = record {
@@ -34,9 +44,10 @@ packet = record {
     next_header = 17;
     header_length = 21;
     payload_length = 8;
+    path_type = 1;
     reserved = 0;
-    destination = record { isd = 1; autonomous_system = 0xff0000000112; kind = 0; host = 10 ∷ 2 ∷ 0 ∷ 7 ∷ [] };
-    source = record { isd = 1; autonomous_system = 0xff0000000111; kind = 0; host = 10 ∷ 1 ∷ 0 ∷ 5 ∷ [] };
+    destination = destination;
+    source = source;
   };
   path = record {
     reserved = 0;
@@ -61,3 +72,46 @@ packet_is_spelled = refl
 
 pub datagram_has_no_fault : first_fault datagram ≡ None
 datagram_has_no_fault = refl
+
+-- ---- a path of one hop
+
+-- from and to the same hosts, by the source AS's interface 2; nobody has written the second hop field yet
+abbrev pub one_hop_datagram : List ℕ
+one_hop_datagram =
+    0x00 ∷ 0x00 ∷ 0x00 ∷ 0x01 ∷ 0x11 ∷ 0x11 ∷ 0x00 ∷ 0x08 ∷ 0x02 ∷ 0x00 ∷ 0x00 ∷ 0x00
+    ∷ 0x00 ∷ 0x01 ∷ 0xff ∷ 0x00 ∷ 0x00 ∷ 0x00 ∷ 0x01 ∷ 0x12 ∷ 0x00 ∷ 0x01 ∷ 0xff ∷ 0x00 ∷ 0x00 ∷ 0x00 ∷ 0x01 ∷ 0x11
+    ∷ 0x0a ∷ 0x02 ∷ 0x00 ∷ 0x07 ∷ 0x0a ∷ 0x01 ∷ 0x00 ∷ 0x05
+    ∷ 0x01 ∷ 0x00 ∷ 0x12 ∷ 0x34 ∷ 0x65 ∷ 0x00 ∷ 0x00 ∷ 0x00
+    ∷ 0x00 ∷ 0x3f ∷ 0x00 ∷ 0x00 ∷ 0x00 ∷ 0x02 ∷ 0xa0 ∷ 0xa1 ∷ 0xa2 ∷ 0xa3 ∷ 0xa4 ∷ 0xa5
+    ∷ 0x00 ∷ 0x00 ∷ 0x00 ∷ 0x00 ∷ 0x00 ∷ 0x00 ∷ 0x00 ∷ 0x00 ∷ 0x00 ∷ 0x00 ∷ 0x00 ∷ 0x00
+    ∷ 0x75 ∷ 0x59 ∷ 0x75 ∷ 0x59 ∷ 0x00 ∷ 0x08 ∷ 0x00 ∷ 0x00 ∷ []
+
+abbrev pub one_hop_packet : OneHopPacket
+one_hop_packet = record {
+  header = record {
+    traffic_class = 0;
+    flow_id = 1;
+    next_header = 17;
+    header_length = 17;
+    payload_length = 8;
+    path_type = 2;
+    reserved = 0;
+    destination = destination;
+    source = source;
+  };
+  path = record {
+    info = record { reserved_flags = 0; along = true; reserved = 0; segment_id = 0x1234; timestamp = 1694498816 };
+    first = hop_field 0 2 (0xa0 ∷ 0xa1 ∷ 0xa2 ∷ 0xa3 ∷ 0xa4 ∷ 0xa5 ∷ []);
+    second = 0 ∷ 0 ∷ 0 ∷ 0 ∷ 0 ∷ 0 ∷ 0 ∷ 0 ∷ 0 ∷ 0 ∷ 0 ∷ 0 ∷ [];
+  };
+  payload = 0x75 ∷ 0x59 ∷ 0x75 ∷ 0x59 ∷ 0x00 ∷ 0x08 ∷ 0x00 ∷ 0x00 ∷ [];
+}
+
+pub one_hop_datagram_is_read : one_hop_packet_of one_hop_datagram ≡ one_hop_packet
+one_hop_datagram_is_read = refl
+
+pub one_hop_packet_is_spelled : one_hop_spelling one_hop_packet ≡ one_hop_datagram
+one_hop_packet_is_spelled = refl
+
+pub one_hop_datagram_has_no_fault : one_hop_fault one_hop_datagram ≡ None
+one_hop_datagram_has_no_fault = refl

@@ -6,11 +6,11 @@ pub data Fault : Type 0 where
   TooShort : Fault
   -- the version is not 0
   WrongVersion : Fault
-  -- the path is no SCION path
+  -- the path is of another type
   WrongPathType : Fault
   -- the header's length doesn't cover the addresses, or isn't that of the path
   WrongLength : Fault
-  -- the segment lengths, or the cursor, are no place on a path
+  -- the segment lengths, or the cursor, are no place on a path; or a path of one hop is travelled against its construction
   WrongPath : Fault
   -- a segment is a peering one
   PeeringSegment : Fault

@@ -17,9 +17,17 @@ pub record HeaderFields : Type 0 where
   pub next_header : ℕ
   pub header_length : ℕ  -- of the whole header, in units of four bytes
   pub payload_length : ℕ
+  pub path_type : ℕ
   pub reserved : ℕ
   pub destination : HostAddress
   pub source : HostAddress
+
+-- the path types that are carried: a SCION path, and a path of one hop
+abbrev pub scion_path : ℕ
+scion_path = 1
+
+abbrev pub one_hop_path : ℕ
+one_hop_path = 2
 
 -- ---- the tables, row by row
 
@@ -38,8 +46,7 @@ common_table h =
     ∷ (field 8 h.next_header ∷ [])
     ∷ (field 8 h.header_length ∷ [])
     ∷ (field 16 h.payload_length ∷ [])
-    -- path type
-    ∷ (field 8 1 ∷ [])
+    ∷ (field 8 h.path_type ∷ [])
     ∷ (field 2 h.destination.kind ∷ field 2 (host_code h.destination) ∷ field 2 h.source.kind ∷ field 2 (host_code h.source) ∷ [])
     ∷ (field 16 h.reserved ∷ [])
     ∷ []
@@ -100,6 +107,7 @@ header_of bytes = record {
   next_header = slice_index bytes 4;
   header_length = slice_index bytes 5;
   payload_length = number_at bytes 6 2;
+  path_type = slice_index bytes 8;
   reserved = number_at bytes 10 2;
   destination = address_of bytes 12 28 (host_kinds bytes / 16);
   source = address_of bytes 20 (28 + host_len (host_kinds bytes / 16 % 4)) (host_kinds bytes % 16);
@@ -115,14 +123,22 @@ header_end bytes = 4 * slice_index bytes 5
 
 -- ---- the tests of a header, in their order
 
-abbrev pub header_tests : List ℕ → List Test
-header_tests bytes =
+-- of a datagram whose path is to be of this type
+abbrev pub header_tests_as : ℕ → List ℕ → List Test
+header_tests_as path_type bytes =
     (nat_le 12 (length bytes), TooShort)
     ∷ (slice_index bytes 0 / 16 == 0, WrongVersion)
-    ∷ (slice_index bytes 8 == 1, WrongPathType)
+    ∷ (slice_index bytes 8 == path_type, WrongPathType)
     ∷ (nat_le (front_end bytes) (header_end bytes), WrongLength)
     ∷ (nat_le (header_end bytes) (length bytes), TooShort)
     ∷ []
 
+abbrev pub header_fault_as : ℕ → List ℕ → Option Fault
+header_fault_as path_type bytes = first_failing (header_tests_as path_type bytes)
+
+-- of one whose path is to be a SCION path
+abbrev pub header_tests : List ℕ → List Test
+header_tests bytes = header_tests_as scion_path bytes
+
 abbrev pub header_fault : List ℕ → Option Fault
-header_fault bytes = first_failing (header_tests bytes)
+header_fault bytes = header_fault_as scion_path bytes

@@ -1,17 +1,19 @@
 -- What reading and spelling have to do with each other.
 use Rattle.std.specs.Prelude.{◌≡◌, ◌<◌, ℕ, ◌+◌, List, ◌++◌, ◌≤◌, ◌==◌, drop, length, None, slice_index, take}
 use Rattle.field_rows.specs.Place.{IsBytes}
-use Rattle.scion_packet.specs.Header.{HeaderFields, SpellsHeader, front_end, header_end, header_fault, header_of}
+use Rattle.scion_packet.specs.Header.{HeaderFields, SpellsHeader, front_end, header_end, header_fault_as, header_of}
 use Rattle.scion_packet.specs.Lengths.{first_hop, hop_count, hop_place, info_place, path_len, segment_count}
 use Rattle.scion_packet.specs.Path.{PathFields, SpellsPath, count_hops, current_hop, current_info, hop_at, hop_number, hops_in, info_at, lengths_of, path_fault, path_of, path_text, place_at}
 use Rattle.scion_packet.specs.Places.{hop_there, info_there, is_last_of_path}
 use Rattle.scion_packet.specs.Packet.{Packet, Spells, first_fault, packet_of, spelling}
+use Rattle.scion_packet.specs.OneHop.{OneHopPacket, OneHopPath, SpellsOneHop, one_hop_fault, one_hop_packet_of, one_hop_spelling, one_hop_text}
 
 -- What passes all tests spells what is read from it, byte for byte; what spells anything passes all
 -- tests; and it spells nothing but what is read from it.
 pub record HeaderLaws : Type 0 where
-  pub spelled : (bytes : List ℕ) → IsBytes bytes → header_fault bytes ≡ None → SpellsHeader bytes (header_of bytes)
-  pub passes : (bytes : List ℕ) (h : HeaderFields) → SpellsHeader bytes h → header_fault bytes ≡ None
+  pub spelled : (path_type : ℕ) (bytes : List ℕ) → IsBytes bytes → header_fault_as path_type bytes ≡ None → SpellsHeader bytes (header_of bytes)
+  pub of_type : (path_type : ℕ) (bytes : List ℕ) → header_fault_as path_type bytes ≡ None → (header_of bytes).path_type ≡ path_type
+  pub passes : (bytes : List ℕ) (h : HeaderFields) → SpellsHeader bytes h → header_fault_as h.path_type bytes ≡ None
   pub only : (bytes : List ℕ) (h : HeaderFields) → SpellsHeader bytes h → h ≡ header_of bytes
 
 pub record PathLaws : Type 0 where
@@ -24,6 +26,16 @@ pub record PacketLaws : Type 0 where
   pub passes : (bytes : List ℕ) (p : Packet) → Spells bytes p → first_fault bytes ≡ None
   pub only : (bytes : List ℕ) (p : Packet) → Spells bytes p → p ≡ packet_of bytes
 
+-- The same of packets on a path of one hop.
+pub record OneHopLaws : Type 0 where
+  pub spelled : (bytes : List ℕ) → IsBytes bytes → one_hop_fault bytes ≡ None → SpellsOneHop bytes (one_hop_packet_of bytes)
+  pub passes : (bytes : List ℕ) (p : OneHopPacket) → SpellsOneHop bytes p → one_hop_fault bytes ≡ None
+  pub only : (bytes : List ℕ) (p : OneHopPacket) → SpellsOneHop bytes p → p ≡ one_hop_packet_of bytes
+
+-- No datagram spells packets of both kinds.
+abbrev pub KindsAreApart : Type 0
+KindsAreApart = (bytes : List ℕ) (p : Packet) (q : OneHopPacket) → Spells bytes p → SpellsOneHop bytes q → ⊥
+
 -- A datagram with the bytes of its path written over by those of another one of their length spells its packet with
 -- that path.
 abbrev pub PathWrittenOver : Type 0
@@ -31,6 +43,13 @@ PathWrittenOver =
     (bytes new path : List ℕ) (q : PathFields) → IsBytes bytes → first_fault bytes ≡ None → path ≡ path_text q
     → new ≡ take (front_end bytes) bytes ++ (path ++ drop (header_end bytes) bytes)
     → new ≡ spelling (record (packet_of bytes) { path = q })
+
+-- The same of a path of one hop.
+abbrev pub OneHopWrittenOver : Type 0
+OneHopWrittenOver =
+    (bytes new path : List ℕ) (q : OneHopPath) → IsBytes bytes → one_hop_fault bytes ≡ None → path ≡ one_hop_text q
+    → new ≡ take (front_end bytes) bytes ++ (path ++ drop (header_end bytes) bytes)
+    → new ≡ one_hop_spelling (record (one_hop_packet_of bytes) { path = q })
 
 -- In the bytes of a path that passes all tests, the info field and the hop field at any place stand at
 -- one offset each, and the current ones at the offsets that the cursor names: whoever wants one reads

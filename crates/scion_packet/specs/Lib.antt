@@ -6,6 +6,7 @@ pub mod Places
 pub mod Extensions
 pub mod Reversed
 pub mod Packet
+pub mod OneHop
 pub mod Laws
 pub mod Example
 pub use Rattle.field_rows.specs.Row

@@ -1,8 +1,8 @@
--- A SCION packet, and the one datagram that spells it.
+-- A packet on a SCION path, and the one datagram that spells it.
 use Rattle.std.specs.Prelude.{◌≡◌, ℕ, ◌+◌, ◌-◌, ◌*◌, List, ◌++◌, length, drop, Option}
 use Rattle.field_rows.specs.Place.{text_at}
 use Rattle.scion_packet.specs.Fault.{Fault, Test, first_failing}
-use Rattle.scion_packet.specs.Header.{HeaderFields, IsHeader, front_end, front_len, header_end, header_of, header_tests, header_text}
+use Rattle.scion_packet.specs.Header.{HeaderFields, IsHeader, front_end, front_len, header_end, header_of, header_tests, header_text, scion_path}
 use Rattle.scion_packet.specs.Path.{PathFields, IsPath, path_of, path_tests, path_text}
 
 pub record Packet : Type 0 where
@@ -17,6 +17,7 @@ spelling p = header_text p.header ++ (path_text p.path ++ p.payload)
 -- The header and the path are lawful, and the header's length is that of both.
 pub record IsPacket (p : Packet) : Type 0 where
   pub header : IsHeader p.header
+  pub path_type : p.header.path_type ≡ scion_path
   pub path : IsPath p.path
   pub whole : 4 * p.header.header_length ≡ front_len p.header + length (path_text p.path)
 

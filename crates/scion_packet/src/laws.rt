@@ -1,6 +1,6 @@
 //! The laws of reading and spelling: nothing here runs.
 
-ghost use Rattle.scion_packet.specs.Laws.{HeaderLaws, OffsetLaws, PacketLaws, PathLaws, PathWrittenOver};
+ghost use Rattle.scion_packet.specs.Laws.{HeaderLaws, KindsAreApart, OffsetLaws, OneHopLaws, OneHopWrittenOver, PacketLaws, PathLaws, PathWrittenOver};
 ghost use Rattle.scion_packet.specs.Reversed.{ReversedLaws};
 
 /// A datagram that passes the header's tests begins with the header that is read from it; one that
@@ -21,6 +21,16 @@ pub fn packet_laws()
     ensures { PacketLaws }
 {}
 
+/// The same of datagrams and packets on a path of one hop.
+pub fn one_hop_laws()
+    ensures { OneHopLaws }
+{}
+
+/// No datagram spells a packet on a SCION path and one on a path of one hop.
+pub fn kinds_are_apart()
+    ensures { KindsAreApart }
+{}
+
 /// Each info field and each hop field of a path that passes its tests is at one offset of its
 /// bytes, the current ones at those that the cursor names.
 pub fn offset_laws()
@@ -31,6 +41,11 @@ pub fn offset_laws()
 /// rest of it as it was.
 pub fn path_written_over()
     ensures { PathWrittenOver }
+{}
+
+/// The same of a datagram on a path of one hop.
+pub fn one_hop_written_over()
+    ensures { OneHopWrittenOver }
 {}
 
 /// The way back over a path meets the same hops in the other order: where a hop follows another, the

@@ -6,5 +6,6 @@
 mod laws;
 
 pub use laws::{
-    header_laws, offset_laws, packet_laws, path_laws, path_written_over, reversed_laws,
+    header_laws, kinds_are_apart, offset_laws, one_hop_laws, one_hop_written_over, packet_laws,
+    path_laws, path_written_over, reversed_laws,
 };
