@@ -1,5 +1,8 @@
 -- The hop field accepted next is chained to the one accepted before.
-use Rattle.std.proofs.Common.{◌≡◌, ◌≢◌, ◌<◌, ◌+◌, ◌==◌, ◌&&◌, not, ℕ, Bool, true, false, List, length, Option, Some, None, refl, sym, ap, ap₂, subst, ◌∙◌, if◌then◌else◌}
+use Rattle.process_packet.proofs.KindLemmas.{decided_as_scion, has_scion_path, other_kind}
+use Rattle.process_packet.specs.OneHopLaws.{IsDecidedAsScion}
+use Rattle.scion_packet.specs.Header.{one_hop_path}
+use Rattle.std.proofs.Common.{◌≡◌, ◌≢◌, ◌<◌, ◌+◌, ◌==◌, ◌&&◌, not, ℕ, Bool, true, false, List, length, Option, Some, None, refl, sym, ap, ap₂, subst, ◌∙◌, if◌then◌else◌, slice_index}
 use Rattle.std.specs.Prelude.{bit_xor}
 use Rattle.std.specs.Int.Bits.{xor_assoc, xor_self}
 use Rattle.std.proofs.lemmas.Bool.{ne_eqb}
@@ -7,13 +10,13 @@ use Rattle.std.proofs.lemmas.Nat.{xor_comm}
 use Rattle.field_rows.specs.Place.{IsBytes, number_at}
 use Rattle.hop_check.specs.Mac.{chain}
 use Rattle.path_fields.specs.InPlace.{with_segment_id}
-use Rattle.scion_packet.specs.Packet.{Packet, packet_of}
+use Rattle.scion_packet.specs.Packet.{Packet, packet_of, first_fault}
 use Rattle.scion_packet.specs.Path.{HopField, InfoField, Place, Segment, place_at}
 use Rattle.scion_packet.specs.Places.{hop_there, info_there}
 use Rattle.process_packet.specs.declared.decision.Decision.TheVariants as decision
 use Rattle.process_packet.specs.declared.underlay.Underlay.{Underlay}
 use Rattle.process_packet.specs.Chaining.{FollowsOn, IsSameHop, NoHopIsSplicedIn, at_entry, at_exit, with_identifier}
-use Rattle.process_packet.specs.Decide.{decide, decision_of, moved, verdict}
+use Rattle.process_packet.specs.Decide.{decide, decision_of, moved, scion_decide, scion_moved, verdict}
 use Rattle.process_packet.specs.Laws.{IsAuthorised}
 use Rattle.process_packet.specs.Network.{Network, is_local}
 use Rattle.process_packet.specs.Rows.{Answered, Dropped, Sent, Verdict}
@@ -150,19 +153,19 @@ was_sent (Sent l a p) out to says = record { packet = p; verdict = let link : l 
 was_sent (Answered q) out to says = absurd cc
 was_sent (Dropped c) out to says = absurd cc
 
-authorised : (n : Network) (link : ℕ) (source : Underlay) (moment : ℕ) (bytes : List ℕ) (out : ℕ) (to : Option Underlay) → decide n link source moment bytes ≡ decision.Send out to
+authorised : (n : Network) (link : ℕ) (source : Underlay) (moment : ℕ) (bytes : List ℕ) (out : ℕ) (to : Option Underlay) → scion_decide n link source moment bytes ≡ decision.Send out to
     → IsAuthorised (arrives n link source moment bytes)
 authorised n link source moment bytes out to says =
     let was = was_sent (verdict n link source moment bytes) out to says in
     (came_in (arrives n link source moment bytes) out to was.packet (told n link source moment bytes out to was.packet was.verdict)).authorised
 
 module _ (n m : Network) (link link' : ℕ) (source source' : Underlay) (moment moment' : ℕ) (bytes : List ℕ) (out out' : ℕ) (to to' : Option Underlay) (are : IsBytes bytes)
-    (says : decide n link source moment bytes ≡ decision.Send out to) (next : decide m link' source' moment' (moved n link source moment bytes) ≡ decision.Send out' to') where
+    (says : scion_decide n link source moment bytes ≡ decision.Send out to) (next : scion_decide m link' source' moment' (scion_moved n link source moment bytes) ≡ decision.Send out' to') where
   abbrev s : PacketState
   s = arrives n link source moment bytes
 
   abbrev left : List ℕ
-  left = moved n link source moment bytes
+  left = scion_moved n link source moment bytes
 
   is : IsAuthorised s
   is = authorised n link source moment bytes out to says
@@ -225,10 +228,42 @@ module _ (n m : Network) (link link' : ℕ) (source source' : Underlay) (moment 
       → IsSameHop (at_exit n link source moment bytes) (at_entry m link' source' moment' left)
   within at inside some others = within_by at inside some others whole.packet refl way
 
+-- what is decided by the table of SCION paths at both routers
+module _ (n m : Network) (link link' : ℕ) (source source' : Underlay) (moment moment' : ℕ) (bytes : List ℕ) (out out' : ℕ) (to to' : Option Underlay) (are : IsBytes bytes)
+    (other : slice_index bytes 8 ≢ one_hop_path) (says : decide n link source moment bytes ≡ decision.Send out to)
+    (next : decide m link' source' moment' (moved n link source moment bytes) ≡ decision.Send out' to') where
+  here : IsDecidedAsScion n link source moment bytes
+  here = decided_as_scion n link source moment bytes (other_kind n link bytes other)
+
+  pub says_so : scion_decide n link source moment bytes ≡ decision.Send out to
+  says_so = sym here.decision ∙ says
+
+  left_sound : first_fault (scion_moved n link source moment bytes) ≡ None
+  left_sound = (leaves_whole n link source moment bytes out to are says_so).sound
+
+  there : IsDecidedAsScion m link' source' moment' (scion_moved n link source moment bytes)
+  there =
+      decided_as_scion m link' source' moment' (scion_moved n link source moment bytes)
+      (other_kind m link' (scion_moved n link source moment bytes) (has_scion_path (scion_moved n link source moment bytes) left_sound))
+
+  pub next_so : scion_decide m link' source' moment' (scion_moved n link source moment bytes) ≡ decision.Send out' to'
+  next_so = sym there.decision ∙ subst (λ (left : List ℕ). decide m link' source' moment' left ≡ decision.Send out' to') here.bytes_are next
+
+  pub left_is : scion_moved n link source moment bytes ≡ moved n link source moment bytes
+  left_is = sym here.bytes_are
+
 pub not_spliced : NoHopIsSplicedIn
 not_spliced = record {
-  over_link = λ n m link link' source source' moment moment' bytes out out' to' are says external next more.
-      over_link n m link link' source source' moment moment' bytes out out' None to' are says next external refl more;
-  within = λ n m link source source' moment moment' bytes out out' to to' are says others next.
-      within n m link 0 source source' moment moment' bytes out out' (Some to) to' are says next to refl refl others;
+  over_link = λ n m link link' source source' moment moment' bytes out out' to' are other says external next more.
+      subst (λ (left : List ℕ). FollowsOn (at_exit n link source moment bytes) (at_entry m link' source' moment' left))
+      (left_is n m link link' source source' moment moment' bytes out out' None to' are other says next)
+      (over_link n m link link' source source' moment moment' bytes out out' None to' are
+      (says_so n m link link' source source' moment moment' bytes out out' None to' are other says next)
+      (next_so n m link link' source source' moment moment' bytes out out' None to' are other says next) external refl more);
+  within = λ n m link source source' moment moment' bytes out out' to to' are other says others next.
+      subst (λ (left : List ℕ). IsSameHop (at_exit n link source moment bytes) (at_entry m 0 source' moment' left))
+      (left_is n m link 0 source source' moment moment' bytes out out' (Some to) to' are other says next)
+      (within n m link 0 source source' moment moment' bytes out out' (Some to) to' are
+      (says_so n m link 0 source source' moment moment' bytes out out' (Some to) to' are other says next)
+      (next_so n m link 0 source source' moment moment' bytes out out' (Some to) to' are other says next) to refl refl others);
 }

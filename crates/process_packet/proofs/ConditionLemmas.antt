@@ -125,7 +125,7 @@ far_end_by n link source (Some l) there =
       λ far. let is : Some far.own ≡ Some l = sym far.listed ∙ there in let one : far.own ≡ l = cc in same.1 (far.address ∙ ap (λ (k : Link). k.remote) one),
     )
 
-far_end : (n : Network) (link : ℕ) (source : Underlay) → Decides (is_remote (own_link n link) source) (IsFarEnd n link source)
+pub far_end : (n : Network) (link : ℕ) (source : Underlay) → Decides (is_remote (own_link n link) source) (IsFarEnd n link source)
 far_end n link source = far_end_by n link source (own_link n link) refl
 
 router_by : (n : Network) (id : ℕ) (source : Underlay) (o : Option Sibling) → sibling n id ≡ o → Decides (is_owner o source) (IsRouterWith n id source)

@@ -1,8 +1,7 @@
 -- Row after row of what was sent: none of them refused.
 use Rattle.std.proofs.Common.{◌≡◌, ◌<◌, ◌+◌, ℕ, Bool, true, false, not, ◌&&◌, ◌==◌, nat_lt, inl, inr, List, [], ◌∷◌, length, drop, Option, Some, None, if◌then◌else◌, refl, sym, ap, subst, ◌∙◌, arith}
 use Rattle.std.specs.Prelude.{◌⊎◌, is_some, option_map}
-use Rattle.field_rows.specs.Place.{number_at}
-use Rattle.scion_packet.specs.Header.{header_fault, host_code}
+use Rattle.scion_packet.specs.Header.{HostAddress, header_fault, host_code}
 use Rattle.scion_packet.proofs.PacketLaws.{pass_both}
 use Rattle.scion_packet.specs.Fault.{Fault}
 use Rattle.scion_packet.specs.Packet.{Packet, path_bytes, first_fault}
@@ -12,14 +11,13 @@ use Rattle.scion_packet.specs.Places.{next}
 use Rattle.process_packet.specs.declared.cause.Cause.{Cause}
 use Rattle.process_packet.specs.declared.cause.Cause.TheVariants as cause
 use Rattle.process_packet.specs.declared.decision.Problem.{Problem}
-use Rattle.process_packet.specs.declared.underlay.Ip.TheVariants.{V4, V6}
 use Rattle.process_packet.specs.declared.underlay.Underlay.{Underlay}
 use Rattle.process_packet.specs.Decide.{decision_of, decision_table, verdict, verdict_of}
 use Rattle.process_packet.specs.Laws.{IsAuthorised, IsMoved, LeavesByItsEgress, LeftLawfully, changes}
-use Rattle.process_packet.specs.Neighbours.{service_at, sibling_at}
-use Rattle.process_packet.specs.Network.{Network, interface_kind, is_local, own_link, service, sibling}
+use Rattle.process_packet.specs.Neighbours.{sibling_at}
+use Rattle.process_packet.specs.Network.{Network, interface_kind, is_local, own_link, reached_at, sibling}
 use Rattle.process_packet.specs.Request.{is_request}
-use Rattle.process_packet.specs.Rows.{Sent, Answered, Dropped, RowResult, cause_of, GoesOn, Ends, Row, came_lawfully, delivered, ends_where, expired, faulty, is_destination_lawful, is_pair_lawful, is_source_lawful, sent_on, sent_out, then_rows, to_service, wrong_mac}
+use Rattle.process_packet.specs.Rows.{Answered, Dropped, Ends, GoesOn, Row, RowResult, Sent, came_lawfully, cause_of, delivered, ends_where, expired, faulty, is_destination_lawful, is_pair_lawful, is_source_lawful, sent_on, sent_out, sent_to, then_rows, unreachable, wrong_mac}
 use Rattle.process_packet.specs.Routed.{IsAnswer}
 use Rattle.process_packet.specs.PacketView.{with_id}
 use Rattle.process_packet.specs.PacketState.{PacketState, arrives, chained, chained_id, changed_over, egress, egress_alert, hop_pointer, info_pointer, ingress, ingress_alert, is_along, is_authentic, is_expired, is_external, is_last_of_path, next_place, next_segment, packet, turned_back, with_place}
@@ -199,21 +197,19 @@ after_delivery false t out to p others there sent =
       segments = out-by.kept.segments;
     }
 
-delivers : (a b c : Bool) (four six : Underlay) (o : Option Underlay) (q : Packet) (out : ℕ) (to : Option Underlay) (p : Packet)
-    → (if a then Sent 0 (Some four) q else if b then Sent 0 (Some six) q else if c then to_service q o else Answered (parameter 21 9)) ≡ Sent out to p
-    → (out ≡ 0) × (q ≡ p)
-delivers true b c four six o q out to p sent = let same = same_sent 0 out (Some four) to q p sent in (sym same.link, same.packet)
-delivers false true c four six o q out to p sent = let same = same_sent 0 out (Some six) to q p sent in (sym same.link, same.packet)
-delivers false false true four six None q out to p sent = absurd (answered_not_sent (record { kind = 1; code = 0; pointer = 0 }) out to p sent)
-delivers false false true four six (Some at) q out to p sent = let same = same_sent 0 out (Some at) to q p sent in (sym same.link, same.packet)
-delivers false false false four six o q out to p sent = absurd (answered_not_sent (parameter 21 9) out to p sent)
+told_not_sent : (b : Bool) (q r : Problem) (out : ℕ) (to : Option Underlay) (p : Packet) → (if b then Answered q else Answered r) ≡ Sent out to p → ⊥
+told_not_sent true q r out to p sent = answered_not_sent q out to p sent
+told_not_sent false q r out to p sent = answered_not_sent r out to p sent
+
+pub unreachable_not_sent : (a : HostAddress) (out : ℕ) (to : Option Underlay) (p : Packet) → unreachable a ≡ Sent out to p → ⊥
+unreachable_not_sent a out to p sent = told_not_sent (a.kind == 1 && host_code a == 0) (record { kind = 1; code = 0; pointer = 0 }) (parameter 21 9) out to p sent
+
+sent_inside : (q : Packet) (o : Option Underlay) (out : ℕ) (to : Option Underlay) (p : Packet) → sent_to q o ≡ Sent out to p → (out ≡ 0) × (q ≡ p)
+sent_inside q None out to p sent = absurd (unreachable_not_sent q.header.destination out to p sent)
+sent_inside q (Some at) out to p sent = let same = same_sent 0 out (Some at) to q p sent in (sym same.link, same.packet)
 
 pub delivered_inside : (n : Network) (q : Packet) (out : ℕ) (to : Option Underlay) (p : Packet) → delivered n q ≡ Sent out to p → (out ≡ 0) × (q ≡ p)
-delivered_inside n q out to p sent =
-    let host = q.header.destination in
-    delivers (host.kind == 0 && host_code host == 0) (host.kind == 0 && host_code host == 3) (host.kind == 1 && host_code host == 0)
-    (record { ip = V4 host.host; port = n.host_port }) (record { ip = V6 host.host; port = n.host_port })
-    (option_map service_at (service n (number_at host.host 0 2))) q out to p sent
+delivered_inside n q out to p sent = sent_inside q (reached_at n q.header.destination) out to p sent
 
 at_the_end : (external last local : Bool) → (if external then (if last then local else not local) else not local) ≡ true → external ≡ true → local ≡ true → last ≡ true
 at_the_end true true local lawful e l = refl

@@ -1,4 +1,6 @@
 pub mod PathHopLemmas
+pub mod KindLemmas
+pub mod OneHopLemmas
 pub mod ArrivingLemmas
 pub mod AlikeLemmas
 pub mod TurningLemmas
@@ -25,3 +27,8 @@ pub mod WhatLeavesLemmas
 pub mod ChainingLemmas
 pub mod PointerLemmas
 pub mod RefusalLemmas
+pub mod OneHopConditionLemmas
+pub mod OneHopTestLemmas
+pub mod OneHopLawLemmas
+pub mod OneHopByteLemmas
+pub mod OneHopRefusalLemmas

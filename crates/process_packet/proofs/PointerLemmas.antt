@@ -16,7 +16,7 @@ use Rattle.process_packet.specs.declared.cause.Cause.TheVariants as cause
 use Rattle.process_packet.specs.declared.decision.Decision.TheVariants as decision
 use Rattle.process_packet.specs.declared.decision.Problem.{Problem}
 use Rattle.process_packet.specs.declared.underlay.Underlay.{Underlay}
-use Rattle.process_packet.specs.Decide.{decide, decision_of, decision_table, verdict}
+use Rattle.process_packet.specs.Decide.{decision_of, decision_table, scion_decide, verdict}
 use Rattle.process_packet.specs.Laws.{changes}
 use Rattle.process_packet.specs.Network.{Network, interface_kind, is_local, own_link}
 use Rattle.process_packet.specs.Pointers.{IsAtHand, IsNamed, PointersAreRight, PointsAtHop, PointsAtInfo, PointsRight}
@@ -25,6 +25,7 @@ use Rattle.process_packet.specs.Routed.{IsAnswer}
 use Rattle.process_packet.specs.Rows.{Answered, Dropped, GoesOn, Row, Sent, Verdict, came_lawfully, delivered, ends_where, expired, is_destination_lawful, is_pair_lawful, is_source_lawful, then_rows, wrong_mac}
 use Rattle.process_packet.specs.PacketState.{PacketState, arrives, chained, chained_id, changed_over, egress, egress_alert, hop_pointer, info_pointer, ingress, ingress_alert, is_along, is_authentic, is_expired, is_external, is_followed, is_last_of_segment, next_segment, packet, turned_back}
 use Rattle.process_packet.proofs.AlikeLemmas.{alike_set}
+use Rattle.process_packet.proofs.KindLemmas.{answered_as_scion}
 use Rattle.process_packet.proofs.LawLemmas.{answers_sound, rest}
 use Rattle.process_packet.proofs.LawfulLemmas.{IsOnPath, is_on, some_hop, spelled}
 use Rattle.process_packet.proofs.PassingLemmas.{both_true, parameter}
@@ -225,11 +226,12 @@ module _ (n : Network) (from : ℕ) (source : Underlay) (moment : ℕ) (bytes : 
   told_by (Answered r) q told says = let same : r ≡ q = cc in subst K same told
   told_by (Dropped c) q told says = absurd cc
 
-  pub points_right : (q : Problem) → decide n from source moment bytes ≡ decision.Answer q → PointsRight bytes q
+  pub points_right : (q : Problem) → scion_decide n from source moment bytes ≡ decision.Answer q → PointsRight bytes q
   unfolding verdict
   points_right q says = told_by (verdict n from source moment bytes) q told_all says
 
 pub pointers_right : PointersAreRight
 pointers_right n link source moment bytes q are says =
-    let asks : IsAnswer (decide n link source moment bytes) = subst IsAnswer (sym says) tt in
-    points_right n link source moment bytes are (answers_sound n link source moment bytes asks) q says
+    let told = answered_as_scion n link source moment bytes q says in
+    let asks : IsAnswer (scion_decide n link source moment bytes) = subst IsAnswer (sym told) tt in
+    points_right n link source moment bytes are (answers_sound n link source moment bytes asks) q told

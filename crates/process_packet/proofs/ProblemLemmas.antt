@@ -1,7 +1,6 @@
 -- Row after row: what each of them may tell a sender.
 use Rattle.std.proofs.Common.{◌≡◌, ℕ, Bool, true, false, not, ◌&&◌, ◌==◌, nat_lt, List, [], ◌∷◌, length, Option, Some, None, if◌then◌else◌, refl, sym, ap, ap₂, subst, ◌∙◌}
 use Rattle.std.specs.Prelude.{is_some, option_map}
-use Rattle.field_rows.specs.Place.{number_at}
 use Rattle.scion_packet.specs.Fault.{Fault}
 use Rattle.scion_packet.specs.Header.{HeaderFields, header_fault, host_code}
 use Rattle.scion_packet.specs.Packet.{Packet, path_bytes}
@@ -9,16 +8,15 @@ use Rattle.scion_packet.specs.Path.{HopField, path_fault}
 use Rattle.process_packet.specs.Decide.{decision_table, verdict, verdict_of}
 use Rattle.process_packet.specs.Conditions.{ComesInBy}
 use Rattle.process_packet.specs.Laws.{IsAuthorised, changes}
-use Rattle.process_packet.specs.Neighbours.{service_at, sibling_at}
-use Rattle.process_packet.specs.Network.{Network, interface_kind, is_local, own_link, service, sibling}
+use Rattle.process_packet.specs.Neighbours.{sibling_at}
+use Rattle.process_packet.specs.Network.{Network, interface_kind, is_local, own_link, reached_at, sibling}
 use Rattle.process_packet.specs.Problems.{IsProblem, ProblemsAreLawful}
 use Rattle.process_packet.specs.Shown.{StandsToLeave, is_for_us}
 use Rattle.process_packet.specs.Request.{is_request}
-use Rattle.process_packet.specs.Rows.{Answered, Dropped, Ends, GoesOn, Row, Sent, RowResult, Verdict, came_lawfully, delivered, ends_where, expired, faulty, is_destination_lawful, is_pair_lawful, is_source_lawful, sent_on, sent_out, then_rows, to_service, wrong_mac}
+use Rattle.process_packet.specs.Rows.{Answered, Dropped, Ends, GoesOn, Row, RowResult, Sent, Verdict, came_lawfully, delivered, ends_where, expired, faulty, is_destination_lawful, is_pair_lawful, is_source_lawful, sent_on, sent_out, sent_to, then_rows, wrong_mac}
 use Rattle.process_packet.specs.PacketState.{PacketState, arrives, chained, changed_over, egress, egress_alert, hop, hop_pointer, info, info_pointer, ingress, ingress_alert, is_along, is_authentic, is_expired, is_external, is_last_of_path, packet, turned_back, next_place, with_place}
 use Rattle.process_packet.specs.declared.cause.Cause.TheVariants as cause
 use Rattle.process_packet.specs.declared.decision.Problem.{Problem}
-use Rattle.process_packet.specs.declared.underlay.Ip.TheVariants.{V4, V6}
 use Rattle.process_packet.specs.declared.underlay.Underlay.{Underlay}
 use Rattle.process_packet.proofs.LawLemmas.{rest}
 use Rattle.process_packet.proofs.ConditionLemmas.{alerts_entry, alerts_exit, authorised, comes_in_by, external, goes_out_by, has_its_pair}
@@ -56,22 +54,17 @@ row_sound K (Some f) s rows after = tt
 
 -- ---- delivery and leaving
 
-told_service : (K : Problem → Type 0) (p : Packet) (o : Option Underlay) → K (record { kind = 1; code = 0; pointer = 0 }) → IsTold K (to_service p o)
-told_service K p None k = k
-told_service K p (Some at) k = tt
+told_either : (K : Problem → Type 0) (b : Bool) (q r : Problem) → K q → K r → IsTold K (if b then Answered q else Answered r)
+told_either K true q r k j = k
+told_either K false q r k j = j
 
-told_delivery : (K : Problem → Type 0) (a b c : Bool) (four six : Underlay) (o : Option Underlay) (p : Packet) → K (record { kind = 1; code = 0; pointer = 0 }) → K (parameter 21 9)
-    → IsTold K (if a then Sent 0 (Some four) p else if b then Sent 0 (Some six) p else if c then to_service p o else Answered (parameter 21 9))
-told_delivery K true b c four six o p k j = tt
-told_delivery K false true c four six o p k j = tt
-told_delivery K false false true four six o p k j = told_service K p o k
-told_delivery K false false false four six o p k j = j
+told_sent : (K : Problem → Type 0) (p : Packet) (o : Option Underlay) → K (record { kind = 1; code = 0; pointer = 0 }) → K (parameter 21 9) → IsTold K (sent_to p o)
+told_sent K p None k j =
+    let a = p.header.destination in told_either K (a.kind == 1 && host_code a == 0) (record { kind = 1; code = 0; pointer = 0 }) (parameter 21 9) k j
+told_sent K p (Some at) k j = tt
 
 pub told_delivered : (K : Problem → Type 0) (n : Network) (p : Packet) → K (record { kind = 1; code = 0; pointer = 0 }) → K (parameter 21 9) → IsTold K (delivered n p)
-told_delivered K n p k j =
-    let a = p.header.destination in
-    told_delivery K (a.kind == 0 && host_code a == 0) (a.kind == 0 && host_code a == 3) (a.kind == 1 && host_code a == 0)
-    (record { ip = V4 a.host; port = n.host_port }) (record { ip = V6 a.host; port = n.host_port }) (option_map service_at (service n (number_at a.host 0 2))) p k j
+told_delivered K n p k j = told_sent K p (reached_at n p.header.destination) k j
 
 told_out : (K : Problem → Type 0) (last : Bool) (link : ℕ) (p : Packet) → IsTold K (if last then Dropped cause.PathEnd else Sent link None p)
 told_out K true link p = tt

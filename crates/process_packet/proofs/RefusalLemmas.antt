@@ -1,10 +1,9 @@
 -- Reason by reason, what becomes of a refused packet.
-use Rattle.std.proofs.Common.{◌≡◌, ◌≤◌, ◌&&◌, ◌==◌, not, nat_lt, ℕ, Bool, true, false, List, [], ◌∷◌, length, drop, Option, Some, None, refl, sym, ap, ap₂, subst, ◌∙◌, arith, inl, inr, if◌then◌else◌}
+use Rattle.std.proofs.Common.{◌≡◌, ◌≤◌, ◌&&◌, ◌==◌, not, nat_lt, ℕ, Bool, true, false, List, [], ◌∷◌, length, drop, Option, Some, None, refl, sym, ap, ap₂, subst, ◌∙◌, inl, inr, if◌then◌else◌}
 use Rattle.std.specs.Bool.{Decides}
 use Rattle.std.specs.Prelude.{is_some, option_map}
 use Rattle.std.proofs.lemmas.Bool.{cases_Bool, eq-eqb, le-ltb, ne_eqb}
 use Rattle.std.proofs.lemmas.Bool.Decides.{Decides-eqb, Decides-ltb}
-use Rattle.field_rows.specs.Place.{number_at}
 use Rattle.scion_packet.specs.Fault.{Fault}
 use Rattle.scion_packet.specs.Header.{HostAddress, header_fault, host_code}
 use Rattle.scion_packet.specs.Packet.{Packet, path_bytes}
@@ -14,19 +13,20 @@ use Rattle.segment_switch.specs.declared.kind.LinkKind.{LinkKind}
 use Rattle.process_packet.specs.declared.cause.Cause.{Cause}
 use Rattle.process_packet.specs.declared.cause.Cause.TheVariants as cause
 use Rattle.process_packet.specs.declared.neighbours.Service.{Service}
-use Rattle.process_packet.specs.declared.underlay.Ip.TheVariants.{V4, V6}
+use Rattle.process_packet.specs.declared.underlay.Underlay.{Underlay}
 use Rattle.process_packet.specs.Conditions.{CarriesMac, GoesOutBy, MayFollow}
 use Rattle.process_packet.specs.Decide.{decision_table, ends_as, verdict, verdict_of}
 use Rattle.process_packet.specs.Laws.{changes}
 use Rattle.process_packet.specs.Neighbours.{service_at}
-use Rattle.process_packet.specs.Network.{interface_kind, service}
+use Rattle.process_packet.specs.Network.{interface_kind, reached_at}
 use Rattle.process_packet.specs.PacketState.{PacketState, arrival_kind, arrives, changed_over, egress, hop, hop_pointer, info, info_pointer, ingress, is_along, is_authentic, is_expired, is_external, packet, turned_back}
 use Rattle.process_packet.specs.Refusals.{IsByItsLink, IsCauseOf, IsForItsDestination, IsFromItsRouter, IsFromItsSource, IsRead, IsRefusedAtEntry, IsRefusedAtExit, IsRefusedAtSwitch, IsTimely, IsToBeDelivered, IsToLeave, IsUndeliverable, IsWhole, NamesItsLink, RefusedAreTold}
-use Rattle.process_packet.specs.Rows.{Dropped, Ends, GoesOn, Row, RowResult, Sent, Verdict, came_lawfully, cause_of, delivered, ends_where, expired, faulty, is_destination_lawful, is_pair_lawful, is_source_lawful, problem, then_rows, to_service, wrong_mac}
+use Rattle.process_packet.specs.Rows.{Dropped, Ends, GoesOn, Row, RowResult, Verdict, came_lawfully, cause_of, delivered, ends_where, expired, faulty, is_destination_lawful, is_pair_lawful, is_source_lawful, problem, sent_to, then_rows, wrong_mac}
 use Rattle.process_packet.specs.Shown.{StandsToLeave, is_for_us, turned}
 use Rattle.process_packet.specs.Underlay.{longest_datagram}
 use Rattle.process_packet.proofs.AuthorisedLemmas.{comes_so}
 use Rattle.process_packet.proofs.ConditionLemmas.{carries_mac, carries_here, egress_alone, has_its_destination, has_its_pair, has_its_source, in_time, names_its_link, sender}
+use Rattle.process_packet.proofs.HostLemmas.{named, unknown}
 use Rattle.process_packet.proofs.PassingLemmas.{not_true}
 use Rattle.process_packet.proofs.PointerLemmas.{same_pointer}
 use Rattle.process_packet.proofs.RowsPassed.{clear, clear_within, comes_in, delivers, ends_there, hits, no_fault, not_is_false, stands_to_leave}
@@ -60,7 +60,7 @@ hits_within b v s within rows e = ap (λ (c : Bool). then_rows (then_rows (ends_
 
 -- ---- faults
 
-caused : (f : Fault) (c : Cause) → IsCauseOf f c → cause_of f ≡ c
+pub caused : (f : Fault) (c : Cause) → IsCauseOf f c → cause_of f ≡ c
 caused _ _ IsCauseOf.short = refl
 caused _ _ IsCauseOf.version = refl
 caused _ _ IsCauseOf.path_type = refl
@@ -152,24 +152,9 @@ module _ (s : PacketState) where
   abbrev p : Packet
   p = packet (turned s)
 
-  abbrev by : Bool → Bool → Bool → Option Service → Verdict
-  by four six named there =
-      if four then Sent 0 (Some (record { ip = V4 a.host; port = s.network.host_port })) p
-      else if six then Sent 0 (Some (record { ip = V6 a.host; port = s.network.host_port })) p
-      else if named then to_service p (option_map service_at there)
-      else parameter 21 9
-
-  abbrev four : Bool
-  four = a.kind == 0 && host_code a == 0
-
-  abbrev six : Bool
-  six = a.kind == 0 && host_code a == 3
-
-  abbrev named : Bool
-  named = a.kind == 1 && host_code a == 0
-
-  abbrev there : Option Service
-  there = service s.network (number_at a.host 0 2)
+  -- where it isn't reached, its sender is told so
+  abbrev told_as : Bool → Verdict
+  told_as service_host = if service_host then problem 1 0 0 else parameter 21 9
 
   never_both : (x y : Bool) → (x ≡ true → y ≡ false) → (x && y) ≡ false
   never_both true y other = other refl
@@ -181,19 +166,21 @@ module _ (s : PacketState) where
   pub undeliverable : IsToBeDelivered s → IsUndeliverable s ended
   undeliverable is =
       let shown = comes_so s is.authorised in
-      let goes : ended ≡ by four six named there = delivers s shown is.quiet is.for_us in
+      let goes : ended ≡ sent_to p (reached_at s.network a) = delivers s shown is.quiet is.for_us in
       record {
         no_service = λ kind code none.
-            let other : (a.kind == 0) ≡ false = ne_eqb a.kind 0 (λ zero. absurd (omega arith)) in
             goes
-            ∙ ap (λ (x : Bool). by (x && host_code a == 0) (x && host_code a == 3) named there) other
-            ∙ ap₂ (λ (x : Bool) (o : Option Service). by false false x o) (ap₂ (λ (x y : Bool). x && y) (eq-eqb a.kind 1 kind) (eq-eqb (host_code a) 0 code)) none;
+            ∙ ap (λ (o : Option Underlay). sent_to p o) (named s.network a kind code ∙ ap (λ (o : Option Service). option_map service_at o) none)
+            ∙ ap told_as (ap₂ (λ (x y : Bool). x && y) (eq-eqb a.kind 1 kind) (eq-eqb (host_code a) 0 code));
         unknown_host = λ address service_host.
+            let other : (a.kind == 1 && host_code a == 0) ≡ false = never_both (a.kind == 1) (host_code a == 0) (λ e. ne_eqb (host_code a) 0 (service_host ((Decides-eqb a.kind 1).0 e))) in
             goes
-            ∙ ap₂ (λ (x y : Bool). by x y named there)
+            ∙ ap (λ (o : Option Underlay). sent_to p o)
+            (unknown s.network a
             (never_both (a.kind == 0) (host_code a == 0) (λ e. ne_eqb (host_code a) 0 (address (is_zero e)).0))
             (never_both (a.kind == 0) (host_code a == 3) (λ e. ne_eqb (host_code a) 3 (address (is_zero e)).1))
-            ∙ ap (λ (x : Bool). by false false x there) (never_both (a.kind == 1) (host_code a == 0) (λ e. ne_eqb (host_code a) 0 (service_host ((Decides-eqb a.kind 1).0 e))));
+            other)
+            ∙ ap told_as other;
       }
 
   -- ---- where it leaves

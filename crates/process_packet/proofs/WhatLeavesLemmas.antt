@@ -9,13 +9,13 @@ use Rattle.scion_packet.proofs.PacketLaws.{both_pass, packet_only, packet_passes
 use Rattle.scion_packet.proofs.Parts.{path_are, path_lies}
 use Rattle.process_packet.specs.declared.decision.Decision.TheVariants as decision
 use Rattle.process_packet.specs.declared.underlay.Underlay.{Underlay}
-use Rattle.process_packet.specs.Decide.{decision_of, moved_by, verdict}
+use Rattle.process_packet.specs.Decide.{decision_of, moved_by, scion_decide, scion_moved, verdict}
 use Rattle.process_packet.specs.Laws.{IsAuthorised}
 use Rattle.process_packet.specs.Network.{Network}
 use Rattle.process_packet.specs.Rows.{Answered, Dropped, Sent, Verdict}
 use Rattle.process_packet.specs.PacketView.{with_id}
 use Rattle.process_packet.specs.PacketState.{PacketState, arrives, packet}
-use Rattle.process_packet.specs.WhatLeaves.{DiffersInFive, IsElsewhere, LeavesWhole, WhatLeavesIsLawful}
+use Rattle.process_packet.specs.WhatLeaves.{DiffersInFive, IsElsewhere, LeavesWhole}
 use Rattle.process_packet.proofs.ByteLemmas.{AfterFront, IsIdPlace, IsRewritten, bytes_stay, cursor_rewritten, datagram_rewritten, ids_rewritten, rewritten_then}
 use Rattle.process_packet.proofs.LawLemmas.{came_in, told}
 use Rattle.process_packet.proofs.LawfulLemmas.{IsMovedFrom, moved_from, spelled}
@@ -131,5 +131,7 @@ by_verdict n from source moment bytes out to are (Sent l a p) is says =
 by_verdict n from source moment bytes out to are (Answered q) is says = absurd cc
 by_verdict n from source moment bytes out to are (Dropped c) is says = absurd cc
 
-pub leaves_whole : WhatLeavesIsLawful
+pub leaves_whole : (n : Network) (link : ℕ) (source : Underlay) (moment : ℕ) (bytes : List ℕ) (out : ℕ) (to : Option Underlay) → IsBytes bytes
+    → scion_decide n link source moment bytes ≡ decision.Send out to
+    → LeavesWhole (verdict n link source moment bytes) out to bytes (scion_moved n link source moment bytes)
 leaves_whole n from source moment bytes out to are says = by_verdict n from source moment bytes out to are (verdict n from source moment bytes) refl says

@@ -1,7 +1,10 @@
--- The number of each cause of a drop.
+-- The number of each cause of a drop, and how many there are.
 use Rattle.std.specs.Prelude.{ℕ}
 use Rattle.process_packet.specs.declared.cause.Cause.{Cause}
-use Rattle.process_packet.specs.declared.cause.Cause.TheVariants.{Short, Version, PathType, Header, Path, Peering, UnderlaySource, PathEnd, NoAnswer, NoWayBack, TooLong, ProcessorFull, LinkFull, AnswerFull, NoMemory, Closed, SendFailed, NoBuffer}
+use Rattle.process_packet.specs.declared.cause.Cause.TheVariants.{Short, Version, PathType, Header, Path, Peering, UnderlaySource, PathEnd, NoAnswer, NoWayBack, TooLong, ProcessorFull, LinkFull, AnswerFull, NoMemory, Closed, SendFailed, NoBuffer, OneHopEnds, OneHopField, OneHopHost}
+
+abbrev pub causes : ℕ
+causes = 21
 
 abbrev pub number_of : Cause → ℕ
 number_of Short = 1
@@ -22,3 +25,6 @@ number_of NoMemory = 15
 number_of Closed = 16
 number_of SendFailed = 17
 number_of NoBuffer = 18
+number_of OneHopEnds = 19
+number_of OneHopField = 20
+number_of OneHopHost = 21

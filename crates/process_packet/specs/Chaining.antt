@@ -1,7 +1,8 @@
 -- Over two stops: the hop field that the next router accepts is chained to the one that was accepted before.
-use Rattle.std.specs.Prelude.{ℕ, ◌≡◌, ◌≢◌, ◌+◌, true, false, List, None, Some, Option}
+use Rattle.std.specs.Prelude.{List, None, Option, Some, false, slice_index, true, ℕ, ◌+◌, ◌≡◌, ◌≢◌}
 use Rattle.field_rows.specs.Place.{IsBytes}
 use Rattle.hop_check.specs.Mac.{chain}
+use Rattle.scion_packet.specs.Header.{one_hop_path}
 use Rattle.scion_packet.specs.Packet.{packet_of}
 use Rattle.scion_packet.specs.Path.{InfoField, place_at}
 use Rattle.scion_packet.specs.Places.{hop_there}
@@ -41,17 +42,17 @@ at_entry n link source moment bytes = turned_back (arrives n link source moment 
 abbrev pub at_exit : Network → ℕ → Underlay → ℕ → List ℕ → PacketState
 at_exit n link source moment bytes = past_switch (at_entry n link source moment bytes)
 
--- One router sends a datagram, and another one sends on what it got. So a hop field of another segment, another time or
+-- One router sends a datagram whose path isn't one of one hop, and another one sends on what it got. So a hop field of another segment, another time or
 -- another AS's chain isn't accepted after it.
 pub record NoHopIsSplicedIn : Type 0 where
   -- by a link of the one, to a link of the other, where the segment goes on
   pub over_link : (n m : Network) (link link' : ℕ) (source source' : Underlay) (moment moment' : ℕ) (bytes : List ℕ) (out out' : ℕ) (to' : Option Underlay)
-      → IsBytes bytes → decide n link source moment bytes ≡ decision.Send out None → link' ≢ 0
+      → IsBytes bytes → slice_index bytes 8 ≢ one_hop_path → decide n link source moment bytes ≡ decision.Send out None → link' ≢ 0
       → decide m link' source' moment' (moved n link source moment bytes) ≡ decision.Send out' to'
       → is_last_of_segment (at_exit n link source moment bytes) ≡ false
       → FollowsOn (at_exit n link source moment bytes) (at_entry m link' source' moment' (moved n link source moment bytes))
   -- within the AS, where the packet is for another one
   pub within : (n m : Network) (link : ℕ) (source source' : Underlay) (moment moment' : ℕ) (bytes : List ℕ) (out out' : ℕ) (to : Underlay) (to' : Option Underlay)
-      → IsBytes bytes → decide n link source moment bytes ≡ decision.Send out (Some to) → is_local n (packet_of bytes).header.destination ≡ false
+      → IsBytes bytes → slice_index bytes 8 ≢ one_hop_path → decide n link source moment bytes ≡ decision.Send out (Some to) → is_local n (packet_of bytes).header.destination ≡ false
       → decide m 0 source' moment' (moved n link source moment bytes) ≡ decision.Send out' to'
       → IsSameHop (at_exit n link source moment bytes) (at_entry m 0 source' moment' (moved n link source moment bytes))

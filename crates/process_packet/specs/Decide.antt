@@ -1,11 +1,13 @@
--- The decision table, and what it gives for a datagram.
-use Rattle.std.specs.Prelude.{ℕ, List, [], ◌∷◌}
+-- The decision table for packets on a SCION path, and what is decided for a datagram of either kind.
+use Rattle.std.specs.Prelude.{ℕ, Bool, ◌&&◌, ◌==◌, List, [], ◌∷◌, slice_index, if◌then◌else◌}
+use Rattle.scion_packet.specs.Header.{one_hop_path}
 use Rattle.scion_packet.specs.Packet.{spelling}
 use Rattle.process_packet.specs.declared.cause.Cause.TheVariants as cause
 use Rattle.process_packet.specs.declared.decision.Decision.{Decision}
 use Rattle.process_packet.specs.declared.decision.Decision.TheVariants as decision
 use Rattle.process_packet.specs.declared.underlay.Underlay.{Underlay}
-use Rattle.process_packet.specs.Network.{Network}
+use Rattle.process_packet.specs.Network.{Network, takes_one_hop}
+use Rattle.process_packet.specs.OneHopTable.{one_hop_decision_of, one_hop_moved_by, one_hop_verdict}
 use Rattle.process_packet.specs.PacketState.{PacketState, arrives}
 use Rattle.process_packet.specs.Rows.{Verdict, Sent, Answered, Dropped, RowResult, GoesOn, Ends, Row, then_rows, too_long, faulty_header, faulty_path, expired, wrong_ingress, wrong_payload_length, wrong_underlay_source, wrong_source, wrong_destination, turn_back_segment_id, wrong_mac, ingress_request, delivery, switch, unknown_egress, wrong_pair, egress_request, leave}
 
@@ -41,9 +43,24 @@ moved_by (Sent link to p) bytes = spelling p
 moved_by (Answered problem) bytes = bytes
 moved_by (Dropped c) bytes = bytes
 
+-- what is done with a datagram on a SCION path, and its bytes afterwards
+abbrev pub scion_decide : Network → ℕ → Underlay → ℕ → List ℕ → Decision
+scion_decide n link source moment bytes = decision_of (verdict n link source moment bytes)
+
+abbrev pub scion_moved : Network → ℕ → Underlay → ℕ → List ℕ → List ℕ
+scion_moved n link source moment bytes = moved_by (verdict n link source moment bytes) bytes
+
+-- ---- datagrams of both kinds
+
+-- the datagram is on a path of one hop, by its path type, and such paths are taken from this link
+unfoldable pub is_one_hop : Network → ℕ → List ℕ → Bool
+is_one_hop n link bytes = slice_index bytes 8 == one_hop_path && takes_one_hop n link
+
 -- what is done with a datagram, and its bytes afterwards
 abbrev pub decide : Network → ℕ → Underlay → ℕ → List ℕ → Decision
-decide n link source moment bytes = decision_of (verdict n link source moment bytes)
+decide n link source moment bytes =
+    if is_one_hop n link bytes then one_hop_decision_of (one_hop_verdict n link source moment bytes) else scion_decide n link source moment bytes
 
 abbrev pub moved : Network → ℕ → Underlay → ℕ → List ℕ → List ℕ
-moved n link source moment bytes = moved_by (verdict n link source moment bytes) bytes
+moved n link source moment bytes =
+    if is_one_hop n link bytes then one_hop_moved_by (one_hop_verdict n link source moment bytes) bytes else scion_moved n link source moment bytes

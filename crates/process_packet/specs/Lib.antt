@@ -7,7 +7,11 @@ pub mod Request
 pub mod PacketState
 pub mod Scmp
 pub mod Rows
+pub mod OneHopState
+pub mod OneHopRows
+pub mod OneHopTable
 pub mod Decide
+pub mod OneHopView
 pub mod PathHop
 pub mod PacketView
 pub mod Exit
@@ -26,3 +30,5 @@ pub mod Ways
 pub mod WhatLeaves
 pub mod Chaining
 pub mod Pointers
+pub mod OneHopLaws
+pub mod OneHopRefusals

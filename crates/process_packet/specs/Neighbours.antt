@@ -1,6 +1,7 @@
 -- Links, siblings' interfaces and services: what their types don't keep of their ranges, and what is told of them.
-use Rattle.std.specs.Prelude.{ℕ, Bool, true, false, not, ◌&&◌, ◌||◌, ◌==◌, nat_le, List, [], ◌∷◌, map}
+use Rattle.std.specs.Prelude.{ℕ, Bool, true, false, not, ◌&&◌, ◌||◌, ◌==◌, nat_le, List, [], ◌∷◌, map, Option, is_some}
 use Rattle.std.specs.List.{list_any}
+use Rattle.scion_header.specs.declared.domain.Domain.{Domain}
 use Rattle.segment_switch.specs.declared.kind.LinkKind.{LinkKind}
 use Rattle.process_packet.specs.declared.neighbours.Bands.{Bands}
 use Rattle.process_packet.specs.declared.neighbours.Bands.TheVariants.{One, Two}
@@ -17,6 +18,13 @@ link_kind l = l.kind
 
 abbrev pub link_bands : Link → Bands
 link_bands l = l.bands
+
+abbrev pub link_neighbor : Link → Option Domain
+link_neighbor l = l.neighbor
+
+-- one-hop paths are carried over it
+abbrev pub is_neighbored : Link → Bool
+is_neighbored l = is_some l.neighbor
 
 abbrev pub sibling_id : Sibling → ℕ
 sibling_id s = s.id

@@ -1,13 +1,18 @@
 -- What a router knows of its AS: its configuration as lists, and look-ups there.
-use Rattle.std.specs.Prelude.{ℕ, Bool, false, ◌&&◌, ◌||◌, ◌==◌, List, find, Option, Some, None, is_some, option_map}
-use Rattle.scion_packet.specs.Header.{HostAddress}
+use Rattle.std.specs.Prelude.{ℕ, Bool, false, ◌&&◌, ◌||◌, ◌==◌, List, find, Option, Some, None, is_some, option_map, if◌then◌else◌}
+use Rattle.std.specs.List.{list_any}
+use Rattle.std.specs.Option.{option_and_then}
+use Rattle.field_rows.specs.Place.{number_at}
+use Rattle.scion_header.specs.declared.domain.Domain.{Domain}
+use Rattle.scion_packet.specs.Header.{HostAddress, host_code}
 use Rattle.segment_switch.specs.declared.kind.LinkKind.{LinkKind}
 use Rattle.process_packet.specs.declared.config.Config.{Config}
 use Rattle.process_packet.specs.declared.neighbours.Link.{Link}
 use Rattle.process_packet.specs.declared.neighbours.Sibling.{Sibling}
 use Rattle.process_packet.specs.declared.neighbours.Service.{Service}
+use Rattle.process_packet.specs.declared.underlay.Ip.TheVariants.{V4, V6}
 use Rattle.process_packet.specs.declared.underlay.Underlay.{Underlay}
-use Rattle.process_packet.specs.Neighbours.{sibling_kind}
+use Rattle.process_packet.specs.Neighbours.{is_neighbored, link_neighbor, service_at, sibling_kind}
 use Rattle.process_packet.specs.Underlay.{same_ip, same_underlay}
 
 -- ---- what a decision looks at
@@ -56,6 +61,31 @@ kind_or (Some l) s = Some l.kind
 
 abbrev pub interface_kind : Network → ℕ → Option LinkKind
 interface_kind n id = kind_or (own_link n id) (sibling n id)
+
+-- ---- one-hop paths
+
+-- the AS at the other end of a link over which they are carried
+abbrev pub neighbor : Network → ℕ → Option Domain
+neighbor n id = option_and_then link_neighbor (own_link n id)
+
+abbrev pub is_neighbor : Option Domain → HostAddress → Bool
+is_neighbor None a = false
+is_neighbor (Some d) a = a.isd == d.isd && a.autonomous_system == d.autonomous_system
+
+-- They come by the links over which they are carried, and from inside where there is one.
+abbrev pub takes_one_hop : Network → ℕ → Bool
+takes_one_hop n link = if link == 0 then list_any is_neighbored n.links else is_some (neighbor n link)
+
+-- ---- hosts and services of this AS
+
+-- where one is reached: a host of kind 0 with 4 or 16 bytes is an IP address, one of kind 1 with 4 bytes a service; no other kind
+-- is known
+abbrev pub reached_at : Network → HostAddress → Option Underlay
+reached_at n a =
+    if a.kind == 0 && host_code a == 0 then Some (record { ip = V4 a.host; port = n.host_port })
+    else if a.kind == 0 && host_code a == 3 then Some (record { ip = V6 a.host; port = n.host_port })
+    else if a.kind == 1 && host_code a == 0 then option_map service_at (service n (number_at a.host 0 2))
+    else None
 
 -- ---- the underlay
 

@@ -1,9 +1,8 @@
 -- The rows of the decision table. A row ends the decision, or lets the packet go on, changed or not. The sections are those of
 -- draft-dekater-scion-dataplane, and the codes those of the SCMP specification, "Parameter Problem".
 use Rattle.std.specs.Prelude.{ℕ, Bool, true, false, not, ◌&&◌, ◌||◌, ◌==◌, nat_lt, List, [], ◌∷◌, length, if◌then◌else◌, Option, Some, None, is_some, option_map}
-use Rattle.field_rows.specs.Place.{number_at}
 use Rattle.scion_packet.specs.Fault.{Fault, TooShort, WrongVersion, WrongPathType, WrongLength, WrongPath, PeeringSegment}
-use Rattle.scion_packet.specs.Header.{header_fault, host_code}
+use Rattle.scion_packet.specs.Header.{HostAddress, header_fault, host_code}
 use Rattle.scion_packet.specs.Packet.{Packet, path_bytes}
 use Rattle.scion_packet.specs.Path.{path_fault}
 use Rattle.segment_switch.specs.Pairs.{is_pair}
@@ -11,10 +10,9 @@ use Rattle.segment_switch.specs.declared.kind.LinkKind.{LinkKind}
 use Rattle.process_packet.specs.declared.cause.Cause.{Cause}
 use Rattle.process_packet.specs.declared.cause.Cause.TheVariants as cause
 use Rattle.process_packet.specs.declared.decision.Problem.{Problem}
-use Rattle.process_packet.specs.declared.underlay.Ip.TheVariants.{V4, V6}
 use Rattle.process_packet.specs.declared.underlay.Underlay.{Underlay}
-use Rattle.process_packet.specs.Neighbours.{service_at, sibling_at}
-use Rattle.process_packet.specs.Network.{Network, own_link, sibling, service, interface_kind, is_local, is_owner, is_remote}
+use Rattle.process_packet.specs.Neighbours.{sibling_at}
+use Rattle.process_packet.specs.Network.{Network, own_link, sibling, interface_kind, is_local, is_owner, is_remote, reached_at}
 use Rattle.process_packet.specs.PacketState.{PacketState, packet, arrival_kind, is_external, is_expired, is_authentic, is_along, ingress, egress, entry, ingress_alert, egress_alert, is_first_of_path, is_last_of_segment, is_last_of_path, is_followed, next_place, hop_pointer, info_pointer, chained, turned_back, changed_over, with_place}
 use Rattle.process_packet.specs.Request.{is_request}
 use Rattle.process_packet.specs.Underlay.{longest_datagram}
@@ -141,18 +139,16 @@ ingress_request s =
 
 -- ---- delivery
 
-abbrev pub to_service : Packet → Option Underlay → Verdict
-to_service p None = problem destination_unreachable_type no_route 0
-to_service p (Some at) = Sent 0 (Some at) p
+-- what its sender is told where it can't be: of a service that the AS doesn't have, or of a host of no known kind
+abbrev pub unreachable : HostAddress → Verdict
+unreachable a = if a.kind == 1 && host_code a == 0 then problem destination_unreachable_type no_route 0 else parameter_problem unknown_address_format 9
 
--- a host of kind 0 with 4 or 16 bytes is an IP address, one of kind 1 with 4 bytes a service; no other kind is known
+abbrev pub sent_to : Packet → Option Underlay → Verdict
+sent_to p None = unreachable p.header.destination
+sent_to p (Some at) = Sent 0 (Some at) p
+
 abbrev pub delivered : Network → Packet → Verdict
-delivered n p =
-    let host = p.header.destination in
-    if host.kind == 0 && host_code host == 0 then Sent 0 (Some (record { ip = V4 host.host; port = n.host_port })) p
-    else if host.kind == 0 && host_code host == 3 then Sent 0 (Some (record { ip = V6 host.host; port = n.host_port })) p
-    else if host.kind == 1 && host_code host == 0 then to_service p (option_map service_at (service n (number_at host.host 0 2)))
-    else parameter_problem unknown_address_format 9
+delivered n p = sent_to p (reached_at n p.header.destination)
 
 -- From outside and for this AS: the packet goes to its host, or its sender is told that the host can't be reached.
 abbrev pub delivery : Row

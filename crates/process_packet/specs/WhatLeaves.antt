@@ -1,7 +1,7 @@
--- What leaves: a lawful packet, whose bytes differ from those that came in five at most.
+-- What leaves of a datagram on a SCION path: a lawful packet, whose bytes differ from those that came in five at most.
 use Rattle.std.specs.Prelude.{ℕ, ◌≡◌, ◌≢◌, ◌⊎◌, ◌<◌, ◌+◌, List, None, Option, length, slice_index}
 use Rattle.field_rows.specs.Place.{IsBytes}
-use Rattle.scion_packet.specs.Header.{front_end}
+use Rattle.scion_packet.specs.Header.{front_end, one_hop_path}
 use Rattle.scion_packet.specs.Lengths.{info_place, segment_count}
 use Rattle.scion_packet.specs.Packet.{Packet, first_fault, packet_of, path_bytes}
 use Rattle.scion_packet.specs.Path.{current_info, lengths_of}
@@ -50,5 +50,5 @@ pub record LeavesWhole (v : Verdict) (out : ℕ) (to : Option Underlay) (came le
 abbrev pub WhatLeavesIsLawful : Type 0
 WhatLeavesIsLawful =
     (n : Network) (link : ℕ) (source : Underlay) (moment : ℕ) (bytes : List ℕ) (out : ℕ) (to : Option Underlay) → IsBytes bytes
-    → decide n link source moment bytes ≡ decision.Send out to
+    → slice_index bytes 8 ≢ one_hop_path → decide n link source moment bytes ≡ decision.Send out to
     → LeavesWhole (verdict n link source moment bytes) out to bytes (moved n link source moment bytes)

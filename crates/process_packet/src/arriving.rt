@@ -1,7 +1,7 @@
 //! The rows that look at how a packet came.
 
-ghost use Rattle.std.specs.Prelude.{◌≡◌, false, None, length};
-ghost use Rattle.scion_packet.specs.Header.{header_fault, header_of};
+ghost use Rattle.std.specs.Prelude.{◌≡◌, false, None, length, ◌≤◌};
+ghost use Rattle.scion_packet.specs.Header.{header_of, front_end};
 ghost use Rattle.scion_packet.specs.Packet.{packet_of, path_bytes};
 ghost use Rattle.scion_packet.specs.Path.{path_of};
 ghost use Rattle.process_packet.specs.Departure.{Keeps};
@@ -85,7 +85,7 @@ impl PacketView {
 
     /// It has more or fewer bytes than its header says.
     pub(crate) fn wrong_payload_length(&self, bytes: &[u8]) -> Result<(), Refusal>
-        requires sound { header_fault bytes.now ≡ None }
+        requires addresses { front_end bytes.now ≤ length bytes.now }
         ensures { (s : PacketState) → Shows self.now s → header_of bytes.now ≡ s.header → TellsRow (row.wrong_payload_length s) s result }
     {
         if usize::from(payload_length(bytes)) != self.payload {
@@ -147,7 +147,7 @@ impl PacketView {
     }
 
     fn is_source_lawful(&self, config: &Config, bytes: &[u8]) -> bool
-        requires sound { header_fault bytes.now ≡ None }
+        requires addresses { front_end bytes.now ≤ length bytes.now }
         ensures { (s : PacketState) → Shows self.now s → network config.now ≡ s.network → header_of bytes.now ≡ s.header → result ≡ is_source_lawful s }
     {
         if self.is_external() {
@@ -159,7 +159,7 @@ impl PacketView {
 
     /// It came from outside with a source in this AS, or began its path inside with one outside.
     pub(crate) fn wrong_source(&self, config: &Config, bytes: &[u8]) -> Result<(), Refusal>
-        requires sound { header_fault bytes.now ≡ None }
+        requires addresses { front_end bytes.now ≤ length bytes.now }
         ensures { (s : PacketState) → Shows self.now s → network config.now ≡ s.network → header_of bytes.now ≡ s.header → TellsRow (row.wrong_source s) s result }
     {
         if !self.is_source_lawful(config, bytes) {
@@ -170,7 +170,7 @@ impl PacketView {
 
     #[inline(always)]
     fn is_destination_lawful(&self, config: &Config, bytes: &[u8]) -> bool
-        requires sound { header_fault bytes.now ≡ None }
+        requires addresses { front_end bytes.now ≤ length bytes.now }
         ensures { (s : PacketState) → Shows self.now s → network config.now ≡ s.network → header_of bytes.now ≡ s.header → result ≡ is_destination_lawful s }
     {
         let local = config.is_destination_local(bytes);
@@ -184,7 +184,7 @@ impl PacketView {
     /// Its destination is in this AS, and its path goes on; or the other way round.
     #[inline(always)]
     pub(crate) fn wrong_destination(&self, config: &Config, bytes: &[u8]) -> Result<(), Refusal>
-        requires sound { header_fault bytes.now ≡ None }
+        requires addresses { front_end bytes.now ≤ length bytes.now }
         ensures { (s : PacketState) → Shows self.now s → network config.now ≡ s.network → header_of bytes.now ≡ s.header → TellsRow (row.wrong_destination s) s result }
     {
         if !self.is_destination_lawful(config, bytes) {

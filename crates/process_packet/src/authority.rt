@@ -1,7 +1,7 @@
 //! The rows that look at what the hop field is authorised for.
 
-ghost use Rattle.std.specs.Prelude.{◌≡◌, ◌&&◌, not, None, List};
-ghost use Rattle.scion_packet.specs.Header.{header_fault, header_of};
+ghost use Rattle.std.specs.Prelude.{◌≡◌, ◌&&◌, not, None, List, ◌≤◌, length};
+ghost use Rattle.scion_packet.specs.Header.{header_of, front_end};
 ghost use Rattle.scion_packet.specs.Path.{Segment};
 ghost use Rattle.process_packet.specs.Network.{network};
 ghost use Rattle.process_packet.specs.Rows as row;
@@ -54,7 +54,7 @@ impl PacketView {
 
     /// It asks the router at its ingress interface, which is this one.
     pub(crate) fn ingress_request(&self, bytes: &[u8], payload: &[u8]) -> Result<(), Refusal>
-        requires sound { header_fault bytes.now ≡ None }
+        requires addresses { front_end bytes.now ≤ length bytes.now }
         ensures { (s : PacketState) → Shows self.now s → header_of bytes.now ≡ s.header → payload.now ≡ s.payload → TellsRow (row.ingress_request s) s result }
     {
         if self.is_external() && self.ingress_alert() && carries_request(bytes, payload) {

@@ -1,5 +1,8 @@
 ghost use Rattle.std.specs.Prelude.{◌≡◌, ◌<◌, ◌≤◌};
-ghost use Rattle.process_packet.specs.Cause.{number_of};
+ghost use Rattle.process_packet.specs.Cause.{causes, number_of};
+
+/// How many causes there are.
+pub const CAUSES: usize = 21;
 
 /// Why a datagram, or the answer to one, is dropped.
 #[derive(Clone, Copy, PartialEq, Eq)]
@@ -40,13 +43,19 @@ pub enum Cause {
     SendFailed,
     /// The arriving link had no free buffer.
     NoBuffer,
+    /// A one-hop path between other ASes than the two at its link's ends.
+    OneHopEnds,
+    /// The first hop field of a one-hop path may not be used.
+    OneHopField,
+    /// A one-hop packet is for a host or a service that is not there.
+    OneHopHost,
 }
 
 impl Cause {
-    /// Its number, from 1 to 18, in the order above.
+    /// Its number, from 1 to `CAUSES`, in the order above.
     pub fn number(self) -> u8
         ensures number { result ≡ number_of self }
-        ensures range { (1 ≤ result) × (result ≤ 18) }
+        ensures range { (1 ≤ result) × (result ≤ causes) }
     {
         match self {
             Cause::Short => 1,
@@ -67,6 +76,9 @@ impl Cause {
             Cause::Closed => 16,
             Cause::SendFailed => 17,
             Cause::NoBuffer => 18,
+            Cause::OneHopEnds => 19,
+            Cause::OneHopField => 20,
+            Cause::OneHopHost => 21,
         }
     }
 }

@@ -1,11 +1,11 @@
-//! The decision table: its rows in the order in which they are tried, where the first that ends the decision
+//! The decision table for packets on a SCION path: its rows in the order in which they are tried, where the first that ends the decision
 //! decides. The rows are beside it, phase by phase: `parsed_headers`, `arriving`, `authority`, `delivery`, `leaving`.
 
-ghost use Rattle.std.specs.Prelude.{◌≡◌, [], ◌∷◌, None, IfOk, length};
-ghost use Rattle.scion_packet.specs.Header.{header_fault, header_of};
+ghost use Rattle.std.specs.Prelude.{◌≡◌, [], ◌∷◌, None, IfOk, length, ◌≤◌};
+ghost use Rattle.scion_packet.specs.Header.{header_of, front_end};
 ghost use Rattle.scion_packet.specs.Packet.{Packet, packet_of};
 ghost use Rattle.scion_packet.specs.Path.{path_of};
-ghost use Rattle.process_packet.specs.Decide.{decide, ends_as, moved};
+ghost use Rattle.process_packet.specs.Decide.{ends_as, scion_decide, scion_moved};
 ghost use Rattle.process_packet.specs.Departure.{Keeps, TellsVerdict};
 ghost use Rattle.process_packet.specs.ParsedHeaders.{AreHeadersOf};
 ghost use Rattle.process_packet.specs.Network.{network};
@@ -47,7 +47,7 @@ impl PacketView {
         path: &[u8],
         meta: &Meta,
     ) -> Result<(), Refusal>
-        requires sound { header_fault bytes.now ≡ None }
+        requires addresses { front_end bytes.now ≤ length bytes.now }
         requires meta { IsMetaOf meta.now path.now }
         requires current { LiesOn self.now.current (path_of path.now).segments }
         ensures { (s : PacketState) → Shows self.now s → network config.now ≡ s.network → source.now ≡ s.source → header_of bytes.now ≡ s.header
@@ -66,7 +66,7 @@ impl PacketView {
     /// The rows that look at what the hop field is authorised for, once its segment identifier is turned
     /// back.
     fn check_authority(&self, config: &Config, bytes: &[u8], payload: &[u8]) -> Result<(), Refusal>
-        requires sound { header_fault bytes.now ≡ None }
+        requires addresses { front_end bytes.now ≤ length bytes.now }
         ensures { (s : PacketState) → Shows self.now s → network config.now ≡ s.network → header_of bytes.now ≡ s.header → payload.now ≡ s.payload
             → TellsRow (row.then_rows (row.GoesOn s) (row.wrong_mac ∷ row.ingress_request ∷ [])) s result }
     {
@@ -85,7 +85,7 @@ impl PacketView {
         meta: &Meta,
         payload: &[u8],
     ) -> Result<Departure, Refusal>
-        requires sound { header_fault bytes.now ≡ None }
+        requires addresses { front_end bytes.now ≤ length bytes.now }
         requires meta { IsMetaOf meta.now path.now }
         requires current { LiesOn self.old.current (path_of path.now).segments }
         requires count { self.old.segments ≡ length (path_of path.now).segments }
@@ -129,26 +129,26 @@ fn depart(
     view.deliver_or_forward(config, bytes, path, &headers.meta, payload)
 }
 
-/// What is done with a datagram that arrived on the link (0 is the internal network) from the
-/// underlay's source, at the second `now` of Unix time. Where it is sent, its bytes are changed to those
-/// that leave: at most the cursor and two segment identifiers, five bytes. Else they stay as they are.
+/// What is done with a datagram on a SCION path, by the table: the bytes of one that is sent are changed to
+/// those that leave, at most the cursor and two segment identifiers, five bytes. Else they stay as they are.
 ///
-/// It takes no memory, and its cost grows neither with the path nor with the payload.
-pub fn route_in_place(
+/// The cost grows neither with the path nor with the payload.
+#[inline(always)]
+pub(crate) fn scion_in_place(
     config: &Config,
     link: u16,
-    source: Underlay,
+    source: &Underlay,
     now: u64,
     bytes: &mut [u8],
 ) -> Decision
-    ensures decision { result ≡ decide (network config.now) link source now bytes.old }
-    ensures bytes { bytes.new ≡ moved (network config.now) link source now bytes.old }
+    ensures decision { result ≡ scion_decide (network config.now) link source.now now bytes.old }
+    ensures bytes { bytes.new ≡ scion_moved (network config.now) link source.now now bytes.old }
 {
     let headers = match ParsedHeaders::read(bytes) {
         Ok(headers) => headers,
         Err(refusal) => return refusal.decision(),
     };
-    match depart(config, link, &source, now, &headers, bytes) {
+    match depart(config, link, source, now, &headers, bytes) {
         Ok(departure) => {
             departure.write(&mut bytes[headers.path_begin..headers.path_end]);
             Decision::Send {

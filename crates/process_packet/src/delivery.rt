@@ -1,11 +1,11 @@
 //! The row by which a packet is delivered in this AS.
 
-ghost use Rattle.std.specs.Prelude.{◌≡◌, ◌&&◌, Some, None, MatchOption, MatchResult};
-ghost use Rattle.scion_packet.specs.Header.{header_fault, header_of};
+ghost use Rattle.std.specs.Prelude.{◌≡◌, ◌&&◌, Some, None, MatchOption, MatchResult, ◌≤◌, length};
+ghost use Rattle.scion_packet.specs.Header.{header_of, front_end};
 ghost use Rattle.scion_packet.specs.Packet.{Packet};
-ghost use Rattle.process_packet.specs.Network.{is_local, network};
+ghost use Rattle.process_packet.specs.Network.{is_local, network, reached_at};
 ghost use Rattle.process_packet.specs.Rows as row;
-ghost use Rattle.process_packet.specs.Rows.{delivered};
+ghost use Rattle.process_packet.specs.Rows.{delivered, unreachable};
 ghost use Rattle.process_packet.specs.PacketView.{Shows, refused};
 ghost use Rattle.process_packet.specs.PacketState.{PacketState, is_external, packet};
 
@@ -18,38 +18,60 @@ use crate::underlay::{Ip, Underlay};
 use field_rows::u16_at;
 use scion_header::{Host, destination_address};
 
-/// Where a packet is delivered: to its host at the end hosts' port, or to the service's address.
-fn deliver(config: &Config, bytes: &[u8]) -> Result<Underlay, Refusal>
-    requires sound { header_fault bytes.now ≡ None }
-    ensures { (s : PacketState) (p : Packet) → network config.now ≡ s.network → header_of bytes.now ≡ s.header → p.header ≡ s.header
-        → MatchResult result (λ to. delivered s.network p ≡ row.Sent 0 (Some to) p) (λ r. delivered s.network p ≡ refused r) }
+/// Where the destination of a datagram is reached in this AS: an IP host at the end hosts' port, a service at its
+/// own address. There is nowhere for a service that the AS doesn't have, and for other kinds of hosts.
+#[inline(always)]
+pub(crate) fn host_at(config: &Config, bytes: &[u8]) -> Option<Underlay>
+    requires addresses { front_end bytes.now ≤ length bytes.now }
+    ensures { result ≡ reached_at (network config.now) (header_of bytes.now).destination }
 {
     let destination = destination_address(bytes);
     match (destination.kind, destination.host) {
-        (0, Host::Four(address)) => Ok(Underlay {
+        (0, Host::Four(address)) => Some(Underlay {
             ip: Ip::V4(address),
             port: config.host_port,
         }),
-        (0, Host::Sixteen(address)) => Ok(Underlay {
+        (0, Host::Sixteen(address)) => Some(Underlay {
             ip: Ip::V6(address),
             port: config.host_port,
         }),
-        (1, Host::Four(service)) => match config.service_at(u16_at(&service, 0)) {
-            Some(at) => Ok(at),
-            None => Err(Refusal::Answer(Problem {
-                kind: DESTINATION_UNREACHABLE,
-                code: NO_ROUTE,
-                pointer: 0,
-            })),
-        },
-        _ => Err(parameter_problem(UNKNOWN_ADDRESS_FORMAT, 9)),
+        (1, Host::Four(service)) => config.service_at(u16_at(&service, 0)),
+        _ => None,
+    }
+}
+
+/// What the sender is told of a destination that can't be reached.
+fn unreachable(bytes: &[u8]) -> Refusal
+    requires addresses { front_end bytes.now ≤ length bytes.now }
+    ensures { refused result ≡ unreachable (header_of bytes.now).destination }
+{
+    let destination = destination_address(bytes);
+    match (destination.kind, destination.host) {
+        (1, Host::Four(_)) => Refusal::Answer(Problem {
+            kind: DESTINATION_UNREACHABLE,
+            code: NO_ROUTE,
+            pointer: 0,
+        }),
+        _ => parameter_problem(UNKNOWN_ADDRESS_FORMAT, 9),
+    }
+}
+
+/// Where a packet is delivered, or what its sender is told.
+fn deliver(config: &Config, bytes: &[u8]) -> Result<Underlay, Refusal>
+    requires addresses { front_end bytes.now ≤ length bytes.now }
+    ensures { (s : PacketState) (p : Packet) → network config.now ≡ s.network → header_of bytes.now ≡ s.header → p.header ≡ s.header
+        → MatchResult result (λ to. delivered s.network p ≡ row.Sent 0 (Some to) p) (λ r. delivered s.network p ≡ refused r) }
+{
+    match host_at(config, bytes) {
+        Some(to) => Ok(to),
+        None => Err(unreachable(bytes)),
     }
 }
 
 impl PacketView {
     /// Whether it came from outside for this AS.
     fn is_for_here(&self, config: &Config, bytes: &[u8]) -> bool
-        requires sound { header_fault bytes.now ≡ None }
+        requires addresses { front_end bytes.now ≤ length bytes.now }
         ensures { (s : PacketState) → Shows self.now s → network config.now ≡ s.network → header_of bytes.now ≡ s.header
             → result ≡ (is_external s && is_local s.network s.header.destination) }
     {
@@ -62,7 +84,7 @@ impl PacketView {
         config: &Config,
         bytes: &[u8],
     ) -> Result<Option<Underlay>, Refusal>
-        requires sound { header_fault bytes.now ≡ None }
+        requires addresses { front_end bytes.now ≤ length bytes.now }
         ensures { (s : PacketState) → Shows self.now s → network config.now ≡ s.network → header_of bytes.now ≡ s.header
             → MatchResult result (λ o. MatchOption o (row.delivery s ≡ row.GoesOn s) (λ to. row.delivery s ≡ row.Ends (row.Sent 0 (Some to) (packet s))))
             (λ r. row.delivery s ≡ row.Ends (refused r)) }

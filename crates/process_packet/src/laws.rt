@@ -3,6 +3,8 @@
 ghost use Rattle.process_packet.specs.Chaining.{NoHopIsSplicedIn};
 ghost use Rattle.process_packet.specs.Hosts.{DeliveredToItsHost, HostsAreReached};
 ghost use Rattle.process_packet.specs.Laws.{AnswersAreSound, NextPlaceIsNext, NothingElseChanges, OnlyAuthorised, OnlyLawfulWays};
+ghost use Rattle.process_packet.specs.OneHopLaws.{DecidedByKind, OneHopsDifferInPlace, OneHopsEnter, OneHopsKeepTheRest, OneHopsLeave};
+ghost use Rattle.process_packet.specs.OneHopRefusals.{OneHopsAreRefusedSo};
 ghost use Rattle.process_packet.specs.Pointers.{PointersAreRight};
 ghost use Rattle.process_packet.specs.Problems.{ProblemsAreLawful};
 ghost use Rattle.process_packet.specs.Refusals.{RefusedAreTold};
@@ -123,4 +125,44 @@ pub fn ways_are_valley_free()
 /// by reason, said of the packet's fields, in the order in which the reasons count.
 pub fn refused_are_told()
     ensures { RefusedAreTold }
+{}
+
+/// A datagram is decided by the table of SCION paths unless its path type is that of a path of one hop; and such a
+/// one too, where one-hop paths are not taken from its link: so a router whose links name no neighbour decides as if
+/// there were no others. Where they are taken, it is decided by the table of one-hop paths.
+pub fn decided_by_kind()
+    ensures { DecidedByKind }
+{}
+
+/// From inside a packet on a path of one hop is sent exactly if it has no fault, is from this AS for the AS at the
+/// other end of the link that its first hop field names, and this hop field is of that link, neither expired nor of
+/// more than 300 seconds ahead, and carries the MAC of the AS's key. It leaves by that link, with the identifier
+/// chained.
+pub fn one_hops_leave()
+    ensures { OneHopsLeave }
+{}
+
+/// From outside it is sent exactly if it has no fault, comes from the router at the link's other end, is from the AS
+/// there for this one, no message of BFD, neither expired nor of more than 300 seconds ahead, and its host or service
+/// is reached. It goes there, with the second hop field made: from the link by which it came, the last of its
+/// segment, with the MAC of this AS's key.
+pub fn one_hops_enter()
+    ensures { OneHopsEnter }
+{}
+
+/// A packet on a path of one hop that is sent differs from what came in the two bytes of the identifier, if it came
+/// from inside, and else in the twelve of the second hop field.
+pub fn one_hops_differ_in_place()
+    ensures { OneHopsDifferInPlace }
+{}
+
+/// It keeps its header and its payload.
+pub fn one_hops_keep_the_rest()
+    ensures { OneHopsKeepTheRest }
+{}
+
+/// For which cause each refused packet on a path of one hop is dropped: reason by reason, said of the packet's fields,
+/// in the order in which the reasons count.
+pub fn one_hops_are_refused_so()
+    ensures { OneHopsAreRefusedSo }
 {}

@@ -1,7 +1,7 @@
 //! The rows by which a packet leaves.
 
-ghost use Rattle.std.specs.Prelude.{◌≡◌, ◌+◌, ◌<◌, ◌==◌, ◌&&◌, not, nat_lt, false, [], ◌∷◌, Some, None, is_some, IfOk, length, if◌then◌else◌};
-ghost use Rattle.scion_packet.specs.Header.{header_fault, header_of};
+ghost use Rattle.std.specs.Prelude.{◌≡◌, ◌+◌, ◌<◌, ◌==◌, ◌&&◌, not, nat_lt, false, [], ◌∷◌, Some, None, is_some, IfOk, length, if◌then◌else◌, ◌≤◌};
+ghost use Rattle.scion_packet.specs.Header.{header_of, front_end};
 ghost use Rattle.scion_packet.specs.Packet.{Packet};
 ghost use Rattle.scion_packet.specs.Path.{path_of};
 ghost use Rattle.process_packet.specs.Decide.{verdict_of};
@@ -154,7 +154,7 @@ impl PacketView {
         bytes: &[u8],
         payload: &[u8],
     ) -> Result<(), Refusal>
-        requires sound { header_fault bytes.now ≡ None }
+        requires addresses { front_end bytes.now ≤ length bytes.now }
         ensures { (s : PacketState) → Shows self.now s → header_of bytes.now ≡ s.header → Some exit.now ≡ exit_of s.network (egress s) → payload.now ≡ s.payload
             → TellsRow (row.egress_request s) s result }
     {

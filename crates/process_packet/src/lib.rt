@@ -11,11 +11,15 @@ mod decide;
 mod decision;
 mod delivery;
 mod departure;
+mod dispatch;
 mod exit;
 mod laws;
 mod leaving;
 mod lookup;
 mod neighbours;
+mod one_hop;
+mod one_hop_departure;
+mod one_hop_view;
 mod packet_view;
 mod parsed_headers;
 mod path_hop;
@@ -27,15 +31,17 @@ mod totals;
 mod underlay;
 
 pub use arrival::{Arrival, NoMemory, Routed};
-pub use cause::Cause;
+pub use cause::{CAUSES, Cause};
 pub use config::Config;
-pub use decide::route_in_place;
 pub use decision::{Decision, Problem};
+pub use dispatch::{is_one_hop, route_in_place};
 pub use laws::{
-    answers_are_sound, authorised_is_sent, delivers_to_its_host, hosts_are_reached,
-    next_place_is_next, no_hop_is_spliced_in, nothing_else_changes, only_authorised,
-    only_lawful_ways, pointers_are_right, problems_are_lawful, refused_are_told,
-    sent_by_three_ways, ways_are_valley_free, what_leaves_is_lawful, words_say_fields,
+    answers_are_sound, authorised_is_sent, decided_by_kind, delivers_to_its_host,
+    hosts_are_reached, next_place_is_next, no_hop_is_spliced_in, nothing_else_changes,
+    one_hops_are_refused_so, one_hops_differ_in_place, one_hops_enter, one_hops_keep_the_rest,
+    one_hops_leave, only_authorised, only_lawful_ways, pointers_are_right, problems_are_lawful,
+    refused_are_told, sent_by_three_ways, ways_are_valley_free, what_leaves_is_lawful,
+    words_say_fields,
 };
 pub use neighbours::{Bands, Link, Service, Sibling};
 pub use parsed_headers::LONGEST_DATAGRAM;

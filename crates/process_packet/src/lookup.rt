@@ -1,11 +1,11 @@
 //! Look-ups in the configuration.
 
-ghost use Rattle.std.specs.Prelude.{◌≡◌, ◌==◌, ◌&&◌, ◌||◌, None, is_some, map, option_copied, option_map};
+ghost use Rattle.std.specs.Prelude.{◌≡◌, ◌==◌, ◌&&◌, ◌||◌, None, is_some, map, option_copied, option_map, ◌≤◌, length};
 ghost use Rattle.std.specs.List.{list_any};
-ghost use Rattle.process_packet.specs.Neighbours.{are_two, is_banded, link_bands, link_kind, service_at};
+ghost use Rattle.process_packet.specs.Neighbours.{are_two, is_banded, is_neighbored, link_bands, link_kind, service_at};
 ghost use Rattle.process_packet.specs.Exit.{exit_of};
-ghost use Rattle.process_packet.specs.Network.{has_link, is_local, is_owner, is_remote, network, own_link, service, sibling};
-ghost use Rattle.scion_packet.specs.Header.{header_fault, header_of};
+ghost use Rattle.process_packet.specs.Network.{has_link, is_local, is_neighbor, is_owner, is_remote, neighbor, network, own_link, service, sibling, takes_one_hop};
+ghost use Rattle.scion_packet.specs.Header.{HostAddress, front_end, header_of};
 
 use crate::config::Config;
 use crate::exit::Exit;
@@ -22,6 +22,13 @@ fn some_are_two(links: &[Link]) -> bool
         .iter()
         .map(|link| link.bands)
         .any(|bands| bands.are_two())
+}
+
+/// Whether one-hop paths are carried over one of the links.
+fn some_is_neighbored(links: &[Link]) -> bool
+    ensures { result ≡ list_any is_neighbored links.now }
+{
+    links.iter().any(|link| link.neighbor.is_some())
 }
 
 impl Config {
@@ -109,6 +116,57 @@ impl Config {
         }
     }
 
+    /// The AS at the other end of this router's link, if one-hop paths are carried over the link.
+    pub(crate) fn neighbor(&self, link: u16) -> Option<Domain>
+        ensures { result ≡ neighbor (network self.now) link }
+    {
+        match self.own_link(link) {
+            Some(link) => link.neighbor,
+            None => None,
+        }
+    }
+
+    /// Whether one-hop paths are taken from a link: they are carried over it or, for the internal network, over some
+    /// link.
+    pub(crate) fn takes_one_hop(&self, link: u16) -> bool
+        ensures { result ≡ takes_one_hop (network self.now) link }
+    {
+        if link == 0 {
+            some_is_neighbored(self.links.as_slice())
+        } else {
+            self.neighbor(link).is_some()
+        }
+    }
+
+    /// Whether the AS is the one at the other end of this router's link, over which one-hop paths are carried.
+    fn is_there(&self, link: u16, domain: Domain) -> bool
+        ensures { (a : HostAddress) → a.isd ≡ domain.isd → a.autonomous_system ≡ domain.autonomous_system
+            → result ≡ is_neighbor (neighbor (network self.now) link) a }
+    {
+        match self.neighbor(link) {
+            Some(there) => {
+                domain.isd == there.isd && domain.autonomous_system == there.autonomous_system
+            }
+            None => false,
+        }
+    }
+
+    /// Whether the source of a datagram is in the AS at the link's other end.
+    pub(crate) fn is_source_neighbor(&self, link: u16, bytes: &[u8]) -> bool
+        requires addresses { front_end bytes.now ≤ length bytes.now }
+        ensures { result ≡ is_neighbor (neighbor (network self.now) link) (header_of bytes.now).source }
+    {
+        self.is_there(link, source_domain(bytes))
+    }
+
+    /// Whether its destination is.
+    pub(crate) fn is_destination_neighbor(&self, link: u16, bytes: &[u8]) -> bool
+        requires addresses { front_end bytes.now ≤ length bytes.now }
+        ensures { result ≡ is_neighbor (neighbor (network self.now) link) (header_of bytes.now).destination }
+    {
+        self.is_there(link, destination_domain(bytes))
+    }
+
     /// Whether the AS is this one.
     fn is_here(&self, domain: Domain) -> bool
         ensures { result ≡ (domain.isd == self.now.isd && domain.autonomous_system == self.now.autonomous_system) }
@@ -118,7 +176,7 @@ impl Config {
 
     /// Whether the source of a datagram is in this AS.
     pub(crate) fn is_source_local(&self, bytes: &[u8]) -> bool
-        requires sound { header_fault bytes.now ≡ None }
+        requires addresses { front_end bytes.now ≤ length bytes.now }
         ensures { result ≡ is_local (network self.now) (header_of bytes.now).source }
     {
         self.is_here(source_domain(bytes))
@@ -126,7 +184,7 @@ impl Config {
 
     /// Whether its destination is.
     pub(crate) fn is_destination_local(&self, bytes: &[u8]) -> bool
-        requires sound { header_fault bytes.now ≡ None }
+        requires addresses { front_end bytes.now ≤ length bytes.now }
         ensures { result ≡ is_local (network self.now) (header_of bytes.now).destination }
     {
         self.is_here(destination_domain(bytes))

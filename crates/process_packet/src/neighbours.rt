@@ -1,6 +1,7 @@
 //! What a border router's configuration says of the links, routers and services around it.
 
 use crate::underlay::Underlay;
+use scion_header::Domain;
 use segment_switch::LinkKind;
 
 /// How many bands a link has: packets of the high band overtake those of the other one.
@@ -40,6 +41,8 @@ pub struct Link {
     pub remote: Underlay,
     /// How many bands it has.
     pub bands: Bands,
+    /// The AS at its other end, if one-hop paths are carried over the link.
+    pub neighbor: Option<Domain>,
 }
 
 /// An interface of another router of this AS.

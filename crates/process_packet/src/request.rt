@@ -1,7 +1,7 @@
 //! Traceroute requests.
 
-ghost use Rattle.std.specs.Prelude.{◌≡◌, None};
-ghost use Rattle.scion_packet.specs.Header.{header_fault, header_of};
+ghost use Rattle.std.specs.Prelude.{◌≡◌, None, ◌≤◌, length};
+ghost use Rattle.scion_packet.specs.Header.{header_of, front_end};
 ghost use Rattle.process_packet.specs.Request.{is_request, request};
 
 use field_rows::u16_at;
@@ -41,7 +41,7 @@ fn request_in(next_header: u8, bytes: &[u8]) -> Option<(u16, u16)>
 /// Whether a datagram, whose header has no fault, carries such a request after it.
 #[inline(always)]
 pub(crate) fn carries_request(bytes: &[u8], payload: &[u8]) -> bool
-    requires sound { header_fault bytes.now ≡ None }
+    requires addresses { front_end bytes.now ≤ length bytes.now }
     ensures { result ≡ is_request (header_of bytes.now).next_header payload.now }
 {
     request_in(next_header(bytes), payload).is_some()

@@ -7,8 +7,8 @@ ghost use Rattle.process_packet.specs.Routed.{IsRouted, IsSend, bytes_for, decis
 use crate::arrival::{Arrival, NoMemory, Routed};
 use crate::cause::Cause;
 use crate::config::Config;
-use crate::decide::route_in_place;
 use crate::decision::Decision;
+use crate::dispatch::route_in_place;
 use crate::parsed_headers::LONGEST_DATAGRAM;
 use std::alloc::Global;
 

@@ -1,7 +1,7 @@
 ghost use Rattle.std.specs.Prelude.{◌≡◌};
 ghost use Rattle.process_packet.specs.Totals.{dropped_for};
 
-use crate::cause::Cause;
+use crate::cause::{CAUSES, Cause};
 
 /// How many datagrams were received, and what became of them.
 #[derive(Clone, Copy, PartialEq, Eq)]
@@ -13,7 +13,7 @@ pub struct Totals {
     /// Answered, with the answer handed to its link.
     pub answered: u128,
     /// Dropped, for each cause in the order of the causes' numbers.
-    pub dropped: [u128; 18],
+    pub dropped: [u128; CAUSES],
 }
 
 impl Totals {

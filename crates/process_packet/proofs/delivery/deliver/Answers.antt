@@ -6,6 +6,3 @@ returns-in-Some c = search rules
 
 pub returns-in-None : goal.returns-in-None
 returns-in-None c = search rules
-
-pub returns-in_default : goal.returns-in_default
-returns-in_default c = search rules

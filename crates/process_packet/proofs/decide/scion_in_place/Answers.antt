@@ -4,18 +4,18 @@ use Rattle.process_packet.specs.Network.{network}
 use Rattle.process_packet.specs.Rows.{Verdict}
 use Rattle.process_packet.specs.PacketState.{arrives}
 use Rattle.process_packet.proofs.ParsedHeadersLemmas.{datagram_passed, datagram_refused, leaves, refusal_keeps, room_for}
-use Rattle.process_packet.proofs.decide.route_in_place.Goals as goal
+use Rattle.process_packet.proofs.decide.scion_in_place.Goals as goal
 
 pub returns-in-Err-clause-decision : goal.returns-in-Err-clause-decision
 returns-in-Err-clause-decision c =
     let n = network c.args.config.now in
-    let verdict = datagram_refused n c.args.link c.args.source c.args.now c.args.bytes.now _ (c.in-Err.ensures.says (arrives n c.args.link c.args.source c.args.now c.args.bytes.now) refl) in
+    let verdict = datagram_refused n c.args.link c.args.source.now c.args.now c.args.bytes.now _ (c.in-Err.ensures.says (arrives n c.args.link c.args.source.now c.args.now c.args.bytes.now) refl) in
     c.decision.ensures ∙ sym (ap decision_of verdict)
 
 pub returns-in-Err-clause-bytes : goal.returns-in-Err-clause-bytes
 returns-in-Err-clause-bytes c =
     let n = network c.args.config.now in
-    let verdict = datagram_refused n c.args.link c.args.source c.args.now c.args.bytes.now _ (c.in-Err.ensures.says (arrives n c.args.link c.args.source c.args.now c.args.bytes.now) refl) in
+    let verdict = datagram_refused n c.args.link c.args.source.now c.args.now c.args.bytes.now _ (c.in-Err.ensures.says (arrives n c.args.link c.args.source.now c.args.now c.args.bytes.now) refl) in
     refusal_keeps c.in-Err.refusal _ c.args.bytes.now verdict
 
 pub write-requires-clause-entered : goal.write-requires-clause-entered
@@ -31,16 +31,16 @@ write-requires-clause-left c =
 pub returns-in-Ok-depart-clause-decision : goal.returns-in-Ok-depart-clause-decision
 returns-in-Ok-depart-clause-decision c =
     let n = network c.args.config.now in
-    let s = arrives n c.args.link c.args.source c.args.now c.args.bytes.now in
-    let verdict = datagram_passed n c.args.link c.args.source c.args.now c.args.bytes.now (c.in-Ok.ensures.says s refl) in
+    let s = arrives n c.args.link c.args.source.now c.args.now c.args.bytes.now in
+    let verdict = datagram_passed n c.args.link c.args.source.now c.args.now c.args.bytes.now (c.in-Ok.ensures.says s refl) in
     sym (ap decision_of (verdict ∙ c.in-Ok-depart.ensures.verdict))
 
 pub returns-in-Ok-depart-clause-bytes : goal.returns-in-Ok-depart-clause-bytes
 returns-in-Ok-depart-clause-bytes c =
     let n = network c.args.config.now in
-    let s = arrives n c.args.link c.args.source c.args.now c.args.bytes.now in
+    let s = arrives n c.args.link c.args.source.now c.args.now c.args.bytes.now in
     let headers = c.in-Ok.ensures.headers in
-    let verdict = datagram_passed n c.args.link c.args.source c.args.now c.args.bytes.now (c.in-Ok.ensures.says s refl) in
+    let verdict = datagram_passed n c.args.link c.args.source.now c.args.now c.args.bytes.now (c.in-Ok.ensures.says s refl) in
     leaves c.args.bytes.now c.write.new.path c.in-Ok.headers.path_begin c.in-Ok.headers.path_end c.in-Ok-depart.departure _ headers.are headers.sound headers.meta.lawful
     headers.begin headers.end headers.order c.in-Ok-depart.ensures c.write.ensures
     ∙ sym (ap (λ (v : Verdict). moved_by v c.args.bytes.now) verdict)
@@ -48,13 +48,13 @@ returns-in-Ok-depart-clause-bytes c =
 pub returns-in-Err-depart-clause-decision : goal.returns-in-Err-depart-clause-decision
 returns-in-Err-depart-clause-decision c =
     let n = network c.args.config.now in
-    let s = arrives n c.args.link c.args.source c.args.now c.args.bytes.now in
-    let verdict = datagram_passed n c.args.link c.args.source c.args.now c.args.bytes.now (c.in-Ok.ensures.says s refl) in
+    let s = arrives n c.args.link c.args.source.now c.args.now c.args.bytes.now in
+    let verdict = datagram_passed n c.args.link c.args.source.now c.args.now c.args.bytes.now (c.in-Ok.ensures.says s refl) in
     c.decision-in-Err-depart.ensures ∙ sym (ap decision_of (verdict ∙ c.in-Err-depart.ensures))
 
 pub returns-in-Err-depart-clause-bytes : goal.returns-in-Err-depart-clause-bytes
 returns-in-Err-depart-clause-bytes c =
     let n = network c.args.config.now in
-    let s = arrives n c.args.link c.args.source c.args.now c.args.bytes.now in
-    let verdict = datagram_passed n c.args.link c.args.source c.args.now c.args.bytes.now (c.in-Ok.ensures.says s refl) in
+    let s = arrives n c.args.link c.args.source.now c.args.now c.args.bytes.now in
+    let verdict = datagram_passed n c.args.link c.args.source.now c.args.now c.args.bytes.now (c.in-Ok.ensures.says s refl) in
     refusal_keeps c.in-Err-depart.refusal _ c.args.bytes.now (verdict ∙ c.in-Err-depart.ensures)
