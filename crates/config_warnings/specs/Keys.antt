@@ -1,5 +1,5 @@
 -- Which keys are read, and where.
-use Rattle.std.specs.Prelude.{ℕ, Bool, true, false, not, ◌&&◌, ◌||◌, List, Option, Some, None, codes, if◌then◌else◌}
+use Rattle.std.specs.Prelude.{ℕ, Bool, ◌&&◌, ◌||◌, List, Option, Some, None, codes, if◌then◌else◌}
 use Rattle.std.specs.Str.{bytes_eq}
 use Rattle.config_warnings.specs.declared.keys.Place.{Place}
 use Rattle.config_warnings.specs.declared.keys.Place.TheVariants as place
@@ -13,7 +13,9 @@ is_of_top key = bytes_eq key (codes "version") || bytes_eq key (codes "isd_as") 
     || bytes_eq key (codes "internal_bands")
 
 abbrev pub is_of_link : List ℕ → Bool
-is_of_link key = bytes_eq key (codes "id") || bytes_eq key (codes "kind") || bytes_eq key (codes "local") || bytes_eq key (codes "remote") || bytes_eq key (codes "bands")
+is_of_link key =
+    bytes_eq key (codes "id") || bytes_eq key (codes "kind") || bytes_eq key (codes "local") || bytes_eq key (codes "remote") || bytes_eq key (codes "bands")
+    || bytes_eq key (codes "neighbor")
 
 abbrev pub is_of_sibling : List ℕ → Bool
 is_of_sibling key = bytes_eq key (codes "id") || bytes_eq key (codes "kind") || bytes_eq key (codes "at")

@@ -1,6 +1,6 @@
 -- Which warnings a configuration has.
 use Rattle.std.specs.List.{slice_get}
-use Rattle.std.specs.Prelude.{ℕ, zero, suc, Bool, true, false, not, ◌||◌, List, [], ◌∷◌, ◌++◌, Option, Some, None, find, is_some, length, nat_lt, take}
+use Rattle.std.specs.Prelude.{ℕ, zero, suc, Bool, true, false, not, ◌||◌, List, [], ◌∷◌, ◌++◌, Option, Some, None, find, is_none, is_some, length, nat_lt, take}
 use Rattle.process_packet.specs.Underlay.{same_underlay}
 use Rattle.process_packet.specs.declared.config.Config.{Config}
 use Rattle.process_packet.specs.declared.neighbours.Link.{Link}
@@ -37,10 +37,14 @@ of_ends own =
     ++ (when (not (is_one_version own.local.ip own.remote.ip)) (warning.OtherVersion own.id own.local own.remote)
     ++ when (not (is_host_for own.local.ip own.remote.ip)) (warning.NoHost own.id own.remote))
 
+-- no beacons cross a link whose other end isn't named
+abbrev pub of_neighbor : Link → List Warning
+of_neighbor own = when (is_none own.neighbor) (warning.NoNeighbor own.id)
+
 -- its own address is the internal one, or that of a link before it
 abbrev pub of_own : Underlay → List Link → Link → List Warning
 of_own internal before own =
-    when (same_underlay own.local internal) (warning.LocalIsInternal own.id own.local) ++ (of_twin (twin_of before own.local) own ++ of_ends own)
+    when (same_underlay own.local internal) (warning.LocalIsInternal own.id own.local) ++ (of_twin (twin_of before own.local) own ++ (of_ends own ++ of_neighbor own))
 
 abbrev pub of_at : Underlay → List Link → Option Link → List Warning
 of_at internal before None = []

@@ -54,7 +54,7 @@ fn is_of_link(key: &str) -> bool
     ensures { result ≡ is_of_link key.now }
 {
     match key {
-        "id" | "kind" | "local" | "remote" | "bands" => true,
+        "id" | "kind" | "local" | "remote" | "bands" | "neighbor" => true,
         _ => false,
     }
 }

@@ -1,5 +1,5 @@
 //! What is lawful in a configuration and will hurt all the same: addresses that don't go together, sizes that
-//! waste, and keys that nobody reads.
+//! waste, links that no beacons cross, and keys that nobody reads.
 //!
 //! `warnings_of` looks at the values of a configuration, `strays_in` at the keys of the table that it was read
 //! from. Neither asks the system for anything.

@@ -48,6 +48,10 @@ pub enum Warning {
         link: u16,
         remote: Underlay,
     },
+    /// No AS is named at a link's other end.
+    NoNeighbor {
+        link: u16,
+    },
     /// A sibling is at an address of this router.
     OwnSibling {
         sibling: u16,
@@ -88,6 +92,10 @@ impl Warning {
                 f,
                 "`remote` of link {link} is {}, which no host can have, seen from its `local`: nothing leaves by it",
                 Shown(remote)
+            ),
+            Warning::NoNeighbor { link } => write!(
+                f,
+                "`neighbor` of link {link} is missing: no beacons cross this link"
             ),
             _ => Ok(()),
         }

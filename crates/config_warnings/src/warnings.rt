@@ -2,7 +2,7 @@
 
 ghost use Rattle.std.specs.Prelude.{◌≡◌, ◌++◌, ◌<◌, ◌||◌, [], IfOk, OnOk, find, length};
 ghost use Rattle.process_packet.specs.Underlay.{same_underlay};
-ghost use Rattle.config_warnings.specs.Warnings.{is_own, of_ends, of_link, of_links, of_own, of_sibling, of_siblings, of_sizes, of_twin, twin_of, warnings_of, when};
+ghost use Rattle.config_warnings.specs.Warnings.{is_own, of_ends, of_link, of_links, of_neighbor, of_own, of_sibling, of_siblings, of_sizes, of_twin, twin_of, warnings_of, when};
 
 use crate::addresses::{is_one_version, is_same, is_unspecified};
 use crate::warning::Warning;
@@ -82,6 +82,14 @@ fn add_of_ends(list: &mut Vec<Warning>, own: &Link) -> Result<(), AllocError>
     add_when(list, no_host, Warning::NoHost { link, remote })
 }
 
+/// Adds that a link names no AS at its other end.
+fn add_of_neighbor(list: &mut Vec<Warning>, own: &Link) -> Result<(), AllocError>
+    ensures { OnOk result (list.new.items ≡ list.old.items ++ of_neighbor own.now) }
+{
+    let unnamed = own.neighbor.is_none();
+    add_when(list, unnamed, Warning::NoNeighbor { link: own.id })
+}
+
 /// Adds what is to be said of a link, after these ones.
 fn add_of_own(
     list: &mut Vec<Warning>,
@@ -98,7 +106,8 @@ fn add_of_own(
     };
     add_when(list, is_internal, same)?;
     add_of_twin(list, before, own)?;
-    add_of_ends(list, own)
+    add_of_ends(list, own)?;
+    add_of_neighbor(list, own)
 }
 
 /// Adds what is to be said of the link at a place of the list.

@@ -1,17 +1,18 @@
 -- A configuration, part by part.
-use Rattle.std.proofs.Common.{◌≡◌, List, Ok, Err, ℤ, pos, refl, inl, inr}
+use Rattle.std.proofs.Common.{◌≡◌, ℕ, List, map, Ok, Err, ℤ, pos, refl, inl, inr}
 use Rattle.std.specs.Prelude.{◌⊎◌, ◌≢◌, codes}
 use Rattle.toml.specs.Data.{Members, as_integer}
+use Rattle.process_packet.specs.Neighbours.{link_id}
 use Rattle.process_packet.specs.declared.neighbours.Link.{Link}
 use Rattle.process_packet.specs.declared.neighbours.Sibling.{Sibling}
 use Rattle.process_packet.specs.declared.neighbours.Service.{Service}
 use Rattle.router_config.specs.Config.{AroundValues, InternalValues, LocalValues, SizeValues, Values, around_at, buffers_at, internal_at, local_at, sizes_at, values_at}
 use Rattle.router_config.specs.Entry.{in_range, value_at, version_at}
-use Rattle.router_config.specs.Neighbours.{links_at, services_at, siblings_at}
+use Rattle.router_config.specs.Neighbours.{link_values, links_at, services_at, siblings_at}
 use Rattle.router_config.specs.declared.entry.Version.{Version}
 use Rattle.router_config.specs.declared.fault.ConfigFault.{ConfigFault}
 use Rattle.router_config.specs.declared.fault.ConfigFault.TheVariants.{Memory, Missing}
-use Rattle.router_config.proofs.ListLemmas.{kept}
+use Rattle.router_config.proofs.ListLemmas.{kept, told_ids}
 
 -- ---- buffers
 
@@ -29,27 +30,29 @@ bad_buffers t fault other there = rw (← there, kept (pos 64) fault other) refl
 
 -- ---- what is around
 
-pub bad_links : (version : Version) (t : Members) (fault : ConfigFault) → (fault ≡ Memory) ⊎ (links_at version t ≡ Err fault) → (fault ≡ Memory) ⊎ (around_at version t ≡ Err fault)
+pub bad_links : (version : Version) (own : ℕ × ℕ) (t : Members) (fault : ConfigFault) → (fault ≡ Memory) ⊎ (links_at version own t ≡ Err fault)
+    → (fault ≡ Memory) ⊎ (around_at version own t ≡ Err fault)
 unfolding around_at
-bad_links version t fault (inl memory) = inl memory
-bad_links version t fault (inr there) = inr (rw there refl)
+bad_links version own t fault (inl memory) = inl memory
+bad_links version own t fault (inr there) = inr (rw there refl)
 
-pub bad_siblings : (version : Version) (t : Members) (links : List Link) (fault : ConfigFault) → links_at version t ≡ Ok links
-    → (fault ≡ Memory) ⊎ (siblings_at links t ≡ Err fault) → (fault ≡ Memory) ⊎ (around_at version t ≡ Err fault)
+pub bad_siblings : (version : Version) (own : ℕ × ℕ) (t : Members) (links : List Link) (fault : ConfigFault) → links_at version own t ≡ Ok (map link_values links)
+    → (fault ≡ Memory) ⊎ (siblings_at (map link_id links) t ≡ Err fault) → (fault ≡ Memory) ⊎ (around_at version own t ≡ Err fault)
 unfolding around_at
-bad_siblings version t links fault first (inl memory) = inl memory
-bad_siblings version t links fault first (inr there) = inr (rw (first, there) refl)
+bad_siblings version own t links fault first (inl memory) = inl memory
+bad_siblings version own t links fault first (inr there) = inr (rw (first, told_ids links, there) refl)
 
-pub bad_services : (version : Version) (t : Members) (links : List Link) (siblings : List Sibling) (fault : ConfigFault) → links_at version t ≡ Ok links
-    → siblings_at links t ≡ Ok siblings → (fault ≡ Memory) ⊎ (services_at t ≡ Err fault) → (fault ≡ Memory) ⊎ (around_at version t ≡ Err fault)
+pub bad_services : (version : Version) (own : ℕ × ℕ) (t : Members) (links : List Link) (siblings : List Sibling) (fault : ConfigFault) → links_at version own t ≡ Ok (map link_values links)
+    → siblings_at (map link_id links) t ≡ Ok siblings → (fault ≡ Memory) ⊎ (services_at t ≡ Err fault) → (fault ≡ Memory) ⊎ (around_at version own t ≡ Err fault)
 unfolding around_at
-bad_services version t links siblings fault first second (inl memory) = inl memory
-bad_services version t links siblings fault first second (inr there) = inr (rw (first, second, there) refl)
+bad_services version own t links siblings fault first second (inl memory) = inl memory
+bad_services version own t links siblings fault first second (inr there) = inr (rw (first, told_ids links, second, there) refl)
 
-pub all_around : (version : Version) (t : Members) (links : List Link) (siblings : List Sibling) (services : List Service) → links_at version t ≡ Ok links
-    → siblings_at links t ≡ Ok siblings → services_at t ≡ Ok services → around_at version t ≡ Ok (record { links = links; siblings = siblings; services = services })
+pub all_around : (version : Version) (own : ℕ × ℕ) (t : Members) (links : List Link) (siblings : List Sibling) (services : List Service) → links_at version own t ≡ Ok (map link_values links)
+    → siblings_at (map link_id links) t ≡ Ok siblings → services_at t ≡ Ok services
+    → around_at version own t ≡ Ok (record { links = map link_values links; siblings = siblings; services = services })
 unfolding around_at
-all_around version t links siblings services first second third = rw (first, second, third) refl
+all_around version own t links siblings services first second third = rw (first, told_ids links, second, third) refl
 
 -- ---- all of it
 
@@ -72,13 +75,13 @@ unfolding values_at
 bad_sizes t version near internal fault first second third there = rw (← first, ← second, ← third, ← there) refl
 
 pub bad_around : (t : Members) (version : Version) (near : LocalValues) (internal : InternalValues) (sizes : SizeValues) (fault : ConfigFault) → Ok version ≡ version_at t → Ok near ≡ local_at t
-    → Ok internal ≡ internal_at version t → Ok sizes ≡ sizes_at t → (fault ≡ Memory) ⊎ (around_at version t ≡ Err fault) → (fault ≡ Memory) ⊎ (values_at t ≡ Err fault)
+    → Ok internal ≡ internal_at version t → Ok sizes ≡ sizes_at t → (fault ≡ Memory) ⊎ (around_at version near.isd_as t ≡ Err fault) → (fault ≡ Memory) ⊎ (values_at t ≡ Err fault)
 unfolding values_at
 bad_around t version near internal sizes fault first second third fourth (inl memory) = inl memory
 bad_around t version near internal sizes fault first second third fourth (inr there) = inr (rw (← first, ← second, ← third, ← fourth, there) refl)
 
 pub all_there : (t : Members) (version : Version) (near : LocalValues) (internal : InternalValues) (sizes : SizeValues) (around : AroundValues) → Ok version ≡ version_at t → Ok near ≡ local_at t
-    → Ok internal ≡ internal_at version t → Ok sizes ≡ sizes_at t → around_at version t ≡ Ok around
+    → Ok internal ≡ internal_at version t → Ok sizes ≡ sizes_at t → around_at version near.isd_as t ≡ Ok around
     → values_at t ≡ Ok (record { near = near; internal = internal; sizes = sizes; around = around })
 unfolding values_at
 all_there t version near internal sizes around first second third fourth fifth = rw (← first, ← second, ← third, ← fourth, fifth) refl

@@ -1,4 +1,5 @@
 pub mod EntryLemmas
 pub mod IdLemmas
 pub mod ListLemmas
+pub mod NeighborLemmas
 pub mod ConfigLemmas

@@ -1,5 +1,5 @@
 -- The members of a list, one after the other.
-use Rattle.std.proofs.Common.{◌≡◌, ℕ, suc, ◌+◌, ◌<◌, ◌≤◌, List, [], ◌∷◌, ◌++◌, length, drop, get_or, map, Bool, true, false, not, ◌==◌, ◌||◌, Result, Ok, Err, refl, ap, ◌∙◌, arith, inl, inr}
+use Rattle.std.proofs.Common.{◌≡◌, ℕ, suc, ◌+◌, ◌<◌, ◌≤◌, List, [], ◌∷◌, ◌++◌, length, drop, get_or, map, Bool, true, false, not, ◌==◌, ◌||◌, Result, Ok, Err, refl, sym, ap, ◌∙◌, arith, inl, inr}
 use Rattle.std.specs.Prelude.{◌≢◌, IsTrue, codes, nat_lt}
 use Rattle.std.specs.List.{list_all, list_any}
 use Rattle.std.proofs.lemmas.Bool.{and_parts, cases_Bool}
@@ -16,7 +16,7 @@ use Rattle.process_packet.specs.declared.neighbours.Link.{Link}
 use Rattle.process_packet.specs.declared.neighbours.Sibling.{Sibling}
 use Rattle.router_config.specs.Fault.{or_when_missing, ◌>>=◌}
 use Rattle.router_config.specs.Entry.{value_at}
-use Rattle.router_config.specs.Neighbours.{at_most, count_of, link_of, links_at, links_of, members_from, service_of, services_at, sibling_of, siblings_at, taken}
+use Rattle.router_config.specs.Neighbours.{at_most, count_of, link_after, link_of, link_values, links_at, links_of, members_from, service_of, services_at, sibling_of, siblings_at, taken, told_id, LinkValues}
 use Rattle.router_config.specs.declared.entry.Version.{Version}
 use Rattle.router_config.specs.declared.fault.ConfigFault.{ConfigFault}
 use Rattle.router_config.specs.declared.fault.ConfigFault.TheVariants.{NotToml, Missing, WrongType, IsdAs, Key, Address, Interface, Limit, Memory}
@@ -40,14 +40,14 @@ not_too_many most read vs few =
     let large : nat_lt most (count_of (items_view vs)) ≡ false = rw (count_is vs) (grind (arith, nat_tests)) in
     rw large refl
 
-pub no_links : (version : Version) (vs : List Value) → length vs ≡ 0 → links_of version (items_view vs) ≡ Err Limit
+pub no_links : (version : Version) (own : ℕ × ℕ) (vs : List Value) → length vs ≡ 0 → links_of version own (items_view vs) ≡ Err Limit
 unfolding links_of
-no_links version [] none = refl
-no_links version (v ∷ vs) none = absurd (omega arith)
+no_links version own [] none = refl
+no_links version own (v ∷ vs) none = absurd (omega arith)
 
-pub some_links : (version : Version) (vs : List Value) → 0 < length vs → links_of version (items_view vs) ≡ at_most 32 (link_of version) (items_view vs)
+pub some_links : (version : Version) (own : ℕ × ℕ) (vs : List Value) → 0 < length vs → links_of version own (items_view vs) ≡ at_most 32 (link_after version own) (items_view vs)
 unfolding links_of
-some_links version vs some =
+some_links version own vs some =
     let none : (count_of (items_view vs) == 0) ≡ false = rw (count_is vs) (grind (arith, nat_tests)) in
     rw none refl
 
@@ -70,6 +70,20 @@ pub last_member : {A : Type 0} (read : List A → Data → Result A ConfigFault)
     → members_from read done (items_view (drop i vs)) ≡ Ok done
 unfolding members_from
 last_member read done vs i h = rw (drop_of_length-le vs h) refl
+
+-- ---- links and what is told of them
+
+pub told_ids : (links : List Link) → map told_id (map link_values links) ≡ map link_id links
+told_ids [] = refl
+told_ids (l ∷ links) = ap (λ (ids : List ℕ). l.id ∷ ids) (told_ids links)
+
+-- a link that was read beside these links
+pub link_beside : (version : Version) (own : ℕ × ℕ) (done : List Link) (member : Data) (r : Result LinkValues ConfigFault) → r ≡ link_of version own (map link_id done) member
+    → r ≡ link_after version own (map link_values done) member
+link_beside version own done member r is = is ∙ ap (λ (ids : List ℕ). link_of version own ids member) (sym (told_ids done))
+
+pub values_push : (done : List Link) (link : Link) → map link_values (done ++ link ∷ []) ≡ map link_values done ++ link_values link ∷ []
+values_push done link = map-append link_values done (link ∷ [])
 
 -- ---- numbers that stay distinct, members that are whole
 
@@ -137,25 +151,25 @@ list_faulty f fault r other there = rw (← there, kept no_items fault other) re
 
 -- ---- the lists at their keys
 
-pub links_there : (version : Version) (t : Members) (members : Items) → Ok members ≡ value_at as_array (codes "link") t → links_of version members ≡ links_at version t
+pub links_there : (version : Version) (own : ℕ × ℕ) (t : Members) (members : Items) → Ok members ≡ value_at as_array (codes "link") t → links_of version own members ≡ links_at version own t
 unfolding links_at
-links_there version t members there = rw (← there) refl
+links_there version own t members there = rw (← there) refl
 
-pub no_links_there : (version : Version) (t : Members) (fault : ConfigFault) → Err fault ≡ value_at as_array (codes "link") t → links_at version t ≡ Err fault
+pub no_links_there : (version : Version) (own : ℕ × ℕ) (t : Members) (fault : ConfigFault) → Err fault ≡ value_at as_array (codes "link") t → links_at version own t ≡ Err fault
 unfolding links_at
-no_links_there version t fault there = rw (← there) refl
+no_links_there version own t fault there = rw (← there) refl
 
-pub siblings_there : (links : List Link) (t : Members) (members : Items) → Ok members ≡ value_at as_array (codes "sibling") t → at_most 256 (sibling_of links) members ≡ siblings_at links t
+pub siblings_there : (ids : List ℕ) (t : Members) (members : Items) → Ok members ≡ value_at as_array (codes "sibling") t → at_most 256 (sibling_of ids) members ≡ siblings_at ids t
 unfolding siblings_at
-siblings_there links t members there = list_there (at_most 256 (sibling_of links)) members _ there
+siblings_there ids t members there = list_there (at_most 256 (sibling_of ids)) members _ there
 
-pub no_siblings : (links : List Link) (t : Members) → Err Missing ≡ value_at as_array (codes "sibling") t → siblings_at links t ≡ Ok []
+pub no_siblings : (ids : List ℕ) (t : Members) → Err Missing ≡ value_at as_array (codes "sibling") t → siblings_at ids t ≡ Ok []
 unfolding siblings_at at_most members_from
-no_siblings links t there = list_missing (at_most 256 (sibling_of links)) _ there
+no_siblings ids t there = list_missing (at_most 256 (sibling_of ids)) _ there
 
-pub bad_siblings : (links : List Link) (t : Members) (fault : ConfigFault) → fault ≢ Missing → Err fault ≡ value_at as_array (codes "sibling") t → siblings_at links t ≡ Err fault
+pub bad_siblings : (ids : List ℕ) (t : Members) (fault : ConfigFault) → fault ≢ Missing → Err fault ≡ value_at as_array (codes "sibling") t → siblings_at ids t ≡ Err fault
 unfolding siblings_at
-bad_siblings links t fault other there = list_faulty (at_most 256 (sibling_of links)) fault _ other there
+bad_siblings ids t fault other there = list_faulty (at_most 256 (sibling_of ids)) fault _ other there
 
 pub services_there : (t : Members) (members : Items) → Ok members ≡ value_at as_array (codes "service") t → at_most 64 service_of members ≡ services_at t
 unfolding services_at

@@ -1,22 +1,20 @@
 -- What a configuration gives, and the first fault of one that gives nothing: its keys are read in this order, the
 -- members of its lists one after the other, and a value is tested for its type, its form, 0 or doubled, and its range.
-use Rattle.std.specs.Prelude.{ℕ, pos, List, Option, Some, None, Result, Ok, Err, codes}
+use Rattle.std.specs.Prelude.{ℕ, pos, List, Option, Some, None, Result, Ok, Err, codes, map}
 use Rattle.hex.specs.Hex.{decode_sized}
 use Rattle.toml.specs.Data.{Members, as_integer, as_str}
 use Rattle.toml.specs.Parse.{parse_document}
 use Rattle.process_packet.specs.declared.config.Config.{Config}
 use Rattle.process_packet.specs.declared.neighbours.Bands.{Bands}
-use Rattle.process_packet.specs.declared.neighbours.Link.{Link}
 use Rattle.process_packet.specs.declared.neighbours.Sibling.{Sibling}
 use Rattle.process_packet.specs.declared.neighbours.Service.{Service}
 use Rattle.process_packet.specs.declared.underlay.Underlay.{Underlay}
-use Rattle.router_config.specs.Entry.{address_at, bands_at, in_range, number_at, value_at, version_at}
+use Rattle.router_config.specs.Entry.{address_at, bands_at, in_range, isd_as_at, number_at, value_at, version_at}
 use Rattle.router_config.specs.Fault.{or_fault, or_when_missing, ◌>>=◌}
-use Rattle.router_config.specs.IsdAs.{isd_as_of}
-use Rattle.router_config.specs.Neighbours.{links_at, services_at, siblings_at}
+use Rattle.router_config.specs.Neighbours.{LinkValues, link_values, links_at, services_at, siblings_at, told_id}
 use Rattle.router_config.specs.declared.entry.Version.{Version}
 use Rattle.router_config.specs.declared.fault.ConfigFault.{ConfigFault}
-use Rattle.router_config.specs.declared.fault.ConfigFault.TheVariants.{NotToml, IsdAs, Key}
+use Rattle.router_config.specs.declared.fault.ConfigFault.TheVariants.{NotToml, Key}
 
 -- ---- the local AS
 
@@ -28,16 +26,13 @@ abbrev pub decoded : {E : Type 0} → Result (List ℕ) E → Option (List ℕ)
 decoded (Ok bytes) = Some bytes
 decoded (Err fault) = None
 
-unfoldable pub isd_as_at : Members → Result (ℕ × ℕ) ConfigFault
-isd_as_at table = value_at as_str (codes "isd_as") table >>= (λ text. or_fault IsdAs (isd_as_of text))
-
 -- the 16 bytes of 32 hex digits
 unfoldable pub key_at : Members → Result (List ℕ) ConfigFault
 key_at table = value_at as_str (codes "key") table >>= (λ text. or_fault Key (decoded (decode_sized text 16)))
 
 unfoldable pub local_at : Members → Result LocalValues ConfigFault
 local_at table = do
-  isd_as ← isd_as_at table
+  isd_as ← isd_as_at (codes "isd_as") table
   key ← key_at table
   Ok (record { isd_as = isd_as; key = key })
 
@@ -78,14 +73,15 @@ sizes_at table = do
 -- ---- what is around
 
 pub record AroundValues : Type 0 where
-  pub links : List Link
+  pub links : List LinkValues
   pub siblings : List Sibling
   pub services : List Service
 
-unfoldable pub around_at : Version → Members → Result AroundValues ConfigFault
-around_at version table = do
-  links ← links_at version table
-  siblings ← siblings_at links table
+-- around this AS
+unfoldable pub around_at : Version → ℕ × ℕ → Members → Result AroundValues ConfigFault
+around_at version own table = do
+  links ← links_at version own table
+  siblings ← siblings_at (map told_id links) table
   services ← services_at table
   Ok (record { links = links; siblings = siblings; services = services })
 
@@ -103,7 +99,7 @@ values_at table = do
   near ← local_at table
   internal ← internal_at version table
   sizes ← sizes_at table
-  around ← around_at version table
+  around ← around_at version near.isd_as table
   Ok (record { near = near; internal = internal; sizes = sizes; around = around })
 
 -- the values of a text
@@ -116,5 +112,5 @@ values c = record {
   near = record { isd_as = (c.isd, c.autonomous_system); key = c.key };
   internal = record { router = c.internal; bands = c.internal_bands; host_port = c.host_port };
   sizes = record { processors = c.processors; capacity = c.capacity; seed = c.seed; buffers = c.buffers };
-  around = record { links = c.links.items; siblings = c.siblings.items; services = c.services.items };
+  around = record { links = map link_values c.links.items; siblings = c.siblings.items; services = c.services.items };
 }

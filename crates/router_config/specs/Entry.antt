@@ -9,10 +9,11 @@ use Rattle.segment_switch.specs.declared.kind.LinkKind.{LinkKind}
 use Rattle.segment_switch.specs.declared.kind.LinkKind.TheVariants.{Core, Parent, Child}
 use Rattle.text_values.specs.Address.{underlay_of}
 use Rattle.router_config.specs.Fault.{or_fault, ◌>>=◌}
+use Rattle.router_config.specs.IsdAs.{isd_as_of}
 use Rattle.router_config.specs.declared.entry.Version.{Version}
 use Rattle.router_config.specs.declared.entry.Version.TheVariants.{First, Second}
 use Rattle.router_config.specs.declared.fault.ConfigFault.{ConfigFault}
-use Rattle.router_config.specs.declared.fault.ConfigFault.TheVariants.{Missing, WrongType, Address, Limit}
+use Rattle.router_config.specs.declared.fault.ConfigFault.TheVariants.{Missing, WrongType, IsdAs, Address, Limit}
 
 -- the value of a type at a key
 abbrev pub value_at : {A : Type 0} → (Data → Option A) → List ℕ → Members → Result A ConfigFault
@@ -28,6 +29,10 @@ number_at least most key table = value_at as_integer key table >>= in_range leas
 
 unfoldable pub address_at : List ℕ → Members → Result Underlay ConfigFault
 address_at key table = value_at as_str key table >>= (λ text. or_fault Address (underlay_of text))
+
+-- an ISD number and an AS number
+unfoldable pub isd_as_at : List ℕ → Members → Result (ℕ × ℕ) ConfigFault
+isd_as_at key table = value_at as_str key table >>= (λ text. or_fault IsdAs (isd_as_of text))
 
 abbrev pub kind_of : List ℕ → Option LinkKind
 kind_of word = if bytes_eq word (codes "core") then Some Core

@@ -3,7 +3,7 @@ use Rattle.std.specs.Prelude.{◌<◌, ◌≤◌, ◌^◌, IsTrue, length, map}
 use Rattle.std.specs.List.{list_all}
 use Rattle.process_packet.specs.Neighbours.{are_distinct, has_port, is_link, is_service, is_sibling, service_number}
 use Rattle.router_config.specs.Config.{AroundValues, InternalValues, LocalValues, SizeValues}
-use Rattle.router_config.specs.Neighbours.{taken}
+use Rattle.router_config.specs.Neighbours.{link_values, taken}
 use Rattle.router_config.specs.declared.config.Local.{Local}
 use Rattle.router_config.specs.declared.config.Internal.{Internal}
 use Rattle.router_config.specs.declared.config.Sizes.{Sizes}
@@ -36,7 +36,7 @@ pub record AreSizes (p : Sizes) : Type 0 where
   pub few_buffers : p.buffers ≤ 65536
 
 abbrev pub around_values : Around → AroundValues
-around_values p = record { links = p.links.items; siblings = p.siblings.items; services = p.services.items }
+around_values p = record { links = map link_values p.links.items; siblings = p.siblings.items; services = p.services.items }
 
 pub record IsAround (p : Around) : Type 0 where
   pub some_links : 1 ≤ length p.links.items

@@ -1,15 +1,14 @@
 //! A configuration, key by key.
-ghost use Rattle.std.specs.Prelude.{◌≡◌, ◌<◌, ◌≤◌, ◌^◌, IfOk};
+ghost use Rattle.std.specs.Prelude.{◌≡◌, ◌≤◌, IfOk};
 ghost use Rattle.toml.specs.View.{table_view};
-ghost use Rattle.router_config.specs.Config.{around_at, buffers_at, internal_at, isd_as_at, key_at, local_at, sizes_at, values, values_at, values_of};
+ghost use Rattle.router_config.specs.Config.{around_at, buffers_at, internal_at, key_at, local_at, sizes_at, values, values_at, values_of};
 ghost use Rattle.router_config.specs.Fault.{Answers, on_ok};
 ghost use Rattle.router_config.specs.Parts.{AreSizes, IsAround, IsInternal, IsLocal, around_values, internal_values, local_values, size_values};
 
 use crate::entry::{
-    Version, address_at, bands_at, in_range, integer_at, number_at, text_at, version_at,
+    Version, address_at, bands_at, in_range, integer_at, isd_as_at, number_at, text_at, version_at,
 };
 use crate::fault::ConfigFault;
-use crate::isd_as::read_isd_as;
 use crate::lists::{links_at, services_at, siblings_at};
 use cmac_core::Cmac;
 use hex::FromHex;
@@ -53,23 +52,6 @@ struct Around {
     services: Vec<Service>,
 }
 
-/// The ISD-AS number of the local AS.
-#[tactic(auto, unfolding(crate::specs::Config::isd_as_at))]
-pub(crate) fn isd_as_at(table: &Table) -> Result<(u16, u64), ConfigFault>
-    ensures value { result ≡ isd_as_at (table_view table.now) }
-    ensures isd_is_there { IfOk result (λ numbers. 1 ≤ numbers.0) }
-    ensures autonomous_system_is_there { IfOk result (λ numbers. 1 ≤ numbers.1) }
-    ensures fits { IfOk result (λ numbers. numbers.1 < 2 ^ 48) }
-{
-    match text_at(table, "isd_as") {
-        Ok(text) => match read_isd_as(text) {
-            Some(numbers) => Ok(numbers),
-            None => Err(ConfigFault::IsdAs),
-        },
-        Err(fault) => Err(fault),
-    }
-}
-
 /// The key of the local AS.
 #[tactic(auto, unfolding(crate::specs::Config::key_at))]
 pub(crate) fn key_at(table: &Table) -> Result<[u8; 16], ConfigFault>
@@ -90,7 +72,7 @@ fn local_at(table: &Table) -> Result<Local, ConfigFault>
     ensures value { on_ok local_values result ≡ local_at (table_view table.now) }
     ensures sound { IfOk result IsLocal }
 {
-    let (isd, autonomous_system) = isd_as_at(table)?;
+    let (isd, autonomous_system) = isd_as_at(table, "isd_as")?;
     let key = key_at(table)?;
     Ok(Local {
         isd,
@@ -149,12 +131,17 @@ fn sizes_at(table: &Table) -> Result<Sizes, ConfigFault>
     })
 }
 
-/// What is around the router.
-fn around_at(alloc: Global, version: Version, table: &Table) -> Result<Around, ConfigFault>
-    ensures value { Answers around_values (around_at version (table_view table.now)) result }
+/// What is around a router of this AS.
+fn around_at(
+    alloc: Global,
+    version: Version,
+    own: (u16, u64),
+    table: &Table,
+) -> Result<Around, ConfigFault>
+    ensures value { Answers around_values (around_at version own (table_view table.now)) result }
     ensures sound { IfOk result IsAround }
 {
-    let links = match links_at(alloc, version, table) {
+    let links = match links_at(alloc, version, own, table) {
         Ok(links) => links,
         Err(fault) => return Err(fault),
     };
@@ -221,7 +208,8 @@ pub(crate) fn config_at(alloc: Global, table: &Table) -> Result<Config, ConfigFa
         Ok(sizes) => sizes,
         Err(fault) => return Err(fault),
     };
-    let around = match around_at(alloc, version, table) {
+    let own = (local.isd, local.autonomous_system);
+    let around = match around_at(alloc, version, own, table) {
         Ok(around) => around,
         Err(fault) => return Err(fault),
     };
@@ -234,10 +222,11 @@ pub(crate) fn config_at(alloc: Global, table: &Table) -> Result<Config, ConfigFa
 /// version 2), `host_port`, `processors`, `capacity`, `seed`, `buffers` (64 where there is none),
 /// `link`, `sibling` and `service` (none where there is no such list); other keys are left alone. A
 /// list is tested for its type and its length before its members, which are read one after the
-/// other: of a link `id`, `kind`, `local`, `remote` and, in version 2, `bands`; of a sibling `id`,
-/// `kind` and `at`; of a service `number` and `at`. A value is tested for its type, then its form,
-/// then for 0 or a number that is given twice, then its range. The first fault is answered, and
-/// want of memory as `ConfigFault::Memory` wherever it is met.
+/// other: of a link `id`, `kind`, `local`, `remote`, in version 2 `bands`, and `neighbor` (none
+/// where there is no such key); of a sibling `id`, `kind` and `at`; of a service `number` and `at`.
+/// A value is tested for its type, then its form, then for 0, for a number that is given twice or
+/// the AS's own number, then its range. The first fault is answered, and want of memory as
+/// `ConfigFault::Memory` wherever it is met.
 pub fn read_config(alloc: Global, text: &str) -> Result<Config, ConfigFault>
     ensures { Answers values (values_of text.now) result }
 {

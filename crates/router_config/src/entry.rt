@@ -1,12 +1,13 @@
 //! The value at a key of a table: it is tested for its type, then its form, then its range.
-ghost use Rattle.std.specs.Prelude.{◌≡◌, ◌≤◌, IfOk, IsTrue, codes};
+ghost use Rattle.std.specs.Prelude.{◌≡◌, ◌<◌, ◌≤◌, ◌^◌, IfOk, IsTrue, codes};
 ghost use Rattle.toml.specs.Data.{as_array, as_integer, as_str};
 ghost use Rattle.toml.specs.View.{array_view, table_view};
 ghost use Rattle.process_packet.specs.Neighbours.{has_port};
-ghost use Rattle.router_config.specs.Entry.{address_at, bands_at, in_range, kind_at, kind_of, number_at, value_at, version_at};
+ghost use Rattle.router_config.specs.Entry.{address_at, bands_at, in_range, isd_as_at, kind_at, kind_of, number_at, value_at, version_at};
 ghost use Rattle.router_config.specs.Fault.{on_ok};
 
 use crate::fault::ConfigFault;
+use crate::isd_as::read_isd_as;
 use process_packet::{Bands, Underlay};
 use segment_switch::LinkKind;
 use text_values::read_underlay;
@@ -97,6 +98,23 @@ pub(crate) fn address_at(table: &Table, key: &str) -> Result<Underlay, ConfigFau
         Ok(text) => match read_underlay(text) {
             Some(underlay) => Ok(underlay),
             None => Err(ConfigFault::Address),
+        },
+        Err(fault) => Err(fault),
+    }
+}
+
+/// The ISD number and the AS number at a key.
+#[tactic(auto, unfolding(crate::specs::Entry::isd_as_at))]
+pub(crate) fn isd_as_at(table: &Table, key: &str) -> Result<(u16, u64), ConfigFault>
+    ensures value { result ≡ isd_as_at key.now (table_view table.now) }
+    ensures isd_is_there { IfOk result (λ numbers. 1 ≤ numbers.0) }
+    ensures autonomous_system_is_there { IfOk result (λ numbers. 1 ≤ numbers.1) }
+    ensures fits { IfOk result (λ numbers. numbers.1 < 2 ^ 48) }
+{
+    match text_at(table, key) {
+        Ok(text) => match read_isd_as(text) {
+            Some(numbers) => Ok(numbers),
+            None => Err(ConfigFault::IsdAs),
         },
         Err(fault) => Err(fault),
     }

@@ -23,8 +23,9 @@ pub enum ConfigFault {
     /// A text is not an IP address with a port from 1 to 65535.
     #[error("an address is not valid")]
     Address,
-    /// An interface is 0; or one is given twice, among links and siblings, or a service is.
-    #[error("an interface is 0, or an interface or a service is given twice")]
+    /// An interface is 0; or one is given twice, among links and siblings, or a service is; or a
+    /// link's neighbour is the AS itself.
+    #[error("an interface is 0, an interface or a service is given twice, or a neighbour is this AS")]
     Interface,
     /// A number is out of its range, or a list is longer than its limit, or empty where it may not be.
     #[error("a number or a list is outside its limits")]

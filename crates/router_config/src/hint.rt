@@ -69,7 +69,9 @@ pub(crate) fn strayed(table: &Table, key: Key) -> Option<(Key, usize)> {
 
 /// A hint at what a line means that is no TOML; empty where there is none.
 pub(crate) fn hint_of_line(line: &str) -> &'static str {
-    if line.trim_start().starts_with("isd_as") && !line.contains("\"") {
+    let line = line.trim_start();
+    let is_of_as = line.starts_with("isd_as") || line.starts_with("neighbor");
+    if is_of_as && !line.contains("\"") {
         "; write the ISD-AS in quotes"
     } else {
         ""

@@ -2,9 +2,9 @@
 ghost use Rattle.std.specs.Prelude.{◌≡◌, ◌≤◌, [], IfOk, IsTrue, length, map};
 ghost use Rattle.std.specs.List.{list_all};
 ghost use Rattle.toml.specs.View.{array_view, table_view};
-ghost use Rattle.process_packet.specs.Neighbours.{are_distinct, is_link, is_service, is_sibling, service_number};
+ghost use Rattle.process_packet.specs.Neighbours.{are_distinct, is_link, is_service, is_sibling, link_id, service_number};
 ghost use Rattle.router_config.specs.Fault.{Answers};
-ghost use Rattle.router_config.specs.Neighbours.{at_most, link_of, links_at, links_of, service_of, services_at, sibling_of, siblings_at, taken};
+ghost use Rattle.router_config.specs.Neighbours.{at_most, link_values, links_at, links_of, service_of, services_at, sibling_of, siblings_at, taken};
 
 use crate::entry::{Version, array_at};
 use crate::fault::ConfigFault;
@@ -23,9 +23,14 @@ pub(crate) const MOST_SIBLINGS: usize = 256;
 /// The most services that an AS has.
 pub(crate) const MOST_SERVICES: usize = 64;
 
-/// The links of an array: one to 32 of them, with numbers of their own.
-fn read_links(alloc: Global, version: Version, members: &Array) -> Result<Vec<Link>, ConfigFault>
-    ensures value { Answers (λ links. links.items) (links_of version (array_view members.now)) result }
+/// The links of an array, to other ASes than this one: one to 32 of them, with numbers of their own.
+fn read_links(
+    alloc: Global,
+    version: Version,
+    own: (u16, u64),
+    members: &Array,
+) -> Result<Vec<Link>, ConfigFault>
+    ensures value { Answers (λ links. map link_values links.items) (links_of version own (array_view members.now)) result }
     ensures some { IfOk result (λ links. 1 ≤ length links.items) }
     ensures few { IfOk result (λ links. length links.items ≤ 32) }
     ensures whole { IfOk result (λ links. IsTrue (list_all is_link links.items)) }
@@ -40,7 +45,7 @@ fn read_links(alloc: Global, version: Version, members: &Array) -> Result<Vec<Li
     }
     let mut links = Vec::new(alloc);
     for member in members {
-        let link = match read_link(version, links.as_slice(), member) {
+        let link = match read_link(version, own, links.as_slice(), member) {
             Ok(link) => link,
             Err(fault) => return Err(fault),
         };
@@ -59,7 +64,7 @@ fn read_siblings(
     members: &Array,
 ) -> Result<Vec<Sibling>, ConfigFault>
     requires { IsTrue (are_distinct (taken links.now [])) }
-    ensures value { Answers (λ siblings. siblings.items) (at_most 256 (sibling_of links.now) (array_view members.now)) result }
+    ensures value { Answers (λ siblings. siblings.items) (at_most 256 (sibling_of (map link_id links.now)) (array_view members.now)) result }
     ensures few { IfOk result (λ siblings. length siblings.items ≤ 256) }
     ensures whole { IfOk result (λ siblings. IsTrue (list_all is_sibling siblings.items)) }
     ensures distinct { IfOk result (λ siblings. IsTrue (are_distinct (taken links.now siblings.items))) }
@@ -105,20 +110,21 @@ fn read_services(alloc: Global, members: &Array) -> Result<Vec<Service>, ConfigF
     Ok(services)
 }
 
-/// The links of a configuration.
+/// The links of a configuration, to other ASes than this one.
 pub(crate) fn links_at(
     alloc: Global,
     version: Version,
+    own: (u16, u64),
     table: &Table,
 ) -> Result<Vec<Link>, ConfigFault>
-    ensures value { Answers (λ links. links.items) (links_at version (table_view table.now)) result }
+    ensures value { Answers (λ links. map link_values links.items) (links_at version own (table_view table.now)) result }
     ensures some { IfOk result (λ links. 1 ≤ length links.items) }
     ensures few { IfOk result (λ links. length links.items ≤ 32) }
     ensures whole { IfOk result (λ links. IsTrue (list_all is_link links.items)) }
     ensures distinct { IfOk result (λ links. IsTrue (are_distinct (taken links.items []))) }
 {
     match array_at(table, "link") {
-        Ok(members) => read_links(alloc, version, members),
+        Ok(members) => read_links(alloc, version, own, members),
         Err(fault) => Err(fault),
     }
 }
@@ -130,7 +136,7 @@ pub(crate) fn siblings_at(
     table: &Table,
 ) -> Result<Vec<Sibling>, ConfigFault>
     requires { IsTrue (are_distinct (taken links.now [])) }
-    ensures value { Answers (λ siblings. siblings.items) (siblings_at links.now (table_view table.now)) result }
+    ensures value { Answers (λ siblings. siblings.items) (siblings_at (map link_id links.now) (table_view table.now)) result }
     ensures few { IfOk result (λ siblings. length siblings.items ≤ 256) }
     ensures whole { IfOk result (λ siblings. IsTrue (list_all is_sibling siblings.items)) }
     ensures distinct { IfOk result (λ siblings. IsTrue (are_distinct (taken links.now siblings.items))) }

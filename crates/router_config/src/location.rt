@@ -1,16 +1,19 @@
 //! Where the first fault of a configuration is.
-ghost use Rattle.std.specs.Prelude.{◌≡◌, is_err, is_some};
+ghost use Rattle.std.specs.Prelude.{◌≡◌, is_err, is_some, map};
 ghost use Rattle.toml.specs.View.{table_view, view};
+ghost use Rattle.process_packet.specs.Neighbours.{link_id};
 ghost use Rattle.router_config.specs.Config.{internal_at, local_at, sizes_at};
 ghost use Rattle.router_config.specs.Neighbours.{link_of, service_of, sibling_of};
 ghost use Rattle.router_config.specs.Location.{key_of_internal, key_of_local, key_of_sizes, location_of_link, location_of_service, location_of_sibling};
 
-use crate::config::{buffers_at, isd_as_at, key_at};
-use crate::entry::{Version, address_at, array_at, bands_at, kind_at, number_at, version_at};
+use crate::config::{buffers_at, key_at};
+use crate::entry::{
+    Version, address_at, array_at, bands_at, isd_as_at, kind_at, number_at, version_at,
+};
 use crate::fault::ConfigFault;
 use crate::lists::{MOST_LINKS, MOST_SERVICES, MOST_SIBLINGS, links_at, services_at, siblings_at};
 use crate::neighbours::{
-    id_at, number_at as service_number_at, read_link, read_service, read_sibling,
+    id_at, neighbor_at, number_at as service_number_at, read_link, read_service, read_sibling,
 };
 use process_packet::{Link, Service, Sibling};
 use std::alloc::{AllocError, Global};
@@ -38,6 +41,7 @@ pub(crate) enum Key {
     Local,
     Remote,
     Bands,
+    Neighbor,
     At,
     Number,
 }
@@ -75,6 +79,7 @@ impl Key {
             Key::Local => "local",
             Key::Remote => "remote",
             Key::Bands => "bands",
+            Key::Neighbor => "neighbor",
             Key::At => "at",
             Key::Number => "number",
         }
@@ -99,6 +104,9 @@ impl Key {
             Key::Service => "a list of at most 64 tables",
             Key::Id => "1 to 65535, once among all links and siblings",
             Key::Kind => "\"core\", \"parent\" or \"child\"",
+            Key::Neighbor => {
+                "an ISD-AS number other than `isd_as`, as \"1-ff00:0:111\" or \"1-64513\""
+            }
             Key::Number => "0 to 32767, once among the services",
         }
     }
@@ -110,7 +118,7 @@ fn key_of_local(table: &Table) -> Option<Key>
     ensures some { is_some result ≡ is_err (local_at (table_view table.now)) }
     ensures key { result ≡ key_of_local (table_view table.now) }
 {
-    if let Err(_) = isd_as_at(table) {
+    if let Err(_) = isd_as_at(table, "isd_as") {
         return Some(Key::IsdAs);
     }
     match key_at(table) {
@@ -158,16 +166,18 @@ fn key_of_sizes(table: &Table) -> Option<Key>
     }
 }
 
-/// The first refused place of a link, which has this number in its list, beside the links before it.
+/// The first refused place of a link of this AS, which has this number in its list, beside the links
+/// before it.
 #[tactic(auto, unfolding(crate::specs::Neighbours::link_of))]
 fn location_of_link(
     version: Version,
+    own: (u16, u64),
     given: &[Link],
     number: usize,
     member: &Value,
 ) -> Option<Location>
-    ensures some { is_some result ≡ is_err (link_of version given.now (view member.now)) }
-    ensures location { result ≡ location_of_link version given.now number (view member.now) }
+    ensures some { is_some result ≡ is_err (link_of version own (map link_id given.now) (view member.now)) }
+    ensures location { result ≡ location_of_link version own given.now number (view member.now) }
 {
     let Some(table) = member.as_table() else {
         return Some(Location::Member(Key::Link, number));
@@ -184,9 +194,12 @@ fn location_of_link(
     if let Err(_) = address_at(table, "remote") {
         return Some(Location::MemberValue(Key::Link, number, Key::Remote));
     }
-    match bands_at(version, table, "bands") {
+    if let Err(_) = bands_at(version, table, "bands") {
+        return Some(Location::MemberValue(Key::Link, number, Key::Bands));
+    }
+    match neighbor_at(own, table) {
         Ok(_) => None,
-        Err(_) => Some(Location::MemberValue(Key::Link, number, Key::Bands)),
+        Err(_) => Some(Location::MemberValue(Key::Link, number, Key::Neighbor)),
     }
 }
 
@@ -198,7 +211,7 @@ fn location_of_sibling(
     number: usize,
     member: &Value,
 ) -> Option<Location>
-    ensures some { is_some result ≡ is_err (sibling_of links.now given.now (view member.now)) }
+    ensures some { is_some result ≡ is_err (sibling_of (map link_id links.now) given.now (view member.now)) }
     ensures location { result ≡ location_of_sibling links.now given.now number (view member.now) }
 {
     let Some(table) = member.as_table() else {
@@ -238,6 +251,7 @@ fn location_of_service(given: &[Service], number: usize, member: &Value) -> Opti
 fn location_in_links(
     alloc: Global,
     version: Version,
+    own: (u16, u64),
     members: &Array,
 ) -> Result<Location, AllocError> {
     let mut links = Vec::new(alloc);
@@ -245,10 +259,16 @@ fn location_in_links(
         return Ok(Location::Value(Key::Link));
     }
     for (index, member) in members.iter().enumerate() {
-        if let Some(location) = location_of_link(version, links.as_slice(), index + 1, member) {
+        if let Some(location) = location_of_link(
+            version,
+            own,
+            links.as_slice(),
+            index + 1,
+            member,
+        ) {
             return Ok(location);
         }
-        match read_link(version, links.as_slice(), member) {
+        match read_link(version, own, links.as_slice(), member) {
             Ok(link) => links.push(link)?,
             Err(_) => unreachable!(),
         }
@@ -300,10 +320,11 @@ fn location_in_services(alloc: Global, members: &Array) -> Result<Location, Allo
 fn location_of_links(
     alloc: Global,
     version: Version,
+    own: (u16, u64),
     table: &Table,
 ) -> Result<Location, AllocError> {
     match array_at(table, "link") {
-        Ok(members) => location_in_links(alloc, version, members),
+        Ok(members) => location_in_links(alloc, version, own, members),
         Err(_) => Ok(Location::Value(Key::Link)),
     }
 }
@@ -329,11 +350,16 @@ fn location_of_services(alloc: Global, table: &Table) -> Result<Location, AllocE
 }
 
 /// The first refused place of the lists; it is among the services where links and siblings are sound.
-fn location_around(alloc: Global, version: Version, table: &Table) -> Result<Location, AllocError> {
-    let links = match links_at(alloc, version, table) {
+fn location_around(
+    alloc: Global,
+    version: Version,
+    own: (u16, u64),
+    table: &Table,
+) -> Result<Location, AllocError> {
+    let links = match links_at(alloc, version, own, table) {
         Ok(links) => links,
         Err(ConfigFault::Memory) => return Err(AllocError),
-        Err(_) => return location_of_links(alloc, version, table),
+        Err(_) => return location_of_links(alloc, version, own, table),
     };
     match siblings_at(alloc, links.as_slice(), table) {
         Ok(_) => location_of_services(alloc, table),
@@ -348,6 +374,10 @@ pub(crate) fn location_in(alloc: Global, table: &Table) -> Result<Location, Allo
         Ok(version) => version,
         Err(_) => return Ok(Location::Value(Key::Version)),
     };
+    let own = match isd_as_at(table, "isd_as") {
+        Ok(own) => own,
+        Err(_) => return Ok(Location::Value(Key::IsdAs)),
+    };
     if let Some(key) = key_of_local(table) {
         return Ok(Location::Value(key));
     }
@@ -357,5 +387,5 @@ pub(crate) fn location_in(alloc: Global, table: &Table) -> Result<Location, Allo
     if let Some(key) = key_of_sizes(table) {
         return Ok(Location::Value(key));
     }
-    location_around(alloc, version, table)
+    location_around(alloc, version, own, table)
 }

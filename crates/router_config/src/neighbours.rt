@@ -1,13 +1,15 @@
 //! The members of a configuration's lists: links, siblings' interfaces and services.
-ghost use Rattle.std.specs.Prelude.{◌≡◌, ◌≤◌, ◌==◌, [], IfOk, IsTrue, false, map};
+ghost use Rattle.std.specs.Prelude.{◌≡◌, ◌≤◌, ◌==◌, ◌&&◌, [], IfOk, IsTrue, false, map, option_map};
 ghost use Rattle.std.specs.List.{list_any};
 ghost use Rattle.toml.specs.View.{table_view, view};
 ghost use Rattle.process_packet.specs.Neighbours.{is_link, is_service, is_sibling, link_id, service_number, sibling_id};
-ghost use Rattle.router_config.specs.Neighbours.{id_at, id_of, link_of, number_at, service_of, service_of_number, sibling_of, taken};
+ghost use Rattle.router_config.specs.Fault.{on_ok};
+ghost use Rattle.router_config.specs.Neighbours.{domain_numbers, id_at, id_of, link_of, link_values, neighbor_at, number_at, service_of, service_of_number, sibling_of, taken};
 
-use crate::entry::{Version, address_at, bands_at, integer_at, kind_at};
+use crate::entry::{Version, address_at, bands_at, integer_at, isd_as_at, kind_at};
 use crate::fault::ConfigFault;
 use process_packet::{Link, Service, Sibling};
+use scion_header::Domain;
 use toml::{Table, Value};
 
 /// Whether a link has been given this number.
@@ -106,14 +108,46 @@ pub(crate) fn number_at(given: &[Service], table: &Table) -> Result<u16, ConfigF
     }
 }
 
-/// The link of a member, beside the links that have been given.
+/// Whether both are the numbers of one AS.
+fn is_same_as(one: (u16, u64), other: (u16, u64)) -> bool
+    ensures { result ≡ (one.0 == other.0 && one.1 == other.1) }
+{
+    one.0 == other.0 && one.1 == other.1
+}
+
+/// The AS at the other end of a link of this AS, if a table names it. At `Interface` it is this AS.
+pub(crate) fn neighbor_at(own: (u16, u64), table: &Table) -> Result<Option<Domain>, ConfigFault>
+    ensures { on_ok (option_map domain_numbers) result ≡ neighbor_at own (table_view table.now) }
+{
+    match isd_as_at(table, "neighbor") {
+        Ok(found) => {
+            let (isd, autonomous_system) = found;
+            let neighbor = Domain {
+                isd,
+                autonomous_system,
+            };
+            if is_same_as(found, own) {
+                Err(ConfigFault::Interface)
+            } else {
+                Ok(Some(neighbor))
+            }
+        }
+        Err(fault) => match fault {
+            ConfigFault::Missing => Ok(None),
+            _ => Err(fault),
+        },
+    }
+}
+
+/// The link of this AS that a member tells, beside the links that have been given.
 #[tactic(auto, unfolding(crate::specs::Neighbours::link_of))]
 pub(crate) fn read_link(
     version: Version,
+    own: (u16, u64),
     given: &[Link],
     member: &Value,
 ) -> Result<Link, ConfigFault>
-    ensures value { result ≡ link_of version given.now (view member.now) }
+    ensures value { on_ok link_values result ≡ link_of version own (map link_id given.now) (view member.now) }
     ensures whole { IfOk result (λ link. IsTrue (is_link link)) }
     ensures fresh { IfOk result (λ link. list_any (λ other. other == link.id) (taken given.now []) ≡ false) }
 {
@@ -125,12 +159,14 @@ pub(crate) fn read_link(
     let local = address_at(table, "local")?;
     let remote = address_at(table, "remote")?;
     let bands = bands_at(version, table, "bands")?;
+    let neighbor = neighbor_at(own, table)?;
     Ok(Link {
         id,
         kind,
         local,
         remote,
         bands,
+        neighbor,
     })
 }
 
@@ -141,7 +177,7 @@ pub(crate) fn read_sibling(
     given: &[Sibling],
     member: &Value,
 ) -> Result<Sibling, ConfigFault>
-    ensures value { result ≡ sibling_of links.now given.now (view member.now) }
+    ensures value { result ≡ sibling_of (map link_id links.now) given.now (view member.now) }
     ensures whole { IfOk result (λ sibling. IsTrue (is_sibling sibling)) }
     ensures fresh { IfOk result (λ sibling. list_any (λ other. other == sibling.id) (taken links.now given.now) ≡ false) }
 {
