@@ -1,6 +1,7 @@
 -- The shares handed back: what they posted and still hold, added up.
 use Rattle.std.proofs.Common.{◌≡◌, ℕ, ◌+◌, ◌-◌, ◌*◌, ◌^◌, ◌≤◌, true, List, [], ◌∷◌, ◌++◌, length, refl, sym, ap, ◌∙◌, subst, length-append, arith}
 use Rattle.std.proofs.lemmas.List.Sums.{fold-append}
+use Rattle.process_packet.specs.Cause.{causes}
 use Rattle.process_packet.specs.declared.totals.Totals.{Totals}
 use Rattle.packet_ledger.specs.declared.tokens.View.{View}
 use Rattle.packet_ledger.specs.Amounts.{count_at, nothing, plus}
@@ -33,13 +34,13 @@ gives_all shares m zero' v0 v1 v2 all isZero is1 is2 most i =
     let b = ap (count_at i) isZero in let z = nothing_at i in let s = most i in omega arith
 
 -- with every share taken in, the sums are all that was posted, and the book's token can be as it was
-pub closes : (workers n m : ℕ) (totals zero' : Totals) (shares : List Held) (v0 v1 v2 v3 : View) → workers ≤ 65536 → n ≡ workers → m ≡ n → length totals.dropped ≡ 18 → zero' ≡ nothing
+pub closes : (workers n m : ℕ) (totals zero' : Totals) (shares : List Held) (v0 v1 v2 v3 : View) → workers ≤ 65536 → n ≡ workers → m ≡ n → length totals.dropped ≡ causes → zero' ≡ nothing
     → v0 ≡ keeper (65537 - workers) nothing totals → v1 ≡ gathered n (posted_by shares) v0 → Audited v1 v2 → v3 ≡ kept m zero' v2
     → (v3 ≡ keeper (65537 - workers) nothing totals) × (totals ≡ posted_by shares)
 closes workers n m totals zero' shares v0 v1 v2 v3 few all given long isZero is0 is1 told is3 =
     let parts : 65537 - workers + n ≡ 65537 = omega arith in
     let first : v1 ≡ record { keeps = true; parts = 65537; posted = posted_by shares; booked = totals } = is1 ∙ ap (gathered n (posted_by shares)) is0 ∙ (λ i. record { keeps = true; parts = parts i; posted = posted_by shares; booked = totals }) in
-    let P : View → Type 0 = λ u. (u.parts ≡ 65537 → (i : ℕ) → count_at i u.posted ≡ count_at i u.booked) × (length u.posted.dropped ≡ 18) in
+    let P : View → Type 0 = λ u. (u.parts ≡ 65537 → (i : ℕ) → count_at i u.posted ≡ count_at i u.booked) × (length u.posted.dropped ≡ causes) in
     let whole = subst P first (told.2, told.3) in
     let second = told.0 ∙ first in
     let b = plus_nothing totals long in

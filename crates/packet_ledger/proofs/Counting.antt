@@ -1,6 +1,7 @@
 -- Counts, one by one.
 use Rattle.std.proofs.Common.{◌≡◌, ℕ, zero, suc, ◌+◌, List, [], ◌∷◌, length, replicate, slice_index_or, sym, refl, ap, ◌∙◌, arith}
 use Rattle.std.proofs.lemmas.List.{ext_get_or}
+use Rattle.process_packet.specs.Cause.{causes}
 use Rattle.process_packet.specs.declared.totals.Totals.{Totals}
 use Rattle.packet_ledger.specs.Amounts.{count_at, nothing, add_each, plus}
 use Rattle.std.specs.Prelude.{Bool, true, false, MatchBool}
@@ -14,7 +15,7 @@ pub nothing_at : (i : ℕ) → count_at i nothing ≡ 0
 nothing_at zero = refl
 nothing_at (suc zero) = refl
 nothing_at (suc (suc zero)) = refl
-nothing_at (suc (suc (suc k))) = zero_of 18 k
+nothing_at (suc (suc (suc k))) = zero_of causes k
 
 pub each_at : (xs ys : List ℕ) (k : ℕ) → slice_index_or (add_each xs ys) k 0 ≡ slice_index_or xs k 0 + slice_index_or ys k 0
 each_at [] ys k = omega arith
@@ -41,11 +42,11 @@ same_counts a b long each =
     let first : a.received ≡ b.received = each 0 in let second : a.sent ≡ b.sent = each 1 in let third : a.answered ≡ b.answered = each 2 in
     λ i. record { received = first i; sent = second i; answered = third i; dropped = drops i }
 
-pub plus_nothing : (a : Totals) → length a.dropped ≡ 18 → plus a nothing ≡ a
-plus_nothing a long = same_counts (plus a nothing) a (length-add_each 18 a.dropped (replicate 18 0) long refl ∙ sym long) (λ i. let p = plus_at i a nothing in let z = nothing_at i in omega arith)
+pub plus_nothing : (a : Totals) → length a.dropped ≡ causes → plus a nothing ≡ a
+plus_nothing a long = same_counts (plus a nothing) a (length-add_each causes a.dropped (replicate causes 0) long refl ∙ sym long) (λ i. let p = plus_at i a nothing in let z = nothing_at i in omega arith)
 
-pub nothing_plus : (a : Totals) → length a.dropped ≡ 18 → plus nothing a ≡ a
-nothing_plus a long = same_counts (plus nothing a) a (length-add_each 18 (replicate 18 0) a.dropped refl long ∙ sym long) (λ i. let p = plus_at i nothing a in let z = nothing_at i in omega arith)
+pub nothing_plus : (a : Totals) → length a.dropped ≡ causes → plus nothing a ≡ a
+nothing_plus a long = same_counts (plus nothing a) a (length-add_each causes (replicate causes 0) a.dropped refl long ∙ sym long) (λ i. let p = plus_at i nothing a in let z = nothing_at i in omega arith)
 
 -- an answer by cases, read otherwise
 pub match_as : {P Q P' Q' : Type 0} → (b : Bool) → (P → P') → (Q → Q') → MatchBool b P Q → MatchBool b P' Q'

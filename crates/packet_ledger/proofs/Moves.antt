@@ -4,6 +4,7 @@ use mathlib.Core.Option.{some, some-ne-none, some-injective}
 use lib.ListN.{get_elem?}
 use Rattle.crossbeam_utils.specs.Register.{Turns, Forks, Merges}
 use Rattle.atomic_table.proofs.Lists.{at_set, at_snoc, set_again}
+use Rattle.process_packet.specs.Cause.{causes}
 use Rattle.process_packet.specs.declared.totals.Totals.{Totals}
 use Rattle.packet_ledger.specs.declared.tokens.View.{View}
 use Rattle.packet_ledger.specs.Amounts.{count_at, nothing, plus, AtMost}
@@ -49,7 +50,7 @@ begins words = record {
     one (suc by) v e = absurd (some-ne-none v (sym e))
 
 -- the book's token gives parts away, with what it knew as posted and these counts
-pub gives : (by : ℕ) (v : View) (n : ℕ) (counts : Totals) → v.keeps ≡ true → n ≤ v.parts → ((i : ℕ) → count_at i v.posted + count_at i counts ≤ n * 2 ^ 109) → length counts.dropped ≡ 18
+pub gives : (by : ℕ) (v : View) (n : ℕ) (counts : Totals) → v.keeps ≡ true → n ≤ v.parts → ((i : ℕ) → count_at i v.posted + count_at i counts ≤ n * 2 ^ 109) → length counts.dropped ≡ causes
     → Forks Balanced by v (kept n counts v) (given n counts v)
 gives by v n counts keeps enough few long words views h at =
     let l = kept n counts v in let r = given n counts v in let vs = set views by l in
@@ -60,7 +61,7 @@ gives by v n counts keeps enough few long words views h at =
     let a = total_set f views by v l at in let b = total_new f vs r in let z = nothing_at i in let p = plus_at i v.posted counts in omega arith in
     let F = Fits h.seat (posted_at (vs ++ r ∷ [])) in
     let left : F by l = ((λ _. (seat.0, λ i. let b = seat.1 i in let p = plus_at i v.booked counts in let s = sum i in omega arith)), (λ i. let z = nothing_at i in omega arith), refl) in
-    let right : (j : ℕ) → F j r = λ j. ((λ e. off e), (λ i. let o = few i in let p = plus_at i v.posted counts in omega arith), length-add_each 18 v.posted.dropped counts.dropped mine.2 long) in
+    let right : (j : ℕ) → F j r = λ j. ((λ e. off e), (λ i. let o = few i in let p = plus_at i v.posted counts in omega arith), length-add_each causes v.posted.dropped counts.dropped mine.2 long) in
     let others = all_set F views by l left (λ j u apart e. let was = h.fits j u e in ((λ k. absurd (apart ((was.0 k).0 ∙ sym seat.0))), was.1, was.2)) in record {
       seat = h.seat;
       whole = (
@@ -84,7 +85,7 @@ takes by v other w words views h at apart there =
     let one : F by both = (
       (λ k. ((mine.0 k).0, λ i. (mine.0 k).1 i ∙ sym (sum i))),
       (λ i. let a = mine.1 i in let b = theirs.1 i in let p = plus_at i v.posted w.posted in omega arith),
-      length-add_each 18 v.posted.dropped w.posted.dropped mine.2 theirs.2,
+      length-add_each causes v.posted.dropped w.posted.dropped mine.2 theirs.2,
     ) in
     let first = all_set F views by both one (λ j u _ e. let was = h.fits j u e in ((λ k. ((was.0 k).0, λ i. (was.0 k).1 i ∙ sym (sum i))), was.1, was.2)) in record {
       seat = h.seat;
@@ -122,7 +123,7 @@ audits by v keeps words views h at =
     )
 
 -- the book's token with a share's taken in
-pub joins : (workers : ℕ) (totals posted zero' : Totals) (v0 v1 v2 w : View) → workers ≤ 65536 → length totals.dropped ≡ 18 → length posted.dropped ≡ 18 → zero' ≡ nothing
+pub joins : (workers : ℕ) (totals posted zero' : Totals) (v0 v1 v2 w : View) → workers ≤ 65536 → length totals.dropped ≡ causes → length posted.dropped ≡ causes → zero' ≡ nothing
     → v0 ≡ keeper (65537 - workers) nothing totals → v1 ≡ kept 0 zero' v0 → w ≡ holder 1 posted → v2 ≡ joined v1 w → v2 ≡ keeper (65538 - workers) posted totals
 joins workers totals posted zero' v0 v1 v2 w few longT longP isZero is0 is1 isW is2 =
     let first : v1 ≡ keeper (65537 - workers) nothing totals =

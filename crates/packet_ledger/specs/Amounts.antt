@@ -1,5 +1,6 @@
 -- Counts, and their sums, count by count.
 use Rattle.std.specs.Prelude.{ℕ, zero, suc, ◌+◌, ◌≤◌, List, [], ◌∷◌, replicate, slice_index_or}
+use Rattle.process_packet.specs.Cause.{causes}
 use Rattle.process_packet.specs.declared.totals.Totals.{Totals}
 
 -- the counts one by one: received, sent, answered, and then those dropped, cause by cause
@@ -11,7 +12,7 @@ count_at (suc (suc (suc k))) t = slice_index_or t.dropped k 0
 
 -- no count of any kind
 abbrev pub nothing : Totals
-nothing = record { received = 0; sent = 0; answered = 0; dropped = replicate 18 0 }
+nothing = record { received = 0; sent = 0; answered = 0; dropped = replicate causes 0 }
 
 -- two lists of numbers, added place by place
 abbrev pub add_each : List ℕ → List ℕ → List ℕ

@@ -3,6 +3,7 @@ use Rattle.std.specs.Prelude.{◌≡◌, ℕ, ◌+◌, ◌-◌, ◌*◌, ◌^◌
 use mathlib.Core.Option.{some}
 use lib.ListN.{get_elem?}
 use Rattle.atomic_table.specs.Seated.{TableId}
+use Rattle.process_packet.specs.Cause.{causes}
 use Rattle.process_packet.specs.declared.totals.Totals.{Totals}
 use Rattle.packet_ledger.specs.declared.tokens.View.{View}
 use Rattle.packet_ledger.specs.Amounts.{count_at, nothing, plus}
@@ -57,7 +58,7 @@ abbrev pub Fits : ℕ → (ℕ → ℕ) → ℕ → View → Type 0
 Fits seat sum by v =
     (v.keeps ≡ true → (by ≡ seat) × ((i : ℕ) → count_at i v.booked ≡ sum i))
     × ((i : ℕ) → count_at i v.posted ≤ v.parts * 2 ^ 109)
-    × (length v.posted.dropped ≡ 18)
+    × (length v.posted.dropped ≡ causes)
 
 pub record Balanced (words : List ℕ) (views : List View) : Type 0 where
   pub seat : ℕ
@@ -71,4 +72,4 @@ Audited v w =
     (w ≡ v)
     × ((i : ℕ) → count_at i v.booked ≤ 65537 * 2 ^ 109)
     × (v.parts ≡ 65537 → (i : ℕ) → count_at i v.posted ≡ count_at i v.booked)
-    × (length v.posted.dropped ≡ 18)
+    × (length v.posted.dropped ≡ causes)

@@ -3,7 +3,7 @@
 ghost use Rattle.std.specs.Prelude.{◌≡◌, ◌^◌, ◌≤◌, ℕ, MatchBool, slice_index_or};
 ghost use Rattle.packet_ledger.specs.Amounts.{AtMost, add_each, nothing, plus};
 
-use process_packet::Totals;
+use process_packet::{CAUSES, Totals};
 
 /// The largest value that a sum of one share's posts reaches, in packets. A post that would pass it moves
 /// nothing. The sums of 65,537 such shares stay below 2^126.
@@ -17,7 +17,7 @@ pub fn none() -> Totals
         received: 0,
         sent: 0,
         answered: 0,
-        dropped: [0; 18],
+        dropped: [0; CAUSES],
     }
 }
 
@@ -35,13 +35,13 @@ pub fn added(a: &Totals, b: &Totals) -> Totals
     }
 }
 
-fn added_each(xs: &[u128; 18], ys: &[u128; 18]) -> [u128; 18]
+fn added_each(xs: &[u128; CAUSES], ys: &[u128; CAUSES]) -> [u128; CAUSES]
     requires xs { (k : ℕ) → slice_index_or xs.now k 0 ≤ 2 ^ 126 }
     requires ys { (k : ℕ) → slice_index_or ys.now k 0 ≤ 2 ^ 126 }
     ensures { result ≡ add_each xs.now ys.now }
 {
     let mut sums = *xs;
-    for i in 0..18 {
+    for i in 0..CAUSES {
         sums[i] += ys[i];
     }
     sums
@@ -60,7 +60,7 @@ pub fn at_most(counts: &Totals, most: u128) -> bool
     if counts.answered > most {
         return false;
     }
-    for i in 0..18 {
+    for i in 0..CAUSES {
         if counts.dropped[i] > most {
             return false;
         }

@@ -2,6 +2,7 @@
 
 ghost use Rattle.std.specs.Prelude.{◌≡◌, ℕ, ◌+◌, ◌-◌, ◌*◌, ◌^◌, ◌≤◌, [], true, length};
 ghost use Rattle.crossbeam_utils.specs.Seq.{cell_view};
+ghost use Rattle.process_packet.specs.Cause.{causes};
 ghost use Rattle.packet_ledger.specs.Amounts.{count_at};
 ghost use Rattle.packet_ledger.specs.Tokens.{Audited, given, joined, kept};
 
@@ -95,7 +96,7 @@ pub fn give(cell: &Cell, keeper: &mut Token, parts: usize, counts: &Totals) -> T
     requires own { keeper.old.table_id ≡ cell.now.table.shared.table_id }
     requires keeps { (cell_view keeper.old).keeps ≡ true }
     requires parts { parts ≤ (cell_view keeper.old).parts }
-    requires long { length counts.now.dropped ≡ 18 }
+    requires long { length counts.now.dropped ≡ causes }
     requires few { (i : ℕ) → count_at i (cell_view keeper.old).posted + count_at i counts.now ≤ parts * 2 ^ 109 }
     ensures kept { (keeper.new.table_id ≡ keeper.old.table_id) × (cell_view keeper.new ≡ kept parts counts.now (cell_view keeper.old)) }
     ensures given { (result.table_id ≡ keeper.old.table_id) × (result.me.1 ≡ []) × (cell_view result ≡ given parts counts.now (cell_view keeper.old)) }
@@ -108,7 +109,7 @@ fn give_as<K: Amount>(cell: &Cell, keeper: &mut Token, parts: usize, counts: &To
     requires own { keeper.old.table_id ≡ cell.now.table.shared.table_id }
     requires keeps { (cell_view keeper.old).keeps ≡ true }
     requires parts { parts ≤ (cell_view keeper.old).parts }
-    requires long { length counts.now.dropped ≡ 18 }
+    requires long { length counts.now.dropped ≡ causes }
     requires few { (i : ℕ) → count_at i (cell_view keeper.old).posted + count_at i counts.now ≤ parts * 2 ^ 109 }
     ensures kept { (keeper.new.table_id ≡ keeper.old.table_id) × (cell_view keeper.new ≡ kept parts counts.now (cell_view keeper.old)) }
     ensures given { (result.table_id ≡ keeper.old.table_id) × (result.me.1 ≡ []) × (cell_view result ≡ given parts counts.now (cell_view keeper.old)) }

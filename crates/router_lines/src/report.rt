@@ -5,7 +5,7 @@ ghost use Rattle.router_rules.specs.Links.{link_count};
 ghost use Rattle.router_lines.specs.Report.{count_text, counts_text, drop_line, drops_text, link_line, link_text, name_text, names_text, not_now_text, report};
 
 use pipe_model::{Bytes, Outgoing, World};
-use process_packet::Totals;
+use process_packet::{CAUSES, Totals};
 use router_config::push_decimal;
 use router_rules::{interface_at, link_count};
 use std::alloc::AllocError;
@@ -84,7 +84,7 @@ fn push_drop_line(text: &mut Vec<u8>, cause: usize, count: u128) -> Result<(), A
 }
 
 /// Adds the lines of the causes that something was dropped for.
-pub(crate) fn push_drops(text: &mut Vec<u8>, dropped: &[u128; 18]) -> Result<(), AllocError>
+pub(crate) fn push_drops(text: &mut Vec<u8>, dropped: &[u128; CAUSES]) -> Result<(), AllocError>
     ensures { OnOk result (text.new.items ≡ text.old.items ++ drops_text 1 dropped.now) }
 {
     for (index, count) in dropped.iter().enumerate() {

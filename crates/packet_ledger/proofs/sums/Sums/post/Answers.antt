@@ -1,5 +1,6 @@
 use Rattle.std.proofs.Common.{◌≡◌, ◌-◌, length, rules, sym, ap, ◌∙◌, subst, arith}
 use Rattle.crossbeam_utils.specs.Seq.{cell_view}
+use Rattle.process_packet.specs.Cause.{causes}
 use Rattle.process_packet.specs.declared.totals.Totals.{Totals}
 use Rattle.packet_ledger.specs.Amounts.{AtMost, count_at, nothing, plus}
 use Rattle.packet_ledger.specs.Tokens.{holder, keeper}
@@ -16,8 +17,8 @@ pub give-requires-clause-few : goal.give-requires-clause-few
 give-requires-clause-few g c =
     let totals : Totals = c.self.inside.totals in
     let posted : Totals = c.share.inside.posted in
-    let longT : length totals.dropped ≡ 18 = search rules in
-    let longP : length posted.dropped ≡ 18 = search rules in
+    let longT : length totals.dropped ≡ causes = search rules in
+    let longP : length posted.dropped ≡ causes = search rules in
     let all = joins g.N.Router.workers totals posted c.none.result _ _ _ (cell_view c.replace-token.result) c.self.invariant.3 longT longP c.none.ensures c.self.invariant.1 c.give-spare.ensures.kept.1
     (ap cell_view c.replace-token.ensures.value ∙ c.share.invariant.2) c.take_in.ensures.1 in
     gives_one _ totals posted c.share.inside.counts c.added-posted.result _ (c.audit.ensures.known.0 ∙ all) c.added-posted.ensures c.if-not-at_most.ensures
@@ -26,8 +27,8 @@ pub invariant_of-self : goal.invariant_of-self
 invariant_of-self g c =
     let totals : Totals = c.self.inside.totals in
     let posted : Totals = c.share.inside.posted in
-    let longT : length totals.dropped ≡ 18 = search rules in
-    let longP : length posted.dropped ≡ 18 = search rules in
+    let longT : length totals.dropped ≡ causes = search rules in
+    let longP : length posted.dropped ≡ causes = search rules in
     let all = joins g.N.Router.workers totals posted c.none.result _ _ _ (cell_view c.replace-token.result) c.self.invariant.3 longT longP c.none.ensures c.self.invariant.1 c.give-spare.ensures.kept.1
     (ap cell_view c.replace-token.ensures.value ∙ c.share.invariant.2) c.take_in.ensures.1 in
     let moved = posts g.N.Router.workers totals posted c.share.inside.counts _ _ _ c.self.invariant.3 (c.audit.ensures.known.0 ∙ all) c.give.ensures.kept.1 c.give.ensures.given.2 in (
@@ -41,8 +42,8 @@ pub invariant_of-share : goal.invariant_of-share
 invariant_of-share g c =
     let totals : Totals = c.self.inside.totals in
     let posted : Totals = c.share.inside.posted in
-    let longT : length totals.dropped ≡ 18 = search rules in
-    let longP : length posted.dropped ≡ 18 = search rules in
+    let longT : length totals.dropped ≡ causes = search rules in
+    let longP : length posted.dropped ≡ causes = search rules in
     let all = joins g.N.Router.workers totals posted c.none.result _ _ _ (cell_view c.replace-token.result) c.self.invariant.3 longT longP c.none.ensures c.self.invariant.1 c.give-spare.ensures.kept.1
     (ap cell_view c.replace-token.ensures.value ∙ c.share.invariant.2) c.take_in.ensures.1 in
     let moved = posts g.N.Router.workers totals posted c.share.inside.counts _ _ _ c.self.invariant.3 (c.audit.ensures.known.0 ∙ all) c.give.ensures.kept.1 c.give.ensures.given.2 in (
