@@ -67,6 +67,9 @@ apart cause.NoMemory is = absurd (false≢true is)
 apart cause.Closed is = absurd (false≢true is)
 apart cause.SendFailed is = absurd (false≢true is)
 apart cause.NoBuffer is = absurd (false≢true is)
+apart cause.OneHopEnds is = refl
+apart cause.OneHopField is = refl
+apart cause.OneHopHost is = refl
 
 said : CausesAreApart → (c : Config) (x : Arrival kinds) (why : RouterCause) → IsRuleCauseOf (rules c) x why → IsSaid (is_withheld why) c x why
 said causes c x why (inl drops) = subst (λ (b : Bool). IsSaid b c x why) (sym (apart why ((causes c).decision x.datagram why drops))) drops

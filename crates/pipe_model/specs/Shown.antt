@@ -1,11 +1,12 @@
 -- What is told of a pipeline: what each link sent, where a packet is, how many of them.
-use Rattle.std.specs.Prelude.{ℕ, Bool, ◌==◌, List, [], ◌∷◌, map, slice_index_or, Option, option_map}
+use Rattle.std.specs.Prelude.{ℕ, Bool, ◌==◌, List, [], map, slice_index_or, Option, option_map}
+use Rattle.std.specs.List.{range_with_len}
 use Rattle.pipeline_laws.specs.Place as place
 use Rattle.pipeline_laws.specs.Place.{places}
 use Rattle.pipeline_laws.specs.Totals.{answered_count, dropped_count, received_count, sent_count, waiting_count}
 use Rattle.pipeline_laws.specs.Worker.{Worker, Receiver, Processor, Slow, Forwarder, Controller}
 use Rattle.pipeline_laws.specs.World.{Cause}
-use Rattle.process_packet.specs.Cause.{number_of}
+use Rattle.process_packet.specs.Cause.{causes, number_of}
 use Rattle.process_packet.specs.declared.config.Config.{Config}
 use Rattle.process_packet.specs.declared.totals.Totals.{Totals}
 use Rattle.router_rules.specs.Links.{interface_at, link_index}
@@ -51,15 +52,16 @@ place_of p id number = option_map (stands_in p.config) (first (places (rules_in 
 abbrev pub is_number : ℕ → Cause kinds → Bool
 is_number n w = number_of (booked_as w) == n
 
-abbrev pub causes : List ℕ
-causes = 1 ∷ 2 ∷ 3 ∷ 4 ∷ 5 ∷ 6 ∷ 7 ∷ 8 ∷ 9 ∷ 10 ∷ 11 ∷ 12 ∷ 13 ∷ 14 ∷ 15 ∷ 16 ∷ 17 ∷ 18 ∷ []
+-- those of all causes
+abbrev pub numbers : List ℕ
+numbers = range_with_len 1 causes
 
 abbrev pub totals_of : Pipeline → Totals
 totals_of p = record {
   received = received_count (rules_in p) p.world;
   sent = sent_count p.world;
   answered = answered_count p.world;
-  dropped = map (λ n. dropped_count (is_number n) p.world) causes;
+  dropped = map (λ n. dropped_count (is_number n) p.world) numbers;
 }
 
 abbrev pub waiting_of : Pipeline → ℕ

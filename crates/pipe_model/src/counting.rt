@@ -6,11 +6,11 @@ ghost use Rattle.pipeline_laws.specs.Pipe.{held};
 ghost use Rattle.pipeline_laws.specs.Totals.{packets_in_hand};
 ghost use Rattle.pipeline_laws.specs.World.{Empty};
 ghost use Rattle.pipe_parts.specs.Items.{hand_in, item_in};
-ghost use Rattle.pipe_model.specs.Shown.{causes, is_number, totals_of};
+ghost use Rattle.pipe_model.specs.Shown.{is_number, numbers, totals_of};
 
 use pipe_parts::{Bytes, Entry, Fates, Hand, Hands, Pipe, Sent, is_packet, reason};
 use pipe_steps::State;
-use process_packet::{Config, Totals};
+use process_packet::{CAUSES, Config, Totals};
 use router_rules::{Outgoing, link_count};
 
 /// 1 with a packet in this hand, else 0.
@@ -132,8 +132,8 @@ fn dropped_for(fates: &Fates, number: u8) -> usize
 }
 
 /// How many were dropped for each cause, in the order of the causes' numbers.
-fn dropped(fates: &Fates) -> [u128; 18]
-    ensures { result ≡ map (λ n. count (λ f. is_number n f.cause) fates.now) causes }
+fn dropped(fates: &Fates) -> [u128; CAUSES]
+    ensures { result ≡ map (λ n. count (λ f. is_number n f.cause) fates.now) numbers }
 {
     [
         dropped_for(fates, 1) as u128,
@@ -154,6 +154,9 @@ fn dropped(fates: &Fates) -> [u128; 18]
         dropped_for(fates, 16) as u128,
         dropped_for(fates, 17) as u128,
         dropped_for(fates, 18) as u128,
+        dropped_for(fates, 19) as u128,
+        dropped_for(fates, 20) as u128,
+        dropped_for(fates, 21) as u128,
     ]
 }
 

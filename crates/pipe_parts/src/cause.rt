@@ -27,7 +27,7 @@ pub enum Cause {
     NoBuffer,
 }
 
-/// The cause under which the router counts it, one of the eighteen.
+/// The cause under which the router counts it.
 pub fn reason(cause: Cause) -> RouterCause
     ensures { result ≡ booked_as (cause_in cause) }
 {

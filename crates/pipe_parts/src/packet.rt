@@ -1,18 +1,18 @@
 //! A packet for a processor, and one for the slow path.
 
-ghost use Rattle.std.specs.Prelude.{◌≡◌, None};
-ghost use Rattle.scion_packet.specs.Header.{header_fault};
+ghost use Rattle.std.specs.Prelude.{◌≡◌, ◌≤◌, None, length};
+ghost use Rattle.scion_packet.specs.Header.{front_end};
 ghost use Rattle.scion_packet.specs.Packet.{first_fault};
 
 use crate::came::Came;
 use process_packet::Problem;
 use std::alloc::AllocError;
 
-/// A datagram whose header has no fault.
+/// A datagram whose header has no fault, as its path type says.
 #[derive(Drop)]
 pub struct Packet {
     pub came: Came,
-    pub ghost header_is_sound: { header_fault came.bytes ≡ None },
+    pub ghost addresses_are_there: { front_end came.bytes ≤ length came.bytes },
 }
 
 /// A packet without a fault, and what its sender is to be told.

@@ -32,7 +32,7 @@ impl State {
         let Item::Arrived(came) = first else {
             return Err(StepFault::NotNow);
         };
-        if let Some(reason) = inspect(came.bytes.as_slice()) {
+        if let Some(reason) = inspect(config, came.interface, came.bytes.as_slice()) {
             self.fates.note(first, Cause::Ruled(reason))?;
             self.pipes.advance(seat);
             self.hands.set(seat, None);

@@ -25,16 +25,16 @@ module _ (old : Intake) (x : Arrival kinds) (s : Held) (one : s ≡ counting old
   abbrev after : Stock → List (Offering (Arrival kinds)) → Held → Intake
   after st ps share = record { config = old.config; link = old.link; interface = old.interface; stock = st; processors = ps; share = share }
 
-  pub in_fault : (why : Cause) (t : Held) → inspected x.datagram.bytes ≡ Some why → t ≡ counting s (with_fate why s.counts) → PassedIn x old (after old.stock old.processors t)
+  pub in_fault : (why : Cause) (t : Held) → inspected old.config x.datagram.interface x.datagram.bytes ≡ Some why → t ≡ counting s (with_fate why s.counts) → PassedIn x old (after old.stock old.processors t)
   in_fault why t is two = record { outcome = Counted why; ended = (is, refl, refl); share = two_raised old.share s t why one two; same = (refl, refl, refl) }
 
-  pub in_lack : (st : Stock) (t : Held) → inspected x.datagram.bytes ≡ None → Another old.stock None st → t ≡ counting s (with_fate cause.NoBuffer s.counts) → PassedIn x old (after st old.processors t)
+  pub in_lack : (st : Stock) (t : Held) → inspected old.config x.datagram.interface x.datagram.bytes ≡ None → Another old.stock None st → t ≡ counting s (with_fate cause.NoBuffer s.counts) → PassedIn x old (after st old.processors t)
   in_lack st t clear got two = record { outcome = Lacked; ended = (clear, refl, got); share = two_raised old.share s t cause.NoBuffer one two; same = (refl, refl, refl) }
 
-  pub in_accepted : (st : Stock) (at : ℕ) (ps : List (Offering (Arrival kinds))) → inspected x.datagram.bytes ≡ None → at ≡ place old.config x → GaveAt at x old.processors ps → (b : List ℕ) → Another old.stock (Some b) st → PassedIn x old (after st ps s)
+  pub in_accepted : (st : Stock) (at : ℕ) (ps : List (Offering (Arrival kinds))) → inspected old.config x.datagram.interface x.datagram.bytes ≡ None → at ≡ place old.config x → GaveAt at x old.processors ps → (b : List ℕ) → Another old.stock (Some b) st → PassedIn x old (after st ps s)
   in_accepted st at ps clear is gave b got = record { outcome = Accepted; ended = (clear, subst (λ (k : ℕ). GaveAt k x old.processors ps) is gave, (b, got)); share = one; same = (refl, refl, refl) }
 
-  pub in_refused : (free st : Stock) (at : ℕ) (ps : List (Offering (Arrival kinds))) (t : Held) → inspected x.datagram.bytes ≡ None → at ≡ place old.config x → KeptAt at x old.processors ps → (b : List ℕ) → Another old.stock (Some b) free → (read : List ℕ) → st ≡ stock (Some read) free.free
+  pub in_refused : (free st : Stock) (at : ℕ) (ps : List (Offering (Arrival kinds))) (t : Held) → inspected old.config x.datagram.interface x.datagram.bytes ≡ None → at ≡ place old.config x → KeptAt at x old.processors ps → (b : List ℕ) → Another old.stock (Some b) free → (read : List ℕ) → st ≡ stock (Some read) free.free
       → t ≡ counting s (with_fate cause.ProcessorFull s.counts) → PassedIn x old (after st ps t)
   in_refused free st at ps t clear is kept b got read reserve two = record {
     outcome = Refused;

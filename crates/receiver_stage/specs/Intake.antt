@@ -36,11 +36,11 @@ place c x = processor_of (flow_at false x.datagram.bytes) c.seed c.processors
 -- what became of the datagram, on the ends and the buffers: one with a fault is dropped, for another a buffer is looked for;
 -- without one it is dropped; with one it is offered to its flow's processor, and where that is refused the buffer is kept
 abbrev pub EndedAs : Arrival kinds → Ending Cause → Intake → Intake → Type 0
-EndedAs x (Counted why) old new = (inspected x.datagram.bytes ≡ Some why) × (new.processors ≡ old.processors) × (new.stock ≡ old.stock)
-EndedAs x Lacked old new = (inspected x.datagram.bytes ≡ None) × (new.processors ≡ old.processors) × Another old.stock None new.stock
-EndedAs x Accepted old new = (inspected x.datagram.bytes ≡ None) × GaveAt (place old.config x) x old.processors new.processors × ((buffer : List ℕ) × Another old.stock (Some buffer) new.stock)
+EndedAs x (Counted why) old new = (inspected old.config x.datagram.interface x.datagram.bytes ≡ Some why) × (new.processors ≡ old.processors) × (new.stock ≡ old.stock)
+EndedAs x Lacked old new = (inspected old.config x.datagram.interface x.datagram.bytes ≡ None) × (new.processors ≡ old.processors) × Another old.stock None new.stock
+EndedAs x Accepted old new = (inspected old.config x.datagram.interface x.datagram.bytes ≡ None) × GaveAt (place old.config x) x old.processors new.processors × ((buffer : List ℕ) × Another old.stock (Some buffer) new.stock)
 EndedAs x Refused old new =
-    (inspected x.datagram.bytes ≡ None) × KeptAt (place old.config x) x old.processors new.processors
+    (inspected old.config x.datagram.interface x.datagram.bytes ≡ None) × KeptAt (place old.config x) x old.processors new.processors
     × ((buffer : List ℕ) × (free : Stock) × Another old.stock (Some buffer) free × ((read : List ℕ) × (new.stock ≡ stock (Some read) free.free)))
 
 -- One datagram: it is counted as received, and so is its drop where it was dropped.

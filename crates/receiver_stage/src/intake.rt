@@ -81,7 +81,11 @@ impl<N: Router> Intake<N> {
         ensures passed { PassedIn (arrival self.old.side.link self.old.side.interface number from now (take len self.old.room)) self.old.side self.new.side }
     {
         self.share.received(1);
-        let at = match processor_or_fault(&self.shared.config, self.pool.front(len)) {
+        let at = match processor_or_fault(
+            &self.shared.config,
+            self.interface,
+            self.pool.front(len),
+        ) {
             Ok(at) => at,
             Err(why) => return self.share.fate(why),
         };

@@ -2,7 +2,7 @@
 use Rattle.std.proofs.Common.{◌≡◌, ◌⊎◌, inl, inr, ℕ, zero, suc, ◌+◌, ◌-◌, ◌<◌, ◌≤◌, Bool, eqb, cond, List, [], ◌∷◌, ◌++◌, length, replicate, slice_index_or, slice_set, refl, sym, ap, subst, ◌∙◌, arith, append-nil}
 use Rattle.std.proofs.lemmas.Bool.{cases_eq, ne_eqb, eq-eqb}
 use Rattle.pipeline_laws.proofs.Sums.{total-append}
-use Rattle.process_packet.specs.Cause.{number_of}
+use Rattle.process_packet.specs.Cause.{causes, number_of}
 use Rattle.process_packet.specs.Totals.{dropped_for}
 use Rattle.process_packet.specs.declared.cause.Cause.{Cause}
 use Rattle.process_packet.specs.declared.cause.Cause.TheVariants as cause
@@ -47,7 +47,7 @@ add_long [] (y ∷ ys) e = absurd (omega arith)
 add_long (x ∷ xs) [] e = absurd (omega arith)
 add_long (x ∷ xs) (y ∷ ys) e = let r = add_long xs ys (omega arith) in omega arith
 
--- counts of 18 causes each, added
+-- counts of all causes, added
 pub sum_at : (a b : Totals) → length a.dropped ≡ length b.dropped → (i : ℕ) → count_at i (plus a b) ≡ count_at i a + count_at i b
 sum_at a b long zero = refl
 sum_at a b long (suc zero) = refl
@@ -57,7 +57,7 @@ sum_at a b long (suc (suc (suc k))) = add_at a.dropped b.dropped k long
 pub sum_long : (a b : Totals) → length a.dropped ≡ length b.dropped → length (plus a b).dropped ≡ length a.dropped
 sum_long a b long = add_long a.dropped b.dropped long
 
-pub number_small : (why : Cause) → (1 ≤ number_of why) × (number_of why ≤ 18)
+pub number_small : (why : Cause) → (1 ≤ number_of why) × (number_of why ≤ causes)
 number_small cause.Short = (omega arith, omega arith)
 number_small cause.Version = (omega arith, omega arith)
 number_small cause.PathType = (omega arith, omega arith)
@@ -76,9 +76,12 @@ number_small cause.NoMemory = (omega arith, omega arith)
 number_small cause.Closed = (omega arith, omega arith)
 number_small cause.SendFailed = (omega arith, omega arith)
 number_small cause.NoBuffer = (omega arith, omega arith)
+number_small cause.OneHopEnds = (omega arith, omega arith)
+number_small cause.OneHopField = (omega arith, omega arith)
+number_small cause.OneHopHost = (omega arith, omega arith)
 
 -- one drop more
-fate_at : (t : Totals) (why : Cause) → length t.dropped ≡ 18 → (i : ℕ) → count_at i (with_fate why t) ≡ count_at i t + cond (eqb (2 + number_of why) i) 1 0
+fate_at : (t : Totals) (why : Cause) → length t.dropped ≡ causes → (i : ℕ) → count_at i (with_fate why t) ≡ count_at i t + cond (eqb (2 + number_of why) i) 1 0
 fate_at t why long zero = omega (arith, no (2 + number_of why) 0 (λ e. omega arith))
 fate_at t why long (suc zero) = omega (arith, no (2 + number_of why) 1 (λ e. let s = (number_small why).0 in omega arith))
 fate_at t why long (suc (suc zero)) = omega (arith, no (2 + number_of why) 2 (λ e. let s = (number_small why).0 in omega arith))
@@ -110,7 +113,7 @@ answered_at t (suc (suc zero)) = refl
 answered_at t (suc (suc (suc k))) = omega (arith, no 2 (suc (suc (suc k))) (λ e. omega arith))
 
 -- any change of the share's counts
-changed : (share : Held) (raised : List (Count kinds)) (k : Count kinds) (counts : Totals) → Counts share raised → ((i : ℕ) → count_at i counts ≡ count_at i share.counts + counts_at i k) → length counts.dropped ≡ 18
+changed : (share : Held) (raised : List (Count kinds)) (k : Count kinds) (counts : Totals) → Counts share raised → ((i : ℕ) → count_at i counts ≡ count_at i share.counts + counts_at i k) → length counts.dropped ≡ causes
     → Counts (counting share counts) (raised ++ k ∷ [])
 changed share raised k counts is more long = record {
   each = λ i. let a = is.each i in let b = more i in let t = total-append (counts_at i) raised (k ∷ []) in omega arith;
@@ -142,7 +145,7 @@ pub nothing_at : (i : ℕ) → count_at i nothing ≡ zero
 nothing_at zero = refl
 nothing_at (suc zero) = refl
 nothing_at (suc (suc zero)) = refl
-nothing_at (suc (suc (suc k))) = none 18 k
+nothing_at (suc (suc (suc k))) = none causes k
   where
     none : (n k : ℕ) → slice_index_or (replicate n zero) k zero ≡ zero
     none zero k = refl

@@ -11,7 +11,7 @@ use Rattle.std.proofs.lemmas.Bool.{cases_eq, ne_eqb, eq-eqb}
 use Rattle.pipeline_laws.proofs.Counted.{sum_below, sum_add, sum_zero, sum_one}
 use Rattle.pipeline_laws.proofs.Stages.{each_map}
 use Rattle.pipeline_laws.proofs.Sums.{count-total}
-use Rattle.process_packet.specs.Cause.{number_of}
+use Rattle.process_packet.specs.Cause.{causes, number_of}
 use Rattle.process_packet.specs.Totals.{dropped_for}
 use Rattle.process_packet.specs.declared.cause.Cause.{Cause}
 use Rattle.process_packet.specs.declared.cause.Cause.TheVariants as cause
@@ -36,13 +36,13 @@ use Rattle.router_laws.proofs.Shares.{sum_at, sum_long, nothing_at, number_small
 module _ (f : Held → Totals) where
   abbrev AllLong : List Held → Type 0
   AllLong [] = Unit {0}
-  AllLong (s ∷ shares) = (length (f s).dropped ≡ 18) × AllLong shares
+  AllLong (s ∷ shares) = (length (f s).dropped ≡ causes) × AllLong shares
 
-  fold_long : (shares : List Held) (z : Totals) → length z.dropped ≡ 18 → AllLong shares → length (fold (λ (t : Totals) (s : Held). plus t (f s)) z shares).dropped ≡ 18
+  fold_long : (shares : List Held) (z : Totals) → length z.dropped ≡ causes → AllLong shares → length (fold (λ (t : Totals) (s : Held). plus t (f s)) z shares).dropped ≡ causes
   fold_long [] z long all = long
   fold_long (s ∷ shares) z long all = fold_long shares (plus z (f s)) (sum_long z (f s) (long ∙ sym all.0) ∙ long) all.1
 
-  fold_at : (shares : List Held) (z : Totals) → length z.dropped ≡ 18 → AllLong shares → (i : ℕ) → count_at i (fold (λ (t : Totals) (s : Held). plus t (f s)) z shares) ≡ count_at i z + total (λ s. count_at i (f s)) shares
+  fold_at : (shares : List Held) (z : Totals) → length z.dropped ≡ causes → AllLong shares → (i : ℕ) → count_at i (fold (λ (t : Totals) (s : Held). plus t (f s)) z shares) ≡ count_at i z + total (λ s. count_at i (f s)) shares
   fold_at [] z long all i = omega arith
   fold_at (s ∷ shares) z long all i =
       let r = fold_at shares (plus z (f s)) (sum_long z (f s) (long ∙ sym all.0) ∙ long) all.1 i in
@@ -80,7 +80,7 @@ shares_add_up shares raised c i =
     let e = each_share i shares raised c in
     omega arith
 
-totals_long : (shares : List Held) (raised : List (List (Count kinds))) → AreCounted shares raised → length (totals_of shares).dropped ≡ 18
+totals_long : (shares : List Held) (raised : List (List (Count kinds))) → AreCounted shares raised → length (totals_of shares).dropped ≡ causes
 totals_long shares raised c =
     let a = fold_long (λ s. s.posted) shares nothing refl (posted_long shares raised c) in
     let b = fold_long (λ s. s.counts) shares nothing refl (counts_long shares raised c) in
@@ -88,7 +88,11 @@ totals_long shares raised c =
 
 -- ---- causes by their numbers
 
-decided_is : (why : Cause) → is_decided why ≡ true → (number_of why ≤ 8) ⊎ (number_of why ≡ 11)
+-- a number of a cause of the decision's or of the answers': no pipe's, no device's and not that of want of memory
+abbrev IsRuledNumber : ℕ → Type 0
+IsRuledNumber n = (n ≤ 11) ⊎ (19 ≤ n)
+
+decided_is : (why : Cause) → is_decided why ≡ true → (number_of why ≤ 8) ⊎ ((number_of why ≡ 11) ⊎ (19 ≤ number_of why))
 decided_is cause.Short e = inl (omega arith)
 decided_is cause.Version e = inl (omega arith)
 decided_is cause.PathType e = inl (omega arith)
@@ -99,7 +103,7 @@ decided_is cause.UnderlaySource e = inl (omega arith)
 decided_is cause.PathEnd e = inl (omega arith)
 decided_is cause.NoAnswer e = absurd cc
 decided_is cause.NoWayBack e = absurd cc
-decided_is cause.TooLong e = inr refl
+decided_is cause.TooLong e = inr (inl refl)
 decided_is cause.ProcessorFull e = absurd cc
 decided_is cause.LinkFull e = absurd cc
 decided_is cause.AnswerFull e = absurd cc
@@ -107,6 +111,9 @@ decided_is cause.NoMemory e = absurd cc
 decided_is cause.Closed e = absurd cc
 decided_is cause.SendFailed e = absurd cc
 decided_is cause.NoBuffer e = absurd cc
+decided_is cause.OneHopEnds e = inr (inr (omega arith))
+decided_is cause.OneHopField e = inr (inr (omega arith))
+decided_is cause.OneHopHost e = inr (inr (omega arith))
 
 withheld_is : (why : Cause) → is_withheld why ≡ true → (9 ≤ number_of why) × (number_of why ≤ 10)
 withheld_is cause.Short e = absurd cc
@@ -127,20 +134,33 @@ withheld_is cause.NoMemory e = absurd cc
 withheld_is cause.Closed e = absurd cc
 withheld_is cause.SendFailed e = absurd cc
 withheld_is cause.NoBuffer e = absurd cc
+withheld_is cause.OneHopEnds e = absurd cc
+withheld_is cause.OneHopField e = absurd cc
+withheld_is cause.OneHopHost e = absurd cc
 
-decided_small : (why : Cause) → is_decided why ≡ true → number_of why ≤ 11
-decided_small why is = go (decided_is why is)
+decided_ruled : (why : Cause) → is_decided why ≡ true → IsRuledNumber (number_of why)
+decided_ruled why is = go (decided_is why is)
   where
-    go : (number_of why ≤ 8) ⊎ (number_of why ≡ 11) → number_of why ≤ 11
-    go (inl le) = omega arith
-    go (inr e) = omega arith
+    go : (number_of why ≤ 8) ⊎ ((number_of why ≡ 11) ⊎ (19 ≤ number_of why)) → IsRuledNumber (number_of why)
+    go (inl le) = inl (omega arith)
+    go (inr (inl e)) = inl (omega arith)
+    go (inr (inr ge)) = inr ge
+
+withheld_ruled : (why : Cause) → is_withheld why ≡ true → IsRuledNumber (number_of why)
+withheld_ruled why is = inl (let small = (withheld_is why is).1 in omega arith)
+
+-- and such a number is none of the places from 14 to 20
+elsewhere : (n i : ℕ) → IsRuledNumber n → 14 ≤ i → i ≤ 20 → 2 + n ≡ i → ⊥
+elsewhere n i (inl le) from to e = omega arith
+elsewhere n i (inr ge) from to e = omega arith
 
 apart : (a b : Cause) → is_decided a ≡ true → is_withheld b ≡ true → number_of a ≡ number_of b → ⊥
 apart a b d w same = let z = withheld_is b w in go z.0 z.1 (decided_is a d)
   where
-    go : 9 ≤ number_of b → number_of b ≤ 10 → (number_of a ≤ 8) ⊎ (number_of a ≡ 11) → ⊥
+    go : 9 ≤ number_of b → number_of b ≤ 10 → (number_of a ≤ 8) ⊎ ((number_of a ≡ 11) ⊎ (19 ≤ number_of a)) → ⊥
     go from to (inl le) = omega arith
-    go from to (inr e) = omega arith
+    go from to (inr (inl e)) = omega arith
+    go from to (inr (inr ge)) = omega arith
 
 dropped_at : (t : Totals) (why : Cause) → dropped_for t why ≡ count_at (2 + number_of why) t
 dropped_at t cause.Short = refl
@@ -161,6 +181,9 @@ dropped_at t cause.NoMemory = refl
 dropped_at t cause.Closed = refl
 dropped_at t cause.SendFailed = refl
 dropped_at t cause.NoBuffer = refl
+dropped_at t cause.OneHopEnds = refl
+dropped_at t cause.OneHopField = refl
+dropped_at t cause.OneHopHost = refl
 
 abbrev at_place : ℕ → Count kinds → Bool
 at_place i k = eqb (place_of k) i
@@ -183,22 +206,22 @@ index_is [] k x at = absurd cc
 index_is (y ∷ xs) zero x at = let same : y ≡ x = cc in same
 index_is (y ∷ xs) (suc k) x at = index_is xs k x at
 
--- each count of a drop is one of the 18
-one_place : (k : Count kinds) → sum_to 18 (λ j. counts_at (3 + j) k) ≡ cond (is_dropped k) 1 0
-one_place Received = sum_below 18 (λ j. counts_at (3 + j) Received) (λ j. 0) (λ j lt. ap (λ (b : Bool). cond b 1 0) (ne_eqb 0 (3 + j) (λ e. omega arith))) ∙ sum_zero 18
-one_place Sent = sum_below 18 (λ j. counts_at (3 + j) Sent) (λ j. 0) (λ j lt. ap (λ (b : Bool). cond b 1 0) (ne_eqb 1 (3 + j) (λ e. omega arith))) ∙ sum_zero 18
-one_place Replied = sum_below 18 (λ j. counts_at (3 + j) Replied) (λ j. 0) (λ j lt. ap (λ (b : Bool). cond b 1 0) (ne_eqb 2 (3 + j) (λ e. omega arith))) ∙ sum_zero 18
+-- each count of a drop is that of one cause
+one_place : (k : Count kinds) → sum_to causes (λ j. counts_at (3 + j) k) ≡ cond (is_dropped k) 1 0
+one_place Received = sum_below causes (λ j. counts_at (3 + j) Received) (λ j. 0) (λ j lt. ap (λ (b : Bool). cond b 1 0) (ne_eqb 0 (3 + j) (λ e. omega arith))) ∙ sum_zero causes
+one_place Sent = sum_below causes (λ j. counts_at (3 + j) Sent) (λ j. 0) (λ j lt. ap (λ (b : Bool). cond b 1 0) (ne_eqb 1 (3 + j) (λ e. omega arith))) ∙ sum_zero causes
+one_place Replied = sum_below causes (λ j. counts_at (3 + j) Replied) (λ j. 0) (λ j lt. ap (λ (b : Bool). cond b 1 0) (ne_eqb 2 (3 + j) (λ e. omega arith))) ∙ sum_zero causes
 one_place (Dropped c) =
     let n : ℕ = number_of (booked_as c) in
     let small = number_small (booked_as c) in
-    sum_below 18 (λ j. counts_at (3 + j) (Dropped c)) (λ j. cond (eqb (n - 1) j) 1 0) (λ j lt. ap (λ (b : Bool). cond b 1 0) (same j (cases_eq (number_of (booked_as c) - 1) j))) ∙ sum_one 18 (n - 1) 1 (omega arith)
+    sum_below causes (λ j. counts_at (3 + j) (Dropped c)) (λ j. cond (eqb (n - 1) j) 1 0) (λ j lt. ap (λ (b : Bool). cond b 1 0) (same j (cases_eq (number_of (booked_as c) - 1) j))) ∙ sum_one causes (n - 1) 1 (omega arith)
   where
     same : (j : ℕ) → (number_of (booked_as c) - 1 ≡ j) ⊎ (number_of (booked_as c) - 1 ≡ j → ⊥) → eqb (2 + number_of (booked_as c)) (3 + j) ≡ eqb (number_of (booked_as c) - 1) j
     same j (inl e) = let s = number_small (booked_as c) in eq-eqb (2 + number_of (booked_as c)) (3 + j) (omega arith) ∙ sym (eq-eqb (number_of (booked_as c) - 1) j e)
     same j (inr n) = let s = number_small (booked_as c) in ne_eqb (2 + number_of (booked_as c)) (3 + j) (λ e. n (omega arith)) ∙ sym (ne_eqb (number_of (booked_as c) - 1) j n)
 
-all_dropped : (ks : List (Count kinds)) → sum_to 18 (λ j. times (3 + j) ks) ≡ count is_dropped ks
-all_dropped ks = sum_total 18 (λ j. counts_at (3 + j)) ks ∙ total_same (λ k. sum_to 18 (λ j. counts_at (3 + j) k)) (λ k. cond (is_dropped k) 1 0) ks one_place ∙ sym (count-total is_dropped ks)
+all_dropped : (ks : List (Count kinds)) → sum_to causes (λ j. times (3 + j) ks) ≡ count is_dropped ks
+all_dropped ks = sum_total causes (λ j. counts_at (3 + j)) ks ∙ total_same (λ k. sum_to causes (λ j. counts_at (3 + j) k)) (λ k. cond (is_dropped k) 1 0) ks one_place ∙ sym (count-total is_dropped ks)
 
 -- the first three places
 place_received : (k : Count kinds) → counts_at 0 k ≡ cond (is_received k) 1 0
@@ -249,7 +272,7 @@ counted_as Refused f p = tt
 counted_as Lacked f p = tt
 counted_as (Counted c) f p = f c p
 
-module _ (c : Config) (v : Views kinds) (s : SlowViews kinds) (causes : CausesAreApart) (reasons : HasReasons (rules c) v s) where
+module _ (c : Config) (v : Views kinds) (s : SlowViews kinds) (apart_is : CausesAreApart) (reasons : HasReasons (rules c) v s) where
   abbrev R : Rules kinds
   R = rules c
 
@@ -260,13 +283,13 @@ module _ (c : Config) (v : Views kinds) (s : SlowViews kinds) (causes : CausesAr
   IsReplys why = is_withheld why ≡ true
 
   received_for : (p : ℕ) → p < R.links → Each (λ (d : Deed Cause (Arrival kinds)). if_counted d.end IsOwn) (v.received p)
-  received_for p lt = each_map (λ (d : Deed Cause (Arrival kinds)) h. counted_as d.end (λ why is. (causes c).decision d.item.datagram why is) h.1) (v.received p) (reasons.receivers p lt)
+  received_for p lt = each_map (λ (d : Deed Cause (Arrival kinds)) h. counted_as d.end (λ why is. (apart_is c).decision d.item.datagram why is) h.1) (v.received p) (reasons.receivers p lt)
 
   worked_for : (i : ℕ) → i < R.processors → Each (λ (d : Deed Cause (Arrival kinds)). if_counted d.end IsOwn) (v.worked i)
-  worked_for i lt = each_map (λ (d : Deed Cause (Arrival kinds)) h. counted_as d.end (λ why is. (causes c).decision d.item.datagram why is) h.1) (v.worked i) (reasons.processors i lt)
+  worked_for i lt = each_map (λ (d : Deed Cause (Arrival kinds)) h. counted_as d.end (λ why is. (apart_is c).decision d.item.datagram why is) h.1) (v.worked i) (reasons.processors i lt)
 
   answered_for : Each (λ (d : Deed Cause (SlowPathRequest kinds)). if_counted d.end IsReplys) s.worked
-  answered_for = each_map (λ (d : Deed Cause (SlowPathRequest kinds)) h. counted_as d.end (λ why is. (causes c).reply d.item.arrival.datagram d.item.problem why is) h.1) s.worked reasons.slow
+  answered_for = each_map (λ (d : Deed Cause (SlowPathRequest kinds)) h. counted_as d.end (λ why is. (apart_is c).reply d.item.arrival.datagram d.item.problem why is) h.1) s.worked reasons.slow
 
   -- no receiver and no processor counts for a cause that isn't its own, and the slow path for none but the reply's
   decided_zero : (test : Cause → Bool) → ((why : Cause) → is_decided why ≡ true → test why ≡ false) → decided_count R v test ≡ 0
@@ -280,10 +303,10 @@ module _ (c : Config) (v : Views kinds) (s : SlowViews kinds) (causes : CausesAr
   withheld_zero : (test : Cause → Bool) → ((why : Cause) → is_withheld why ≡ true → test why ≡ false) → counted_in test s.worked ≡ 0
   withheld_zero test none = counted_zero IsReplys test s.worked none answered_for
 
-  ruled_zero : (test : Cause → Bool) → ((why : Cause) → number_of why ≤ 11 → test why ≡ false) → ruled_count R v s test ≡ 0
+  ruled_zero : (test : Cause → Bool) → ((why : Cause) → IsRuledNumber (number_of why) → test why ≡ false) → ruled_count R v s test ≡ 0
   ruled_zero test none =
-      let a = decided_zero test (λ why is. none why (decided_small why is)) in
-      let b = withheld_zero test (λ why is. none why (let w = (withheld_is why is).1 in omega arith)) in
+      let a = decided_zero test (λ why is. none why (decided_ruled why is)) in
+      let b = withheld_zero test (λ why is. none why (withheld_ruled why is)) in
       omega arith
 
   ruled_agree : (test other : Cause → Bool) → ((why : Cause) → test why ≡ other why) → ruled_count R v s test ≡ ruled_count R v s other
@@ -303,14 +326,14 @@ module _ (c : Config) (v : Views kinds) (s : SlowViews kinds) (causes : CausesAr
     count_is : (i : ℕ) → count_at i t ≡ by_cause R v s went (at_place i)
     count_is i = shares_add_up shares raised counted i ∙ total_same (times i) (λ ks. count (at_place i) ks) raised (times_are i) ∙ adds (at_place i) ∙ counts.each (at_place i)
 
-    none_ruled : (i : ℕ) → 14 ≤ i → ruled_count R v s (λ why. eqb (2 + number_of why) i) ≡ 0
-    none_ruled i ge = ruled_zero (λ why. eqb (2 + number_of why) i) (λ why small. ne_eqb (2 + number_of why) i (λ e. omega arith))
+    none_ruled : (i : ℕ) → 14 ≤ i → i ≤ 20 → ruled_count R v s (λ why. eqb (2 + number_of why) i) ≡ 0
+    none_ruled i from to = ruled_zero (λ why. eqb (2 + number_of why) i) (λ why ruled. ne_eqb (2 + number_of why) i (elsewhere (number_of why) i ruled from to))
 
     first_ruled : (i : ℕ) → i ≤ 2 → ruled_count R v s (λ why. eqb (2 + number_of why) i) ≡ 0
     first_ruled i le = ruled_zero (λ why. eqb (2 + number_of why) i) (λ why is. ne_eqb (2 + number_of why) i (λ e. let small = (number_small why).0 in omega arith))
 
-    ruled_is : (why : Cause) → number_of why ≤ 11 → dropped_for t why ≡ ruled_count R v s (λ b. same_cause b why)
-    ruled_is why small =
+    ruled_is : (why : Cause) → IsRuledNumber (number_of why) → dropped_for t why ≡ ruled_count R v s (λ b. same_cause b why)
+    ruled_is why ruled =
         let n : ℕ = number_of why in
         let least = (number_small why).0 in
         let all = dropped_at t why ∙ count_is (2 + n) in
@@ -318,12 +341,12 @@ module _ (c : Config) (v : Views kinds) (s : SlowViews kinds) (causes : CausesAr
         let a = off 0 (2 + n) (received_count R v) (λ e. omega arith) in
         let b = off 1 (2 + n) (went_count R went was_sent) (λ e. omega arith) in
         let d = off 2 (2 + n) (went_count R went was_replied) (λ e. omega arith) in
-        let e = off 14 (2 + n) (full_processors R v) (λ e. omega arith) in
-        let f = off 15 (2 + n) (full_links R v s) (λ e. omega arith) in
-        let g = off 16 (2 + n) (full_slow R v) (λ e. omega arith) in
-        let h = off 18 (2 + n) (swept_count R v) (λ e. omega arith) in
-        let k = off 19 (2 + n) (went_count R went was_refused) (λ e. omega arith) in
-        let l = off 20 (2 + n) (no_buffer_count R v) (λ e. omega arith) in
+        let e = off 14 (2 + n) (full_processors R v) (λ e. elsewhere n 14 ruled (omega arith) (omega arith) (sym e)) in
+        let f = off 15 (2 + n) (full_links R v s) (λ e. elsewhere n 15 ruled (omega arith) (omega arith) (sym e)) in
+        let g = off 16 (2 + n) (full_slow R v) (λ e. elsewhere n 16 ruled (omega arith) (omega arith) (sym e)) in
+        let h = off 18 (2 + n) (swept_count R v) (λ e. elsewhere n 18 ruled (omega arith) (omega arith) (sym e)) in
+        let k = off 19 (2 + n) (went_count R went was_refused) (λ e. elsewhere n 19 ruled (omega arith) (omega arith) (sym e)) in
+        let l = off 20 (2 + n) (no_buffer_count R v) (λ e. elsewhere n 20 ruled (omega arith) (omega arith) (sym e)) in
         omega arith
       where
         eq_more : (a b : ℕ) → eqb (2 + a) (2 + b) ≡ eqb a b
@@ -340,8 +363,8 @@ module _ (c : Config) (v : Views kinds) (s : SlowViews kinds) (causes : CausesAr
     dropped_sum =
         over (λ n. n) t.dropped (λ k. slice_index_or t.dropped k 0) (λ k x at. index_is t.dropped k x at)
         ∙ ap (λ (n : ℕ). sum_to n (λ k. slice_index_or t.dropped k 0)) (totals_long shares raised counted)
-        ∙ sum_below 18 (λ k. slice_index_or t.dropped k 0) (λ k. total (times (3 + k)) raised) (λ k lt. as_count k ∙ shares_add_up shares raised counted (3 + k))
-        ∙ sum_total 18 (λ k. times (3 + k)) raised ∙ total_same (λ ks. sum_to 18 (λ j. times (3 + j) ks)) (λ ks. count is_dropped ks) raised all_dropped
+        ∙ sum_below causes (λ k. slice_index_or t.dropped k 0) (λ k. total (times (3 + k)) raised) (λ k lt. as_count k ∙ shares_add_up shares raised counted (3 + k))
+        ∙ sum_total causes (λ k. times (3 + k)) raised ∙ total_same (λ ks. sum_to causes (λ j. times (3 + j) ks)) (λ ks. count is_dropped ks) raised all_dropped
       where
         as_count : (k : ℕ) → slice_index_or t.dropped k 0 ≡ count_at (3 + k) t
         as_count k = let n : 3 + k ≡ suc (suc (suc k)) = omega arith in sym (ap (λ (i : ℕ). count_at i t) n)
@@ -352,18 +375,18 @@ module _ (c : Config) (v : Views kinds) (s : SlowViews kinds) (causes : CausesAr
       sent = let a = count_is 1 in let z = first_ruled 1 (omega arith) in omega arith;
       answered = let a = count_is 2 in let z = first_ruled 2 (omega arith) in omega arith;
       decided = λ why is.
-          let a = ruled_is why (decided_small why is) in
+          let a = ruled_is why (decided_ruled why is) in
           let z = withheld_zero (λ b. same_cause b why) (λ b w. ne_eqb (number_of b) (number_of why) (λ e. apart why b is w (sym e))) in omega arith;
       withheld = λ why is.
-          let a = ruled_is why (let w = (withheld_is why is).1 in omega arith) in
+          let a = ruled_is why (withheld_ruled why is) in
           let z = decided_zero (λ b. same_cause b why) (λ b d. ne_eqb (number_of b) (number_of why) (λ e. apart b why d is e)) in omega arith;
-      processor_full = let a = count_is 14 in let z = none_ruled 14 (omega arith) in omega arith;
-      link_full = let a = count_is 15 in let z = none_ruled 15 (omega arith) in omega arith;
-      answer_full = let a = count_is 16 in let z = none_ruled 16 (omega arith) in omega arith;
-      no_memory = let a = count_is 17 in let z = none_ruled 17 (omega arith) in omega arith;
-      closed = let a = count_is 18 in let z = none_ruled 18 (omega arith) in omega arith;
-      send_failed = let a = count_is 19 in let z = none_ruled 19 (omega arith) in omega arith;
-      no_buffer = let a = count_is 20 in let z = none_ruled 20 (omega arith) in omega arith;
+      processor_full = let a = count_is 14 in let z = none_ruled 14 (omega arith) (omega arith) in omega arith;
+      link_full = let a = count_is 15 in let z = none_ruled 15 (omega arith) (omega arith) in omega arith;
+      answer_full = let a = count_is 16 in let z = none_ruled 16 (omega arith) (omega arith) in omega arith;
+      no_memory = let a = count_is 17 in let z = none_ruled 17 (omega arith) (omega arith) in omega arith;
+      closed = let a = count_is 18 in let z = none_ruled 18 (omega arith) (omega arith) in omega arith;
+      send_failed = let a = count_is 19 in let z = none_ruled 19 (omega arith) (omega arith) in omega arith;
+      no_buffer = let a = count_is 20 in let z = none_ruled 20 (omega arith) (omega arith) in omega arith;
       balance =
           let x = shares_add_up shares raised counted 0 ∙ total_same (times 0) (λ ks. count is_received ks) raised (times_as 0 is_received place_received) ∙ adds is_received in
           let y = shares_add_up shares raised counted 1 ∙ total_same (times 1) (λ ks. count is_sent ks) raised (times_as 1 is_sent place_sent) ∙ adds is_sent in

@@ -1,7 +1,7 @@
 -- What was ever counted on a share, posted or not.
 use Rattle.std.specs.Prelude.{◌≡◌, ◌+◌, ◌==◌, ℕ, List, [], ◌∷◌, length, if◌then◌else◌}
 use Rattle.pipeline_laws.specs.Counts.{total}
-use Rattle.process_packet.specs.Cause.{number_of}
+use Rattle.process_packet.specs.Cause.{causes, number_of}
 use Rattle.packet_ledger.specs.Amounts.{count_at}
 use Rattle.packet_ledger.specs.Share.{Held, counting, with_answered, with_fate, with_received, with_sent}
 use Rattle.router_rules.specs.Causes.{booked_as}
@@ -25,8 +25,8 @@ times i raised = total (counts_at i) raised
 -- all that was ever counted on the share are the counts raised
 pub record Counts (share : Held) (raised : List (Count kinds)) : Type 0 where
   pub each : (i : ℕ) → count_at i share.posted + count_at i share.counts ≡ times i raised
-  pub held : length share.counts.dropped ≡ 18
-  pub booked : length share.posted.dropped ≡ 18
+  pub held : length share.counts.dropped ≡ causes
+  pub booked : length share.posted.dropped ≡ causes
 
 -- the share with one count more
 abbrev pub raise : Count kinds → Held → Held

@@ -23,8 +23,12 @@ use udp_router::run_router;
 
 /// The words after the program's name.
 fn words_of<R: Env + AllocGlobal>(rt: &R) -> Result<Vec<String>, Fault> {
+    let args = match env::args(rt) {
+        Ok(args) => args,
+        Err(error) => return Err(Fault::of_words(error)),
+    };
     let mut words = Vec::new(rt.alloc());
-    for word in env::args(rt).map_err(Fault::of_words)?.skip(1) {
+    for word in args.skip(1) {
         words.push(word)?;
     }
     Ok(words)
@@ -32,8 +36,14 @@ fn words_of<R: Env + AllocGlobal>(rt: &R) -> Result<Vec<String>, Fault> {
 
 /// The configuration that a file holds.
 fn config_at<R: Files + AllocGlobal>(rt: &R, path: &str) -> Result<Config, Fault> {
-    let text = fs::read_to_string(rt, path).map_err(Fault::of_file)?;
-    read_config(rt.alloc(), text.as_str()).map_err(Fault::Config)
+    let text = match fs::read_to_string(rt, path) {
+        Ok(text) => text,
+        Err(error) => return Err(Fault::of_file(error)),
+    };
+    match read_config(rt.alloc(), text.as_str()) {
+        Ok(config) => Ok(config),
+        Err(fault) => Err(Fault::Config(fault)),
+    }
 }
 
 /// Answers the datagrams on the standard input, which arrive on a link at a moment.
@@ -54,9 +64,14 @@ fn route_datagrams<R: Files + Input + Print + AllocGlobal>(
         source: from.unwrap_or(usual),
         moment,
     };
-    let mut reader = BufReader::new(alloc, rt.reader()).map_err(|_| Fault::Memory)?;
+    let Ok(mut reader) = BufReader::new(alloc, rt.reader()) else {
+        return Err(Fault::Memory);
+    };
     let mut writer = io::writer(rt);
-    route_lines(alloc, &config, &arriving, &mut reader, &mut writer).map_err(Fault::Lines)
+    match route_lines(alloc, &config, &arriving, &mut reader, &mut writer) {
+        Ok(()) => Ok(()),
+        Err(fault) => Err(Fault::Lines(fault)),
+    }
 }
 
 /// Makes the steps on the standard input.
@@ -66,9 +81,14 @@ fn replay_schedule<R: Files + Input + Print + AllocGlobal>(
 ) -> Result<(), Fault> {
     let alloc = rt.alloc();
     let config = config_at(rt, path)?;
-    let mut reader = BufReader::new(alloc, rt.reader()).map_err(|_| Fault::Memory)?;
+    let Ok(mut reader) = BufReader::new(alloc, rt.reader()) else {
+        return Err(Fault::Memory);
+    };
     let mut writer = io::writer(rt);
-    replay_lines(alloc, config, &mut reader, &mut writer).map_err(Fault::Lines)
+    match replay_lines(alloc, config, &mut reader, &mut writer) {
+        Ok(()) => Ok(()),
+        Err(fault) => Err(Fault::Lines(fault)),
+    }
 }
 
 /// Runs the router over its sockets, led by the standard input.
@@ -89,9 +109,14 @@ where
 {
     let alloc = rt.alloc();
     let config = config_at(rt, path)?;
-    let mut reader = BufReader::new(alloc, rt.reader()).map_err(|_| Fault::Memory)?;
+    let Ok(mut reader) = BufReader::new(alloc, rt.reader()) else {
+        return Err(Fault::Memory);
+    };
     let mut writer = io::writer(rt);
-    run_router(*rt, alloc, config, &mut reader, &mut writer).map_err(Fault::Run)
+    match run_router(*rt, alloc, config, &mut reader, &mut writer) {
+        Ok(()) => Ok(()),
+        Err(fault) => Err(Fault::Run(fault)),
+    }
 }
 
 /// Does what the command line asks for.
@@ -113,7 +138,11 @@ where
         + 'static,
 {
     let words = words_of(rt)?;
-    match read_words(rt.alloc(), words.as_slice()).map_err(Fault::Words)? {
+    let order = match read_words(rt.alloc(), words.as_slice()) {
+        Ok(order) => order,
+        Err(fault) => return Err(Fault::Words(fault)),
+    };
+    match order {
         Order::Route {
             config,
             link,

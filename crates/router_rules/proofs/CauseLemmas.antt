@@ -2,16 +2,22 @@
 use Rattle.std.proofs.Common.{◌≡◌, ℕ, Bool, true, false, ◌&&◌, ◌==◌, if◌then◌else◌, List, [], ◌∷◌, drop, Option, Some, None, refl}
 use Rattle.std.specs.List.{AllByRecursion}
 use Rattle.process_packet.specs.Decide.{decision_table, verdict, verdict_of}
-use Rattle.process_packet.specs.Network.{Network}
-use Rattle.process_packet.specs.Rows.{Verdict, Sent, Answered, Dropped, RowResult, GoesOn, Ends, Row, cause_of, delivered, delivery, ends_where, expired, faulty, leave, sent_on, switch, then_rows, to_service, wrong_mac, wrong_pair}
+use Rattle.process_packet.specs.Network.{Network, reached_at}
+use Rattle.process_packet.specs.Rows.{Verdict, Sent, Answered, Dropped, RowResult, GoesOn, Ends, Row, cause_of, delivered, delivery, ends_where, expired, faulty, leave, sent_on, sent_to, switch, then_rows, wrong_mac, wrong_pair}
 use Rattle.process_packet.specs.PacketState.{PacketState, arrives, changed_over, packet}
+use Rattle.process_packet.specs.OneHopRows as one_hop
+use Rattle.process_packet.specs.OneHopRows.{OneHopRow, OneHopVerdict, dropped_where}
+use Rattle.process_packet.specs.OneHopRows.{delivered as one_hop_delivered, faulty as one_hop_faulty}
+use Rattle.process_packet.specs.OneHopState.{OneHopState, completed, exit, is_external, one_hop_arrives}
+use Rattle.process_packet.specs.OneHopState.{chained as one_hop_chained}
+use Rattle.process_packet.specs.OneHopTable.{one_hop_ends_as, one_hop_table, one_hop_verdict, or_rows}
+use Rattle.scion_packet.specs.OneHop.{OneHopPacket}
 use Rattle.process_packet.specs.declared.cause.Cause.{Cause}
 use Rattle.process_packet.specs.declared.decision.Problem.{Problem}
 use Rattle.process_packet.specs.declared.underlay.Underlay.{Underlay}
 use Rattle.scion_packet.specs.Fault.{Fault, TooShort, WrongVersion, WrongPathType, WrongLength, WrongPath, PeeringSegment}
-use Rattle.scion_packet.specs.Header.{host_code}
 use Rattle.scion_packet.specs.Packet.{Packet}
-use Rattle.router_rules.specs.Laws.{is_decided}
+use Rattle.router_rules.specs.Laws.{is_decided, is_inspected}
 
 abbrev has_own_cause : Verdict → Bool
 has_own_cause (Sent out to p) = true
@@ -69,7 +75,7 @@ test_ruled : (b : Bool) (v : Verdict) (s : PacketState) → IsRuled v → IsRule
 test_ruled true v s h = ends v h
 test_ruled false v s h = goes_on s
 
-pub fault_ruled : (f : Fault) → is_decided (cause_of f) ≡ true
+fault_ruled : (f : Fault) → is_decided (cause_of f) ≡ true
 fault_ruled TooShort = refl
 fault_ruled WrongVersion = refl
 fault_ruled WrongPathType = refl
@@ -77,19 +83,24 @@ fault_ruled WrongLength = refl
 fault_ruled WrongPath = refl
 fault_ruled PeeringSegment = refl
 
+pub fault_inspected : (f : Fault) → is_inspected (cause_of f) ≡ true
+fault_inspected TooShort = refl
+fault_inspected WrongVersion = refl
+fault_inspected WrongPathType = refl
+fault_inspected WrongLength = refl
+fault_inspected WrongPath = refl
+fault_inspected PeeringSegment = refl
+
 faulty_ruled : (f : Option Fault) (s : PacketState) → IsRuledTurn (faulty f s)
 faulty_ruled None s = goes_on s
 faulty_ruled (Some f) s = ends _ (dropped (cause_of f) (fault_ruled f))
 
-service_ruled : (p : Packet) (at : Option Underlay) → IsRuled (to_service p at)
-service_ruled p None = answered _
-service_ruled p (Some at) = sent _ _ _
+sent_to_ruled : (p : Packet) (at : Option Underlay) → IsRuled (sent_to p at)
+sent_to_ruled p None = either _ _ _ (answered _) (answered _)
+sent_to_ruled p (Some at) = sent _ _ _
 
 delivered_ruled : (n : Network) (p : Packet) → IsRuled (delivered n p)
-delivered_ruled n p =
-    let host = p.header.destination in
-    either (host.kind == 0 && host_code host == 0) _ _ (sent _ _ _)
-    (either (host.kind == 0 && host_code host == 3) _ _ (sent _ _ _) (either (host.kind == 1 && host_code host == 0) _ _ (service_ruled p _) (answered _)))
+delivered_ruled n p = sent_to_ruled p (reached_at n p.header.destination)
 
 switch_ruled : (s : PacketState) → IsRuledTurn (switch s)
 switch_ruled s =
@@ -127,3 +138,56 @@ table_ruled =
 pub decision_ruled : (n : Network) (link : ℕ) (source : Underlay) (moment : ℕ) (bytes : List ℕ) → IsRuled (verdict n link source moment bytes)
 unfolding verdict
 decision_ruled n link source moment bytes = verdict_ruled _ (all_ruled (GoesOn (arrives n link source moment bytes)) decision_table (goes_on _) table_ruled)
+
+-- ---- the table of one-hop paths
+
+abbrev pub has_own_drop : OneHopVerdict → Bool
+has_own_drop (one_hop.Sent out to p) = true
+has_own_drop (one_hop.Dropped why) = is_decided why
+
+abbrev gives_own_drop : Option OneHopVerdict → Bool
+gives_own_drop None = true
+gives_own_drop (Some v) = has_own_drop v
+
+record IsOwnRow (r : OneHopRow) : Type 0 where
+  is : (s : OneHopState) → gives_own_drop (r s) ≡ true
+
+all_own : (o : Option OneHopVerdict) (s : OneHopState) (rows : List OneHopRow) → gives_own_drop o ≡ true → AllByRecursion IsOwnRow rows → gives_own_drop (or_rows o s rows) ≡ true
+all_own (Some v) s rows h all = h
+all_own None s [] h all = h
+all_own None s (r ∷ rows) h all = all_own (r s) s rows (all.0.is s) all.1
+
+own_where : (b : Bool) (why : Cause) → is_decided why ≡ true → gives_own_drop (dropped_where b why) ≡ true
+own_where true why h = h
+own_where false why h = refl
+
+own_drop : (b : OneHopState → Bool) (why : Cause) → is_decided why ≡ true → IsOwnRow (λ s. dropped_where (b s) why)
+own_drop b why h = record { is = λ s. own_where (b s) why h }
+
+own_fault : (o : Option Fault) → gives_own_drop (one_hop_faulty o) ≡ true
+own_fault None = refl
+own_fault (Some f) = fault_ruled f
+
+own_leave : (b : Bool) (s : OneHopState) → gives_own_drop (if b then None else Some (one_hop.Sent (exit s) None (one_hop_chained s))) ≡ true
+own_leave true s = refl
+own_leave false s = refl
+
+own_delivery : (p : OneHopPacket) (o : Option Underlay) → has_own_drop (one_hop_delivered p o) ≡ true
+own_delivery p None = refl
+own_delivery p (Some at) = refl
+
+own_table : AllByRecursion IsOwnRow one_hop_table
+own_table =
+    let sending : AllByRecursion IsOwnRow (drop 11 one_hop_table) =
+    (record { is = λ s. own_leave (is_external s) s }, (record { is = λ s. own_delivery (completed s) (reached_at s.network s.packet.header.destination) }, tt)) in
+    let field : AllByRecursion IsOwnRow (drop 7 one_hop_table) = (own_drop _ _ refl, (own_drop _ _ refl, (own_drop _ _ refl, (own_drop _ _ refl, sending)))) in
+    let arriving : AllByRecursion IsOwnRow (drop 3 one_hop_table) = (own_drop _ _ refl, (own_drop _ _ refl, (own_drop _ _ refl, (own_drop _ _ refl, field)))) in
+    (own_drop _ _ refl, (record { is = λ s. own_fault _ }, (record { is = λ s. own_fault _ }, arriving)))
+
+own_end : (o : Option OneHopVerdict) → gives_own_drop o ≡ true → has_own_drop (one_hop_ends_as o) ≡ true
+own_end (Some v) h = h
+own_end None h = refl
+
+pub one_hop_ruled : (n : Network) (link : ℕ) (source : Underlay) (moment : ℕ) (bytes : List ℕ) → has_own_drop (one_hop_verdict n link source moment bytes) ≡ true
+unfolding one_hop_verdict
+one_hop_ruled n link source moment bytes = own_end _ (all_own None (one_hop_arrives n link source moment bytes) one_hop_table refl own_table)

@@ -24,8 +24,19 @@ pub record StandInOrder (c : Config) : Type 0 where
 abbrev pub LinksStandInOrder : Type 0
 LinksStandInOrder = (c : Config) → StandInOrder c
 
--- a cause for which the inspection or the decision drops: a datagram that is too long, a fault of its header or its path, the
--- underlay source, a path that ends where the packet would go on
+-- a cause for which the inspection may drop: a datagram that is too long, a fault of its header or its path
+abbrev pub is_inspected : Cause → Bool
+is_inspected cause.Short = true
+is_inspected cause.Version = true
+is_inspected cause.PathType = true
+is_inspected cause.Header = true
+is_inspected cause.Path = true
+is_inspected cause.Peering = true
+is_inspected cause.TooLong = true
+is_inspected _ = false
+
+-- a cause for which the decision may drop: these, the underlay source, a path that ends where the packet would go on, and the
+-- ends, the hop field and the host of a one-hop path
 abbrev pub is_decided : Cause → Bool
 is_decided cause.Short = true
 is_decided cause.Version = true
@@ -36,6 +47,9 @@ is_decided cause.Peering = true
 is_decided cause.UnderlaySource = true
 is_decided cause.PathEnd = true
 is_decided cause.TooLong = true
+is_decided cause.OneHopEnds = true
+is_decided cause.OneHopField = true
+is_decided cause.OneHopHost = true
 is_decided _ = false
 
 -- a cause for which an answer is withheld
@@ -46,7 +60,7 @@ is_withheld _ = false
 
 -- Each drops for causes of its own. All others are the pipeline's.
 pub record TellCauses (c : Config) : Type 0 where
-  pub inspection : (d : Datagram) (why : Cause) → inspected d.bytes ≡ Some why → is_decided why ≡ true
+  pub inspection : (d : Datagram) (why : Cause) → inspected c d.interface d.bytes ≡ Some why → is_inspected why ≡ true
   pub decision : (d : Datagram) (why : Cause) → decided c d ≡ Drops why → is_decided why ≡ true
   pub reply : (d : Datagram) (p : Problem) (why : Cause) → replied c d p ≡ Withholds why → is_withheld why ≡ true
 

@@ -5,7 +5,7 @@ use Rattle.flow_key.specs.Hash.{processor_of}
 use Rattle.pipeline_laws.specs.Item.{Arrival}
 use Rattle.pipeline_laws.specs.Kinds.{Kinds}
 use Rattle.pipeline_laws.specs.Rules.{Decision, Sends, Asks, Drops, Reply, Replies, Withholds, Rules}
-use Rattle.process_packet.specs.Decide.{decide, moved}
+use Rattle.process_packet.specs.Decide.{decide, is_one_hop, moved}
 use Rattle.process_packet.specs.Network.{network}
 use Rattle.process_packet.specs.Rows.{cause_of}
 use Rattle.process_packet.specs.declared.cause.Cause.{Cause}
@@ -14,7 +14,7 @@ use Rattle.process_packet.specs.declared.config.Config.{Config}
 use Rattle.process_packet.specs.declared.decision.Decision.{Decision as Decided}
 use Rattle.process_packet.specs.declared.decision.Decision.TheVariants as decision
 use Rattle.process_packet.specs.declared.decision.Problem.{Problem}
-use Rattle.scion_packet.specs.Header.{header_fault, header_of}
+use Rattle.scion_packet.specs.Header.{header_fault_as, header_of, one_hop_path, scion_path}
 use Rattle.scmp_answer.specs.Outcome.{Leaves, Outcome, Stays, outcome}
 use Rattle.scmp_answer.specs.Reply.{local_address, reply}
 use Rattle.router_rules.specs.Datagram.{Datagram, Parcel}
@@ -23,9 +23,13 @@ use Rattle.router_rules.specs.Links.{has_two_bands, link_count, link_index}
 abbrev pub kinds : Kinds
 kinds = record { Datagram = Datagram; Parcel = Parcel; Problem = Problem; RuleCause = Cause; Key = Flow }
 
--- what a receiver sees: a datagram that is too long, or whose header is refused
-abbrev pub inspected : List ℕ → Option Cause
-inspected bytes = if nat_lt 9216 (length bytes) then Some cause.TooLong else option_map cause_of (header_fault bytes)
+-- the path type by whose table a datagram is decided
+abbrev pub path_type_of : Config → ℕ → List ℕ → ℕ
+path_type_of c link bytes = if is_one_hop (network c) link bytes then one_hop_path else scion_path
+
+-- what a receiver sees of a datagram by its link: one that is too long, or whose header is refused
+abbrev pub inspected : Config → ℕ → List ℕ → Option Cause
+inspected c link bytes = if nat_lt 9216 (length bytes) then Some cause.TooLong else option_map cause_of (header_fault_as (path_type_of c link bytes) bytes)
 
 -- ---- the decision
 
@@ -69,7 +73,7 @@ rules c = record {
   links = link_count c;
   processors = c.processors;
   two_bands = has_two_bands c;
-  inspect = λ x. inspected x.datagram.bytes;
+  inspect = λ x. inspected c x.datagram.interface x.datagram.bytes;
   decide = λ x. decided c x.datagram;
   reply = λ x problem. replied c x.datagram problem;
   key = λ x. flow_at false x.datagram.bytes;

@@ -95,6 +95,7 @@ is_written here p w bytes problem h q s0 s1 s2 s3 front at len at-is len-is q-is
     let even-g : front_len g % 2 ≡ 0 = ap (λ (k : ℕ). k % 2) (sym front-g) ∙ even in
     let packet : IsPacket a = record {
       header = subst IsHeader h-there lawful;
+      path_type = refl;
       path = path-lawful;
       whole = ap (λ (k : ℕ). 4 * (k / 4)) (sym at-is) ∙ sym fours ∙ path-is ∙ ap (λ (k : ℕ). k + length (path_text w)) front-g;
     } in

@@ -12,7 +12,7 @@ use Rattle.scion_header.specs.Upper.{upper_of}
 use Rattle.scion_header.specs.declared.upper.Upper.{Upper}
 use Rattle.scion_header.specs.declared.upper.Upper.TheVariants.{Scmp, Other, Cut}
 use Rattle.scion_packet.specs.Extensions.{upper_layer}
-use Rattle.scion_packet.specs.Header.{HeaderFields, HostAddress}
+use Rattle.scion_packet.specs.Header.{HeaderFields, HostAddress, scion_path}
 use Rattle.scion_packet.specs.Packet.{Packet, packet_of}
 use Rattle.scion_packet.specs.Path.{PathFields, path_text}
 use Rattle.scmp_answer.specs.Checksum.{checksum, summed}
@@ -55,6 +55,7 @@ answer_header here arriving header_len message_len = record {
   next_header = 202;
   header_length = header_len / 4;
   payload_length = message_len;
+  path_type = scion_path;
   reserved = 0;
   destination = arriving.source;
   source = here;

@@ -1,7 +1,7 @@
 use Rattle.std.proofs.Common.{◌≡◌, ℕ, List, None, false, sym, subst, ap, ap₂, ◌∙◌}
 use Rattle.pipeline_laws.specs.Item.{Item}
 use Rattle.pipeline_laws.specs.Next as next
-use Rattle.process_packet.specs.Decide.{decide, moved, verdict}
+use Rattle.process_packet.specs.Decide.{decide, moved}
 use Rattle.process_packet.specs.Network.{network}
 use Rattle.process_packet.specs.Routed.{IsAnswer}
 use Rattle.process_packet.specs.declared.config.Config.{Config}
@@ -9,7 +9,7 @@ use Rattle.process_packet.specs.declared.decision.Decision.{Decision}
 use Rattle.process_packet.specs.declared.decision.Decision.TheVariants as decision
 use Rattle.process_packet.specs.declared.decision.Problem.{Problem}
 use Rattle.router_rules.specs.Rules.{by_decision, rules}
-use Rattle.router_rules.proofs.AnsweredLemmas.{answered_unchanged}
+use Rattle.process_packet.proofs.KindLemmas.{answered_unchanged}
 use Rattle.scion_packet.specs.Packet.{first_fault}
 use Rattle.pipe_parts.specs.declared.came.Came.{Came}
 use Rattle.pipe_parts.specs.Items.{arrival_in}
@@ -17,7 +17,7 @@ use Rattle.pipe_parts.proofs.rules.decide.Goals as goal
 
 as_they_came : (r : Config) (x : Came) (found : Decision) (problem : Problem) (bytes : List ℕ) → found ≡ decide (network r) x.interface x.source x.now x.bytes
     → bytes ≡ moved (network r) x.interface x.source x.now x.bytes → found ≡ decision.Answer problem → bytes ≡ x.bytes
-as_they_came r x found problem bytes found-is bytes-is told = bytes-is ∙ answered_unchanged (verdict (network r) x.interface x.source x.now x.bytes) x.bytes problem (sym found-is ∙ told)
+as_they_came r x found problem bytes found-is bytes-is told = bytes-is ∙ answered_unchanged (network r) x.interface x.source x.now x.bytes problem (sym found-is ∙ told)
 
 -- what a decision and the bytes after it make of a datagram
 made : (r : Config) (x : Came) (found told : Decision) (bytes : List ℕ) → found ≡ decide (network r) x.interface x.source x.now x.bytes → bytes ≡ moved (network r) x.interface x.source x.now x.bytes
