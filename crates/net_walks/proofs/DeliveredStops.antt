@@ -1,13 +1,13 @@
 -- What sets out lawfully is delivered, or replied to, at the last of the stops that are made, and a reply comes home by such stops.
 use Rattle.std.proofs.Common.{◌≡◌, ◌<◌, ◌&&◌, ℕ, zero, suc, Bool, true, false, List, length, slice_index_or, Option, Some, None, refl, sym, ap, subst, ◌∙◌, arith, inl, inr, if◌then◌else◌}
-use Rattle.std.specs.Prelude.{◌⊎◌, is_none}
+use Rattle.std.specs.Prelude.{◌⊎◌}
 use Rattle.field_rows.specs.Place.{IsBytes}
-use Rattle.scion_packet.specs.Header.{HostAddress, header_fault, header_of}
-use Rattle.scion_packet.specs.Packet.{Packet, packet_of, spelling}
+use Rattle.scion_packet.specs.Header.{HostAddress, header_of}
+use Rattle.scion_packet.specs.Packet.{IsPacket, Packet, packet_of, spelling}
 use Rattle.scion_packet.proofs.PacketLaws.{packet_only}
-use Rattle.process_packet.specs.Decide.{decision_of, moved_by}
+use Rattle.process_packet.specs.Decide.{decision_of}
 use Rattle.process_packet.specs.Network.{is_local}
-use Rattle.process_packet.specs.Rows.{Verdict, traceroute_reply}
+use Rattle.process_packet.specs.Rows.{traceroute_reply}
 use Rattle.process_packet.specs.declared.arrival.Arrival.{Arrival}
 use Rattle.process_packet.specs.declared.cause.Cause.TheVariants as cause
 use Rattle.process_packet.specs.declared.decision.Problem.{Problem}
@@ -17,18 +17,18 @@ use Rattle.scmp_answer.specs.Reply as answers
 use Rattle.scmp_answer.specs.WayBack.{is_external}
 use Rattle.scmp_answer.proofs.ReplyLemmas.{unanswered}
 use Rattle.walk_laws.specs.Configured.{AreNumbered}
-use Rattle.walk_laws.specs.LawfulStart.{LawfulStart, ReachesHost, SetsOutOn}
+use Rattle.walk_laws.specs.LawfulStart.{LawfulStart, ReachesHost, SetsOutOn, WalksBy}
 use Rattle.walk_laws.specs.Net.{Agrees, Net, Router, router_at, router_of}
 use Rattle.walk_laws.specs.PathSegments.{PathSegment}
 use Rattle.walk_laws.specs.Stands.{PacketAt}
 use Rattle.walk_laws.specs.Stop.{verdict_at}
 use Rattle.walk_laws.proofs.LawfulLemmas.{unasked}
 use Rattle.net_walks.specs.Outcomes.{IsDeliveredBy, IsRepliedTo, IsReply}
-use Rattle.net_walks.specs.Stops.{Came, came_to, carried, carried_on, is_for_host, next_from, next_stop, stops_from}
+use Rattle.net_walks.specs.Stops.{Came, came_to, carried, is_for_host, is_headed, next_stop, stops_from}
 use Rattle.net_walks.specs.Visits.{ReturnsTo, Visits, came_of, starts_at}
 use Rattle.net_walks.specs.Walked.{IsAnswered, IsAskedOnTheWay, IsCarriedBack, IsLawfulStop, IsWalked}
 use Rattle.net_walks.proofs.LawfulWalk.{requests_walked, starts_walked}
-use Rattle.net_walks.proofs.WalkStops.{carried_is, delivered_at, few_stops, none_after, visited}
+use Rattle.net_walks.proofs.WalkStops.{carried_is, decided, delivered_at, few_stops, next_by, none_after, visited}
 
 delivered_by : (net : Net) (moment : ℕ) (a : PacketAt) → Agrees net → IsWalked net moment a → IsDeliveredBy net moment a (stops_from net moment 128 (Some (came_of a)))
 delivered_by net moment a agrees walked =
@@ -43,24 +43,30 @@ delivered_by net moment a agrees walked =
 -- ---- a request
 
 -- where it is answered, it goes nowhere
-answered_there : (net : Net) (moment : ℕ) (z : PacketAt) (x : Router) (interface : ℕ) → router_at net z.router ≡ Some x → verdict_at x z moment ≡ traceroute_reply interface
+answered_there : (net : Net) (moment : ℕ) (z : PacketAt) (x : Router) (interface : ℕ) → IsPacket z.packet → router_at net z.router ≡ Some x → verdict_at x z moment ≡ traceroute_reply interface
     → next_stop net moment (came_of z) ≡ None
-unfolding next_stop
-answered_there net moment z x interface here answers =
-    ap (next_from net moment (came_of z)) here ∙ ap (λ (v : Verdict). carried_on net (came_of z) (decision_of v) (moved_by v (spelling z.packet)) (Some x)) answers
+answered_there net moment z x interface lawful here answers = next_by net moment z x (traceroute_reply interface) lawful here answers
+
+-- the last stop of a walk is such too
+last_such : (net : Net) (moment : ℕ) (such : PacketAt → Type 0) (n : ℕ) (a z : PacketAt) → WalksBy net moment such n a z → such z
+last_such net moment such n a _ (WalksBy.is_there is) = is
+last_such net moment such _ a z (WalksBy.goes {n = n} {b = b} x out to is here others sends carried rest) = last_such net moment such n b z rest
 
 replied_to : (net : Net) (ss : List PathSegment) (moment : ℕ) (a : PacketAt) → Agrees net → IsAskedOnTheWay net ss moment a
     → IsRepliedTo net ss moment a (stops_from net moment 128 (Some (came_of a)))
 replied_to net ss moment a agrees e =
     let asked = e.asked in
+    let last : IsLawfulStop net moment a e.end = last_such net moment (IsLawfulStop net moment a) 127 a e.end e.stops in
+    let d = decided e.here.network e.end.link e.end.source moment e.end.packet last.lawful in
     record {
       end = e.end;
-      visits = visited net moment agrees (IsLawfulStop net moment a) (λ b is. is.lawful) 127 a e.end e.stops (answered_there net moment e.end e.here asked.interface e.here_is asked.verdict);
+      visits = visited net moment agrees (IsLawfulStop net moment a) (λ b is. is.lawful) 127 a e.end e.stops
+          (answered_there net moment e.end e.here asked.interface last.lawful e.here_is asked.verdict);
       few = few_stops net moment 128 (Some (came_of a));
       here = e.here;
       here_is = e.here_is;
       interface = asked.interface;
-      decision = ap decision_of asked.verdict;
+      decision = d.decision ∙ ap decision_of asked.verdict;
       request = asked.request;
       at = asked.at;
       on = asked.on;
@@ -130,7 +136,7 @@ inside_if false s t is = refl
 -- it isn't for a host where it is answered to an address of the AS
 not_for_host : (x : Router) (a : PacketAt) (t : Underlay) → (if is_external a.link then None else Some a.source) ≡ Some t → is_for_host x.network a.link (spelling a.packet) ≡ false
 not_for_host x a t is =
-    ap (λ (b : Bool). b && (is_none (header_fault (spelling a.packet)) && is_local x.network (header_of (spelling a.packet)).destination)) (inside_if (is_external a.link) a.source t is)
+    ap (λ (b : Bool). b && (is_headed (spelling a.packet) && is_local x.network (header_of (spelling a.packet)).destination)) (inside_if (is_external a.link) a.source t is)
 
 abbrev at_packet : Came → Packet → PacketAt
 at_packet s p = record { router = s.router; link = s.link; source = s.source; packet = p }

@@ -227,4 +227,4 @@ module _ (here : HostAddress) (p : Packet) (w : PathFields) (bytes : List ℕ) (
       let front = text_len in
       let a = length-append (header_text answer.header) (path_text w ++ answer.payload) in
       let b = length-append (path_text w) answer.payload in
-      record { lawful = record { header = header; path = way; whole = whole }; short = omega arith }
+      record { lawful = record { header = header; path_type = refl; path = way; whole = whole }; short = omega arith }

@@ -8,3 +8,4 @@ pub mod WalkStops
 pub mod BackWalk
 pub mod LawfulWalk
 pub mod DeliveredStops
+pub mod OneHopCrossing

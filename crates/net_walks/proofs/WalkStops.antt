@@ -6,11 +6,14 @@ use Rattle.std.proofs.lemmas.Iterator.Adapters.{position_from-zero}
 use Rattle.std.proofs.lemmas.List.Quantifiers.{position-Some}
 use Rattle.std.proofs.lemmas.Option.{slice_get-get_or}
 use Rattle.scion_packet.specs.Fault.{Fault}
-use Rattle.scion_packet.specs.Header.{HeaderFields, HostAddress, header_fault, header_of}
+use Rattle.scion_packet.specs.Header.{HeaderFields, HostAddress, header_fault, header_fault_as, header_of, one_hop_path}
 use Rattle.scion_packet.specs.Packet.{IsPacket, Packet, spelling}
 use Rattle.scion_packet.proofs.PacketLaws.{both_pass, packet_only, packet_passes}
 use Rattle.walk_laws.specs.Agreement.{are_of_one_as, same_end}
 use Rattle.process_packet.specs.Decide.{decision_of, moved_by}
+use Rattle.process_packet.specs.OneHopLaws.{IsDecidedAsScion}
+use Rattle.process_packet.specs.declared.decision.Decision.{Decision}
+use Rattle.process_packet.proofs.KindLemmas.{decided_as_scion, has_scion_path, other_kind}
 use Rattle.walk_laws.specs.Net.{Agrees, AreOfOneAS, Joined, Net, Router, end_at, router_at}
 use Rattle.process_packet.specs.Network.{Network, is_local}
 use Rattle.process_packet.specs.Rows.{Sent, Verdict}
@@ -71,7 +74,7 @@ joined_at net e w there has false is =
 has_one : (e f : End) → has_end e (record { one = e; other = f }) ≡ true
 has_one e f = ap (λ (b : Bool). b || same_end f e) ((end_decides e e).1 refl)
 
-or_true : (a : Bool) → (a || true) ≡ true
+pub or_true : (a : Bool) → (a || true) ≡ true
 or_true true = refl
 or_true false = refl
 
@@ -87,7 +90,7 @@ far_found net agrees e f joined (Some w) at =
     let g = found (has_end e) net.wires w at in
     ap Some ((joined_ends net agrees e f joined).alone (other_end e w) (joined_at net e w g.there g.passes (same_end w.one e) refl))
 
-far_is : (net : Net) → Agrees net → (e f : End) → Joined net e f → far_end net.wires e ≡ Some f
+pub far_is : (net : Net) → Agrees net → (e f : End) → Joined net e f → far_end net.wires e ≡ Some f
 far_is net agrees e f joined = far_found net agrees e f joined (find (has_end e) net.wires) refl
 
 -- ---- within an AS
@@ -121,9 +124,25 @@ for_host_is : (n : Network) (link : ℕ) (p : Packet) → IsPacket p
 for_host_is n link p lawful =
     let none : header_fault (spelling p) ≡ None = (both_pass (spelling p) (packet_passes (spelling p) p (record { lawful = lawful; text = refl }))).0 in
     let same : header_of (spelling p) ≡ p.header = ap (λ (q : Packet). q.header) (sym (packet_only (spelling p) p (record { lawful = lawful; text = refl }))) in
-    ap₂ (λ (f : Option Fault) (h : HeaderFields). not (link == 0) && (is_none f && is_local n h.destination)) none same
+    ap₂ (λ (f : Option Fault) (h : HeaderFields). not (link == 0) && ((is_none f || is_none (header_fault_as one_hop_path (spelling p))) && is_local n h.destination)) none same
 
 -- ---- from one stop to the next
+
+-- a packet on a SCION path is decided by the table of such paths
+pub decided : (n : Network) (link : ℕ) (source : Underlay) (moment : ℕ) (p : Packet) → IsPacket p → IsDecidedAsScion n link source moment (spelling p)
+decided n link source moment p lawful =
+    let bytes = spelling p in
+    decided_as_scion n link source moment bytes (other_kind n link bytes (has_scion_path bytes (packet_passes bytes p (record { lawful = lawful; text = refl }))))
+
+-- what the router there makes of it
+pub next_by : (net : Net) (moment : ℕ) (a : PacketAt) (x : Router) (v : Verdict) → IsPacket a.packet → router_at net a.router ≡ Some x → verdict_at x a moment ≡ v
+    → next_stop net moment (came_of a) ≡ carried_on net (came_of a) (decision_of v) (moved_by v (spelling a.packet)) (Some x)
+unfolding next_stop
+next_by net moment a x v lawful here is =
+    let d = decided x.network a.link a.source moment a.packet lawful in
+    ap (next_from net moment (came_of a)) here
+    ∙ ap₂ (λ (e : Decision) (bytes : List ℕ). carried_on net (came_of a) e bytes (Some x)) d.decision d.bytes_are
+    ∙ ap (λ (w : Verdict). carried_on net (came_of a) (decision_of w) (moved_by w (spelling a.packet)) (Some x)) is
 
 pub carried_is : (net : Net) (a b : PacketAt) (x : Router) (out : ℕ) (to : Option Underlay) → Agrees net
     → ((t : Underlay) → to ≡ Some t → is_for_host x.network a.link (spelling a.packet) ≡ false)
@@ -141,18 +160,14 @@ carried_is net a b x _ (Some to) agrees others (IsCarried.within y there one int
 goes_next : (net : Net) (moment : ℕ) (a b : PacketAt) (x : Router) (out : ℕ) (to : Option Underlay) → Agrees net → IsPacket a.packet → router_at net a.router ≡ Some x
     → is_for_us (packet_state x.network a moment (spelling a.packet)) ≡ false → verdict_at x a moment ≡ Sent out to b.packet → IsCarried net a.router x out to b
     → next_stop net moment (came_of a) ≡ Some (came_of b)
-unfolding next_stop
 goes_next net moment a b x out to agrees lawful here others sends is =
-    ap (next_from net moment (came_of a)) here
-    ∙ ap (λ (v : Verdict). carried_on net (came_of a) (decision_of v) (moved_by v (spelling a.packet)) (Some x)) sends
+    next_by net moment a x (Sent out to b.packet) lawful here sends
     ∙ carried_is net a b x out to agrees (λ t same. for_host_is x.network a.link a.packet lawful ∙ others) is
 
 ends_delivered : (net : Net) (moment : ℕ) (z : PacketAt) (x : Router) (to : Underlay) (sent : Packet) → IsPacket z.packet → router_at net z.router ≡ Some x
     → is_for_us (packet_state x.network z moment (spelling z.packet)) ≡ true → verdict_at x z moment ≡ Sent 0 (Some to) sent → next_stop net moment (came_of z) ≡ None
-unfolding next_stop
 ends_delivered net moment z x to sent lawful here for_us sends =
-    ap (next_from net moment (came_of z)) here
-    ∙ ap (λ (v : Verdict). carried_on net (came_of z) (decision_of v) (moved_by v (spelling z.packet)) (Some x)) sends
+    next_by net moment z x (Sent 0 (Some to) sent) lawful here sends
     ∙ within_host net.routers x (came_of z) to (spelling sent) (for_host_is x.network z.link z.packet lawful ∙ for_us)
 
 -- ---- the whole walk
@@ -174,18 +189,20 @@ few_stops net moment (suc n) (Some c) = let rest = few_stops net moment n (next_
 
 -- the host gets the packet
 pub delivered_at : (net : Net) (moment n : ℕ) (a : PacketAt) (host : HostAddress) (r : ReachesHost net moment n a host) → IsDeliveredAt net moment a r.end host
-delivered_at net moment n a host r = record {
-  here = r.here;
-  here_is = r.here_is;
-  home = r.home;
-  to = r.to;
-  address = r.address;
-  decision = ap decision_of r.delivery;
-  sent = r.sent;
-  bytes = ap (λ (v : Verdict). moved_by v (spelling r.end.packet)) r.delivery;
-  header = r.header;
-  payload = r.payload;
-}
+delivered_at net moment n a host r =
+    let d = decided r.here.network r.end.link r.end.source moment r.end.packet r.lawful in
+    record {
+      here = r.here;
+      here_is = r.here_is;
+      home = r.home;
+      to = r.to;
+      address = r.address;
+      decision = d.decision ∙ ap decision_of r.delivery;
+      sent = r.sent;
+      bytes = d.bytes_are ∙ ap (λ (v : Verdict). moved_by v (spelling r.end.packet)) r.delivery;
+      header = r.header;
+      payload = r.payload;
+    }
 
 -- and then it goes nowhere
 pub none_after : (net : Net) (moment n : ℕ) (a : PacketAt) (host : HostAddress) (r : ReachesHost net moment n a host) → next_stop net moment (came_of r.end) ≡ None

@@ -4,3 +4,4 @@ pub mod Stops
 pub mod Coming
 pub mod Visits
 pub mod Outcomes
+pub mod OneHopWalk

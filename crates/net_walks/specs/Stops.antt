@@ -1,7 +1,7 @@
 -- The stops of a packet on its way through a net.
-use Rattle.std.specs.Prelude.{◌≡◌, ℕ, zero, suc, Bool, not, ◌&&◌, ◌||◌, ◌==◌, List, [], ◌∷◌, find, Option, Some, None, is_none, option_map, if◌then◌else◌}
+use Rattle.std.specs.Prelude.{◌≡◌, ◌<◌, ◌^◌, ℕ, zero, suc, Bool, not, ◌&&◌, ◌||◌, ◌==◌, List, [], ◌∷◌, find, Option, Some, None, is_none, option_map, if◌then◌else◌}
 use Rattle.std.specs.List.{position_from}
-use Rattle.scion_packet.specs.Header.{header_fault, header_of}
+use Rattle.scion_packet.specs.Header.{header_fault, header_fault_as, header_of, one_hop_path}
 use Rattle.walk_laws.specs.Agreement.{are_of_one_as, same_end}
 use Rattle.process_packet.specs.Decide.{decide, moved}
 use Rattle.walk_laws.specs.Net.{Net, Router, end_at, router_at}
@@ -64,9 +64,13 @@ abbrev pub over_wire : List Wire → ℕ → ℕ → List ℕ → Option Link �
 over_wire wires router out bytes None = None
 over_wire wires router out bytes (Some l) = arrives_over l.local bytes (far_end wires (end_at router out))
 
+-- the header has no fault, for a path of either kind
+abbrev pub is_headed : List ℕ → Bool
+is_headed bytes = is_none (header_fault bytes) || is_none (header_fault_as one_hop_path bytes)
+
 -- it came from outside and is for this AS, so that it is delivered where it is sent at all
 abbrev pub is_for_host : Network → ℕ → List ℕ → Bool
-is_for_host n link bytes = not (link == 0) && (is_none (header_fault bytes) && is_local n (header_of bytes).destination)
+is_for_host n link bytes = not (link == 0) && (is_headed bytes && is_local n (header_of bytes).destination)
 
 -- to another router of this AS, from this one's address
 abbrev pub within : List Router → Router → Came → Underlay → List ℕ → Option Came
@@ -104,9 +108,10 @@ stops_from net moment (suc n) (Some c) = c ∷ stops_from net moment n (next_sto
 abbrev pub most_stops : ℕ
 most_stops = 128
 
--- what is done there is the router's decision, with the bytes that leave
+-- what is done there is the router's decision, with the bytes that leave; its link's number is one of 16 bits
 pub record IsStop (net : Net) (moment : ℕ) (s : Stop) : Type 0 where
   pub here : Router
   pub here_is : router_at net s.router ≡ Some here
   pub routed : IsRouted (decision_for here.network s.arrival) (bytes_for here.network s.arrival) s.routed
   pub moment_is : s.arrival.now ≡ moment
+  pub link_fits : s.arrival.link < 2 ^ 16

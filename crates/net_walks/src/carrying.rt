@@ -1,13 +1,17 @@
 //! The way of a packet from one router of a net to the next.
 
-ghost use Rattle.std.specs.Prelude.{◌≡◌, ◌<◌, ◌&&◌, ◌==◌, List, ℕ, IfSome, find, length, map, not, option_map, position};
+ghost use Rattle.std.specs.Prelude.{◌≡◌, ◌<◌, ◌≤◌, ◌&&◌, ◌==◌, List, ℕ, IfSome, find, length, map, not, option_map, position};
+ghost use Rattle.scion_packet.specs.Header.{front_end, header_of};
 ghost use Rattle.walk_laws.specs.Net.{end_at, net_of, router_of};
-ghost use Rattle.process_packet.specs.Network.{network, own_link};
+ghost use Rattle.process_packet.specs.Network.{is_local, network, own_link};
 ghost use Rattle.net_walks.specs.Stops as stops;
 
 use process_packet::{Arrival, Config, Underlay};
-use scion_header::read_header;
+use scion_header::{check_header, check_header_as, destination_domain};
 use walk_laws::{End, Net, Wire};
+
+/// The path type of a path of one hop.
+const ONE_HOP_PATH: u8 = 2;
 
 /// Whether the wire has this end.
 fn has_end(end: &End, wire: &Wire) -> bool
@@ -73,19 +77,34 @@ fn router_with(configs: &[Config], config: &Config, to: &Underlay) -> Option<usi
         .position(|other| has_address(config, to, other))
 }
 
+/// Whether the datagram is for this AS.
+fn is_here(config: &Config, bytes: &[u8]) -> bool
+    requires addresses { front_end bytes.now ≤ length bytes.now }
+    ensures { result ≡ is_local (network config.now) (header_of bytes.now).destination }
+{
+    let there = destination_domain(bytes);
+    there.isd == config.isd && there.autonomous_system == config.autonomous_system
+}
+
+/// Whether a datagram is on a path of either kind, and for this AS.
+fn comes_home(config: &Config, bytes: &[u8]) -> bool
+    ensures { result ≡ (stops.is_headed bytes.now && is_local (network config.now) (header_of bytes.now).destination) }
+{
+    match check_header(bytes) {
+        Ok(_) => is_here(config, bytes),
+        Err(_) => match check_header_as(ONE_HOP_PATH, bytes) {
+            Ok(_) => is_here(config, bytes),
+            Err(_) => false,
+        },
+    }
+}
+
 /// Whether a datagram came from outside and is for this AS: it goes to its host, whose address may be
 /// that of a router.
 fn is_for_host(config: &Config, link: u16, bytes: &[u8]) -> bool
     ensures { result ≡ stops.is_for_host (network config.now) link bytes.now }
 {
-    link != 0
-        && match read_header(bytes) {
-            Ok(header) => {
-                header.destination.isd == config.isd
-                    && header.destination.autonomous_system == config.autonomous_system
-            }
-            Err(_) => false,
-        }
+    link != 0 && comes_home(config, bytes)
 }
 
 /// Within the AS: to the router with the address, from this one's own.

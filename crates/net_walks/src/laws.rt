@@ -1,5 +1,6 @@
 //! What becomes of packets that set out lawfully, and of the answers to them: nothing here runs.
 
+ghost use Rattle.net_walks.specs.OneHopWalk.{BeaconsCross, RepliesSetOut};
 ghost use Rattle.net_walks.specs.Returns.{AnswersComeBack, AnswersStandToo, RoutersAnswerFromHome};
 ghost use Rattle.net_walks.specs.Walked.{LawfulStartsAreWalked, RequestsAreWalked};
 
@@ -26,6 +27,19 @@ pub fn lawful_starts_are_walked()
 /// answers to it come back as to any other packet.
 pub fn requests_are_walked()
     ensures { RequestsAreWalked }
+{}
+
+/// A packet that sets out lawfully on a path of one hop leaves by the link that its first hop field names,
+/// and is delivered at the other end, with both hop fields beaconed. Over a core link or one from parent to
+/// child they are a path back.
+pub fn beacons_cross()
+    ensures { BeaconsCross }
+{}
+
+/// Whoever replies over the path back of a beacon that crossed sets out lawfully, for as long as the first
+/// hop field is good; so the reply is walked to its destination.
+pub fn replies_to_beacons_set_out()
+    ensures { RepliesSetOut }
 {}
 
 /// The address from which a router answers is one of its AS, and an IP address that a header has room for.

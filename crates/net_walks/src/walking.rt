@@ -1,14 +1,17 @@
 //! The walk of a packet through a net of border routers.
 
-ghost use Rattle.std.specs.Prelude.{All, ◌≡◌, ◌⊎◌, ◌<◌, ◌++◌, ◌∷◌, [], ℕ, List, Some, IfOk, IfSome, OnOk, length, map, option_map};
+ghost use Rattle.std.specs.Prelude.{All, ◌≡◌, ◌⊎◌, ◌<◌, ◌^◌, ◌++◌, ◌∷◌, [], ℕ, List, Some, IfOk, IfSome, OnOk, length, map, option_map};
 ghost use Rattle.field_rows.specs.Place.{IsBytes};
 ghost use Rattle.walk_laws.specs.Net.{Agrees, net_of, router_at};
 ghost use Rattle.net_walks.specs.Stops.{IsStop, came_by, came_so, came_to, most_stops, sent_from, next_stop, stops_from};
 ghost use Rattle.net_walks.specs.Coming as way;
+ghost use Rattle.net_walks.specs.OneHopWalk.{Crosses, one_hop_starts_at};
 ghost use Rattle.net_walks.specs.Outcomes.{IsDeliveredBy, IsRepliedTo, IsReply};
 ghost use Rattle.net_walks.specs.Visits.{ReturnsTo, starts_at};
+ghost use Rattle.scion_packet.specs.OneHop.{OneHopPacket, one_hop_spelling};
 ghost use Rattle.scion_packet.specs.Packet.{Packet, spelling};
 ghost use Rattle.walk_laws.specs.LawfulStart.{LawfulStart, SetsOutOn};
+ghost use Rattle.walk_laws.specs.OneHopStart.{LawfulOneHopStart};
 ghost use Rattle.walk_laws.specs.PathSegments.{PathSegment};
 ghost use Rattle.walk_laws.specs.Stands.{PacketAt};
 
@@ -77,12 +80,21 @@ fn next_arrival(alloc: Global, net: &Net, stop: &Stop) -> Result<Option<Coming>,
     }
 }
 
+/// The link by which the datagram came: its number is known to have 16 bits once it is read.
+fn link_of(arrival: &Arrival) -> u16
+    ensures link { result ≡ arrival.entry.now.link }
+    ensures fits { result < 2 ^ 16 }
+{
+    arrival.link
+}
+
 /// What a router does with a datagram that came to it.
 fn stop_at(alloc: Global, net: &Net, coming: Coming) -> Result<Stop, NoMemory>
     requires { coming.router < length net.now.configs.items }
     ensures came { IfOk result (λ s. came_by s ≡ way.coming coming) }
     ensures stop { IfOk result (λ s. IsStop (net_of net.now) coming.arrival.now s) }
 {
+    let _link = link_of(&coming.arrival);
     let routed = route(alloc, &net.configs[coming.router], &coming.arrival)?;
     Ok(Stop {
         router: coming.router,
@@ -172,6 +184,11 @@ pub fn walk(
         → SetsOutOn (net_of net.now) ss here.now (starts_at router here p)
         → IfOk result (λ stops. IsDeliveredBy (net_of net.now) here.now (starts_at router here p) (map came_by stops.items)
         ⊎ IsRepliedTo (net_of net.now) ss here.now (starts_at router here p) (map came_by stops.items)) }
+    // from a lawful start on a path of one hop it crosses a link and is delivered, in two stops
+    ensures crossed { let here = arrival.entry.now in
+        (p : OneHopPacket) → here.bytes.items ≡ one_hop_spelling p
+        → LawfulOneHopStart (net_of net.now) here.now (one_hop_starts_at router here p)
+        → IfOk result (λ stops. Crosses (net_of net.now) here.now (one_hop_starts_at router here p) (map came_by stops.items)) }
     // where a router's answer to a stop of such a walk after its first one comes first, it is walked to the source host
     ensures returned { let here = arrival.entry.now in
         (ss : List PathSegment) (start : PacketAt) (r : IsReply (net_of net.now) here.now start (came_to router here))

@@ -6,6 +6,7 @@ use Rattle.std.specs.Option.{option_and_then}
 use Rattle.std.specs.Str.{bytes_eq}
 use Rattle.std.proofs.lemmas.Bool.Decides.{Decides-at, Decides-eqb, Decides-not}
 use Rattle.std.proofs.lemmas.Slice.Eq.{bytes_eq-Decides}
+use Rattle.scion_header.specs.declared.domain.Domain.{Domain}
 use Rattle.segment_switch.specs.declared.kind.LinkKind.{LinkKind}
 use Rattle.segment_switch.specs.declared.kind.LinkKind.TheVariants.{Core, Parent, Child}
 use Rattle.process_packet.specs.declared.config.Config.{Config}
@@ -18,7 +19,7 @@ use Rattle.process_packet.specs.declared.underlay.Ip.{Ip}
 use Rattle.process_packet.specs.declared.underlay.Ip.TheVariants.{V4, V6}
 use Rattle.process_packet.specs.declared.underlay.Underlay.{Underlay}
 use Rattle.walk_laws.specs.Agreement as agreement
-use Rattle.walk_laws.specs.Net.{AgreeWithin, Agrees, AreApart, AreOfOneAS, IsWire, Lists, Net, Router, opposite, router_of}
+use Rattle.walk_laws.specs.Net.{AgreeWithin, Agrees, AreApart, AreOfOneAS, IsNamed, IsWire, Lists, Net, Router, opposite, router_of}
 use Rattle.process_packet.specs.Network.{own_link, sibling}
 use Rattle.process_packet.specs.Underlay.{same_ip, same_underlay}
 
@@ -248,7 +249,39 @@ link_found : (routers : List Router) (e : End) (l : Link) (x : Router) → slice
     → agreement.link_at routers e ≡ Some l
 link_found routers e l x at is = ap (option_and_then (λ (y : Router). own_link y.network e.link)) at ∙ is
 
-record AreJoined (o i : Option Link) : Type 0 where
+-- the AS that is named, if one is
+named_decides : (o : Option Domain) (y : Router) → Decides (agreement.is_named o y.network) (IsNamed o y)
+named_decides None y = (λ e. record { isd = λ d is. absurd cc; autonomous_system = λ d is. absurd cc }, λ is. refl)
+named_decides (Some d) y =
+    let n = y.network in
+    by_way (agreement.is_named (Some d) n)
+    (λ h. record {
+      isd = λ e is. let same : d ≡ e = cc in sym (ap (λ (x : Domain). x.isd) same) ∙ h.0;
+      autonomous_system = λ e is. let same : d ≡ e = cc in sym (ap (λ (x : Domain). x.autonomous_system) same) ∙ h.1;
+    })
+    (λ is. (is.isd d refl, is.autonomous_system d refl))
+    (both (d.isd == n.isd) (d.autonomous_system == n.autonomous_system) (Decides-eqb d.isd n.isd) (Decides-eqb d.autonomous_system n.autonomous_system))
+
+record NamesEnd (routers : List Router) (l : Link) (e : End) : Type 0 where
+  router : Router
+  router_is : slice_get routers e.router ≡ Some router
+  named : IsNamed l.neighbor router
+
+end_named : (routers : List Router) (l : Link) (e : End) (o : Option Router) → slice_get routers e.router ≡ o → Decides (agreement.is_named_by l o) (NamesEnd routers l e)
+end_named routers l e None at = (λ is. let never : false ≡ true = is in absurd cc, λ n. let there = n.router_is in absurd cc)
+end_named routers l e (Some x) at =
+    by_way (agreement.is_named l.neighbor x.network)
+    (λ is. record { router = x; router_is = at; named = is })
+    (λ n. let there : Some n.router ≡ Some x = sym n.router_is ∙ at in let same : n.router ≡ x = cc in subst (IsNamed l.neighbor) same n.named)
+    (named_decides l.neighbor x)
+
+names_decide : (routers : List Router) (l : Link) (e : End) → Decides (agreement.names_end routers l e) (NamesEnd routers l e)
+names_decide routers l e = end_named routers l e (slice_get routers e.router) refl
+
+named_there : (routers : List Router) (l : Link) (e : End) (x : Router) → slice_get routers e.router ≡ Some x → NamesEnd routers l e → IsNamed l.neighbor x
+named_there routers l e x at n = let there : Some n.router ≡ Some x = sym n.router_is ∙ at in let same : n.router ≡ x = cc in subst (IsNamed l.neighbor) same n.named
+
+record AreWired (routers : List Router) (w : Wire) (o i : Option Link) : Type 0 where
   out : Link
   into : Link
   out_is : o ≡ Some out
@@ -256,16 +289,30 @@ record AreJoined (o i : Option Link) : Type 0 where
   remote : out.remote ≡ into.local
   remote_back : into.remote ≡ out.local
   kinds : into.kind ≡ opposite out.kind
+  out_names : NamesEnd routers out w.other
+  into_names : NamesEnd routers into w.one
 
-joined_decides : (o i : Option Link) → Decides (agreement.are_joined o i) (AreJoined o i)
-joined_decides None i = (λ e. let never : false ≡ true = e in absurd cc, λ j. let is = j.out_is in absurd cc)
-joined_decides (Some out) None = (λ e. let never : false ≡ true = e in absurd cc, λ j. let is = j.into_is in absurd cc)
-joined_decides (Some out) (Some into) =
+wired_decides : (routers : List Router) (w : Wire) (o i : Option Link) → Decides (agreement.are_wired routers w o i) (AreWired routers w o i)
+wired_decides routers w None i = (λ e. let never : false ≡ true = e in absurd cc, λ j. let is = j.out_is in absurd cc)
+wired_decides routers w (Some out) None = (λ e. let never : false ≡ true = e in absurd cc, λ j. let is = j.into_is in absurd cc)
+wired_decides routers w (Some out) (Some into) =
     let a = same_underlay out.remote into.local in
     let b = same_underlay into.remote out.local in
     let c = agreement.are_opposite out.kind into.kind in
-    by_way (a && b && c)
-    (λ h. record { out = out; into = into; out_is = refl; into_is = refl; remote = h.0.0; remote_back = h.0.1; kinds = h.1 })
+    let d = agreement.names_end routers out w.other in
+    let e = agreement.names_end routers into w.one in
+    by_way (a && b && c && d && e)
+    (λ h. record {
+      out = out;
+      into = into;
+      out_is = refl;
+      into_is = refl;
+      remote = h.0.0.0.0;
+      remote_back = h.0.0.0.1;
+      kinds = h.0.0.1;
+      out_names = h.0.1;
+      into_names = h.1;
+    })
     (λ j.
     let one = j.out_is in
     let two = j.into_is in
@@ -274,8 +321,14 @@ joined_decides (Some out) (Some into) =
     let remote : out.remote ≡ into.local = sym (ap (λ (l : Link). l.remote) out_same) ∙ j.remote ∙ ap (λ (l : Link). l.local) into_same in
     let back : into.remote ≡ out.local = sym (ap (λ (l : Link). l.remote) into_same) ∙ j.remote_back ∙ ap (λ (l : Link). l.local) out_same in
     let kinds : into.kind ≡ opposite out.kind = sym (ap (λ (l : Link). l.kind) into_same) ∙ j.kinds ∙ ap (λ (l : Link). opposite l.kind) out_same in
-    ((remote, back), kinds))
+    let out_names : NamesEnd routers out w.other = subst (λ (l : Link). NamesEnd routers l w.other) out_same j.out_names in
+    let into_names : NamesEnd routers into w.one = subst (λ (l : Link). NamesEnd routers l w.one) into_same j.into_names in
+    ((((remote, back), kinds), out_names), into_names))
+    (both (a && b && c && d) e
+    (both (a && b && c) d
     (both (a && b) c (both a b (underlay_decides out.remote into.local) (underlay_decides into.remote out.local)) (opposite_decides out.kind into.kind))
+    (names_decide routers out w.other))
+    (names_decide routers into w.one))
 
 wire_decides : (net : Net) (w : Wire) → Decides (agreement.is_wire net.routers w) (IsWire net w)
 wire_decides net w =
@@ -298,6 +351,8 @@ wire_decides net w =
       remote = j.remote;
       remote_back = j.remote_back;
       kinds = j.kinds;
+      out_names = named_there net.routers j.out w.other other.router other.router_is j.out_names;
+      into_names = named_there net.routers j.into w.one one.router one.router_is j.into_names;
       different = h.1;
     })
     (λ is. (
@@ -309,10 +364,12 @@ wire_decides net w =
         remote = is.remote;
         remote_back = is.remote_back;
         kinds = is.kinds;
+        out_names = record { router = is.other; router_is = is.other_is; named = is.out_names };
+        into_names = record { router = is.one; router_is = is.one_is; named = is.into_names };
       },
       is.different,
     ))
-    (both (agreement.are_joined o i) (not (agreement.same_end w.one w.other)) (joined_decides o i)
+    (both (agreement.are_wired net.routers w o i) (not (agreement.same_end w.one w.other)) (wired_decides net.routers w o i)
     (Decides-not (agreement.same_end w.one w.other) (end_decides w.one w.other)))
 
 differ_decides : (a b : End) → Decides (not (agreement.same_end a b)) (a ≢ b)

@@ -132,6 +132,7 @@ info_down = ((omega arith, (omega arith, (omega arith, tt))), ((omega arith, tt)
 packet_is : IsPacket descent_packet
 packet_is = record {
   header = record { common = common; destination = destination; source = source; covers = omega arith };
+  path_type = refl;
   path = record {
     meta = meta;
     segments = (record { info = info_over; hops = (is_over_0, (is_over_1, tt)); some = omega arith }, (record { info = info_down; hops = (is_down_0, (is_down_1, tt)); some = omega arith }, tt));

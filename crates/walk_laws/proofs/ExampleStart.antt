@@ -125,6 +125,7 @@ is_hop_2 = is_hop 18 0 hop_2.mac (omega arith) (omega arith) six_2
 pub packet_is : IsPacket example_packet
 packet_is = record {
   header = record { common = common; destination = destination; source = source; covers = omega arith };
+  path_type = refl;
   path = record {
     meta = meta;
     segments = (record { info = info; hops = (is_hop_0, (is_hop_1, (is_hop_2, tt))); some = omega arith }, tt);

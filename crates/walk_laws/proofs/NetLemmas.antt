@@ -9,7 +9,7 @@ use Rattle.process_packet.specs.declared.neighbours.Link.{Link}
 use Rattle.process_packet.specs.declared.neighbours.Sibling.{Sibling}
 use Rattle.walk_laws.specs.declared.net.End.{End}
 use Rattle.walk_laws.specs.declared.net.Wire.{Wire}
-use Rattle.walk_laws.specs.Net.{Agrees, AreApart, IsWire, Joined, Lists, Net, Router, opposite, router_at}
+use Rattle.walk_laws.specs.Net.{Agrees, AreApart, IsNamed, IsWire, Joined, Lists, Net, Router, opposite, router_at}
 use Rattle.process_packet.specs.Network.{own_link, sibling}
 
 -- ---- joined ends
@@ -27,6 +27,8 @@ pub record IsWired (net : Net) (a b : End) : Type 0 where
   pub remote : out.remote ≡ into.local
   pub remote_back : into.remote ≡ out.local
   pub kinds : into.kind ≡ opposite out.kind
+  pub out_names : IsNamed out.neighbor other
+  pub into_names : IsNamed into.neighbor one
   pub alone : (c : End) → Joined net a c → c ≡ b
 
 twice : (k : LinkKind) → opposite (opposite k) ≡ k
@@ -98,6 +100,8 @@ joined_ends net agrees a b (inl there) =
       remote = w.remote;
       remote_back = w.remote_back;
       kinds = w.kinds;
+      out_names = w.out_names;
+      into_names = w.into_names;
       alone = λ c joined. same_other net agrees a b c w.different (joined_by net a b (inl there)) (joined_by net a c joined);
     }
 joined_ends net agrees a b (inr there) =
@@ -114,6 +118,8 @@ joined_ends net agrees a b (inr there) =
       remote = w.remote_back;
       remote_back = w.remote;
       kinds = sym (ap opposite w.kinds ∙ twice w.out.kind);
+      out_names = w.into_names;
+      into_names = w.out_names;
       alone = λ c joined. same_other net agrees a b c (λ same. w.different (sym same)) (joined_by net a b (inr there)) (joined_by net a c joined);
     }
 

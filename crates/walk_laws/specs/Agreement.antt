@@ -3,6 +3,7 @@ use Rattle.std.specs.Prelude.{ℕ, Bool, true, false, not, ◌&&◌, ◌||◌, �
 use Rattle.std.specs.List.{enumerate_from, list_all, list_any, slice_get}
 use Rattle.std.specs.Option.{option_and_then}
 use Rattle.std.specs.Str.{bytes_eq}
+use Rattle.scion_header.specs.declared.domain.Domain.{Domain}
 use Rattle.segment_switch.specs.declared.kind.LinkKind.{LinkKind}
 use Rattle.segment_switch.specs.declared.kind.LinkKind.TheVariants.{Core, Parent, Child}
 use Rattle.process_packet.specs.declared.config.Config.{Config}
@@ -82,14 +83,28 @@ same_end a b = a.router == b.router && a.link == b.link
 abbrev pub link_at : List Router → End → Option Link
 link_at routers e = option_and_then (λ (x : Router). own_link x.network e.link) (slice_get routers e.router)
 
-abbrev pub are_joined : Option Link → Option Link → Bool
-are_joined None into = false
-are_joined (Some out) None = false
-are_joined (Some out) (Some into) =
-    same_underlay out.remote into.local && same_underlay into.remote out.local && are_opposite out.kind into.kind
+abbrev pub are_joined : Link → Link → Bool
+are_joined out into = same_underlay out.remote into.local && same_underlay into.remote out.local && are_opposite out.kind into.kind
+
+-- the AS that a link names at its other end, if it names one, is that of the router there
+abbrev pub is_named : Option Domain → Network → Bool
+is_named None n = true
+is_named (Some d) n = d.isd == n.isd && d.autonomous_system == n.autonomous_system
+
+abbrev pub is_named_by : Link → Option Router → Bool
+is_named_by l None = false
+is_named_by l (Some x) = is_named l.neighbor x.network
+
+abbrev pub names_end : List Router → Link → End → Bool
+names_end routers l e = is_named_by l (slice_get routers e.router)
+
+abbrev pub are_wired : List Router → Wire → Option Link → Option Link → Bool
+are_wired routers w None into = false
+are_wired routers w (Some out) None = false
+are_wired routers w (Some out) (Some into) = are_joined out into && names_end routers out w.other && names_end routers into w.one
 
 abbrev pub is_wire : List Router → Wire → Bool
-is_wire routers w = are_joined (link_at routers w.one) (link_at routers w.other) && not (same_end w.one w.other)
+is_wire routers w = are_wired routers w (link_at routers w.one) (link_at routers w.other) && not (same_end w.one w.other)
 
 abbrev pub are_apart : Wire → Wire → Bool
 are_apart v w =

@@ -90,6 +90,7 @@ descent_packet = record {
     next_header = 17;
     header_length = 26;
     payload_length = 8;
+    path_type = 1;
     reserved = 0;
     destination = record { isd = 1; autonomous_system = 0xff0000000112; kind = 0; host = 10 ∷ 2 ∷ 0 ∷ 7 ∷ [] };
     source = record { isd = 1; autonomous_system = 0xff0000000120; kind = 0; host = 10 ∷ 1 ∷ 0 ∷ 5 ∷ [] };

@@ -10,6 +10,7 @@ pub mod Stretch
 pub mod Example
 pub mod PathSegments
 pub mod LawfulStart
+pub mod OneHopStart
 pub mod ExampleHops
 pub mod Configured
 pub mod ExampleTurn

@@ -132,9 +132,41 @@ fn link_at<'a>(configs: &'a [Config], end: &End) -> Option<&'a Link>
 
 /// Whether a wire leads from the one link to the other.
 fn are_joined(out: &Link, into: &Link) -> bool
-    ensures { result ≡ agreement.are_joined (Some out.now) (Some into.now) }
+    ensures { result ≡ agreement.are_joined out.now into.now }
 {
     out.remote == into.local && into.remote == out.local && are_opposite(out.kind, into.kind)
+}
+
+/// Whether the AS that the link names at its other end, if it names one, is that of the router there.
+fn names(link: &Link, there: &Config) -> bool
+    ensures { result ≡ agreement.is_named link.now.neighbor (network there.now) }
+{
+    match &link.neighbor {
+        Some(named) => {
+            named.isd == there.isd && named.autonomous_system == there.autonomous_system
+        }
+        None => true,
+    }
+}
+
+/// The same, of the router that the end names.
+fn names_end(configs: &[Config], link: &Link, end: &End) -> bool
+    ensures { result ≡ agreement.names_end (map router_of configs.now) link.now end.now }
+{
+    match configs.get(end.router) {
+        Some(there) => names(link, there),
+        None => false,
+    }
+}
+
+/// Whether the wire leads from the one link to the other, and each names the AS at its other end rightly,
+/// if it names one.
+fn are_wired(configs: &[Config], wire: &Wire, out: &Link, into: &Link) -> bool
+    ensures { result ≡ agreement.are_wired (map router_of configs.now) wire.now (Some out.now) (Some into.now) }
+{
+    are_joined(out, into)
+        && names_end(configs, out, &wire.other)
+        && names_end(configs, into, &wire.one)
 }
 
 /// Whether the wire joins two links of these routers.
@@ -142,7 +174,9 @@ fn is_wire(configs: &[Config], wire: &Wire) -> bool
     ensures { result ≡ agreement.is_wire (map router_of configs.now) wire.now }
 {
     match (link_at(configs, &wire.one), link_at(configs, &wire.other)) {
-        (Some(out), Some(into)) => are_joined(out, into) && !same_end(&wire.one, &wire.other),
+        (Some(out), Some(into)) => {
+            are_wired(configs, wire, out, into) && !same_end(&wire.one, &wire.other)
+        }
         _ => false,
     }
 }
@@ -193,7 +227,8 @@ fn are_net(configs: &[Config], wires: &[Wire]) -> bool
 /// different internal addresses; no two of them have an interface of one number, and each lists all
 /// interfaces of the others as siblings, with the owner's internal address and the kind of its link. A
 /// wire joins two links of the net, and a link is on at most one wire; each of both links has the other's
-/// local address as its remote one, and their kinds are opposite.
+/// local address as its remote one, their kinds are opposite, and if a link names the AS at its other end,
+/// it is that of the router there.
 pub fn agrees(net: &Net) -> bool
     ensures { IsTrue result ↔ (Agrees (net_of net.now)) }
 {

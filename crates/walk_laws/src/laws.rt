@@ -53,8 +53,9 @@ pub fn hops_make_routes()
     ensures { HopsMakeRoutes }
 {}
 
-/// The definitions hold of the examples: a packet that sets out over three ASes, a path up and down, and a
-/// packet that changes its segment in an AS of two routers, each of which lists the other's links.
+/// The definitions hold of the examples: a packet that sets out over three ASes, a path up and down, a
+/// packet that changes its segment in an AS of two routers, each of which lists the other's links, and a
+/// beacon over a link whose ends name each other's AS.
 pub fn examples_are_lawful()
     ensures { ExamplesAreLawful }
 {}

@@ -1,4 +1,4 @@
-use Rattle.std.proofs.Common.{Some, refl}
+use Rattle.std.proofs.Common.{◌<◌, ◌^◌, ℕ, Some, refl, subst}
 use Rattle.walk_laws.specs.Net.{router_of}
 use Rattle.net_walks.proofs.StopsLemmas.{at_router, looked_up}
 use Rattle.net_walks.proofs.walking.stop_at.Goals as goal
@@ -13,4 +13,5 @@ returns-clause-stop c =
           (looked_up net.configs.items c.args.coming.router c.index.result.now there c.index.ensures) refl;
       routed = c.in_ok-routed.ensures;
       moment_is = refl;
+      link_fits = subst (λ (n : ℕ). n < 2 ^ 16) c.link_of-link.ensures.link c.link_of-link.ensures.fits;
     }

@@ -9,6 +9,7 @@ use Rattle.net_walks.specs.declared.walking.Coming.{Coming}
 use Rattle.net_walks.proofs.CarriedLemmas.{next_there}
 use Rattle.net_walks.proofs.StopsLemmas.{all_made, one_further}
 use Rattle.net_walks.proofs.DeliveredStops.{stops_answer, stops_deliver, stops_return}
+use Rattle.net_walks.proofs.OneHopCrossing.{stops_cross}
 use Rattle.net_walks.proofs.walking.walk.Goals as goal
 
 pub returns-in-None-clause-stops : goal.returns-in-None-clause-stops
@@ -36,6 +37,18 @@ pub returns-in-None-clause-returned : goal.returns-in-None-clause-returned
 returns-in-None-clause-returned c ss start r are lawful =
     stops_return (net_of c.args.net.now) ss c.args.router c.args.arrival.now start (map came_by c.go_on.new.stops.items) c.requires.agrees (net_numbered c.args.net.now) are lawful r (returns-in-None-clause-stops c)
 
+pub returns-in-None-clause-routed : goal.returns-in-None-clause-routed
+returns-in-None-clause-routed c =
+    let net : Net = net_of c.args.net.now in
+    let made = λ (m : ℕ). All (IsStop net m) c.go_on.new.stops.items in
+    subst made c.loop.invariant.moment
+    (c.in_ok-next.ensures.stops (subst (λ (m : ℕ). All (IsStop net m) c.loop.stops.items) (sym c.loop.invariant.moment) c.loop.invariant.stops))
+
+pub returns-in-None-clause-crossed : goal.returns-in-None-clause-crossed
+returns-in-None-clause-crossed c p text start =
+    stops_cross (net_of c.args.net.now) c.args.router c.args.arrival.now p c.go_on.new.stops.items c.requires.agrees (net_numbered c.args.net.now)
+    (subst IsBytes (ap (λ (x : Came). x.bytes) c.in_ok-coming.ensures.came) c.in_ok-coming.ensures.are) text start (returns-in-None-clause-stops c) (returns-in-None-clause-routed c)
+
 pub returns-clause-stops : goal.returns-clause-stops
 returns-clause-stops c =
     let net : Net = net_of c.args.net.now in
@@ -56,16 +69,14 @@ returns-clause-asked c ss p text start =
     stops_answer (net_of c.args.net.now) ss c.args.router c.args.arrival.now p (map came_by c.loop.stops.items) c.requires.agrees (net_numbered c.args.net.now)
     (subst IsBytes (ap (λ (x : Came). x.bytes) c.in_ok-coming.ensures.came) c.in_ok-coming.ensures.are) text start (returns-clause-stops c)
 
+pub returns-clause-crossed : goal.returns-clause-crossed
+returns-clause-crossed c p text start =
+    stops_cross (net_of c.args.net.now) c.args.router c.args.arrival.now p c.loop.stops.items c.requires.agrees (net_numbered c.args.net.now)
+    (subst IsBytes (ap (λ (x : Came). x.bytes) c.in_ok-coming.ensures.came) c.in_ok-coming.ensures.are) text start (returns-clause-stops c) c.loop.invariant.stops
+
 pub returns-clause-returned : goal.returns-clause-returned
 returns-clause-returned c ss start r are lawful =
     stops_return (net_of c.args.net.now) ss c.args.router c.args.arrival.now start (map came_by c.loop.stops.items) c.requires.agrees (net_numbered c.args.net.now) are lawful r (returns-clause-stops c)
-
-pub returns-in-None-clause-routed : goal.returns-in-None-clause-routed
-returns-in-None-clause-routed c =
-    let net : Net = net_of c.args.net.now in
-    let made = λ (m : ℕ). All (IsStop net m) c.go_on.new.stops.items in
-    subst made c.loop.invariant.moment
-    (c.in_ok-next.ensures.stops (subst (λ (m : ℕ). All (IsStop net m) c.loop.stops.items) (sym c.loop.invariant.moment) c.loop.invariant.stops))
 
 pub loop-preserved : goal.loop-preserved
 loop-preserved c =
