@@ -1,6 +1,7 @@
 #!/bin/sh
-# Runs the four routers of three ASes on loopback addresses of this machine, carries a packet from a host of the
-# first AS to a host of the last, traces the path between them, ends the routers and shows their reports.
+# Runs the four routers of three ASes on loopback addresses of this machine, sends beacons over both links, carries a
+# packet from a host of the first AS to a host of the last, traces the path between them, ends the routers and shows their
+# reports.
 set -eu
 
 here=$(dirname "$0")

@@ -1,9 +1,11 @@
-//! Tries a path between two hosts of this machine, over an AS, its core AS and another AS, as ping and
-//! traceroute do: sends one packet, and then asks the router at each interface of the path for an answer.
+//! Tries a path between two hosts of this machine, over an AS, its core AS and another AS. It sends a beacon each way
+//! over each link, and an answer to it; then, as ping and traceroute do, one packet, and asks the router at each
+//! interface of the path for an answer.
 //!
 //! `path_probe FROM TO FIRST CORE CORE LAST`: the addresses of the two hosts, and the configurations of the
 //! routers by which the packet leaves the first AS, enters and leaves the core AS, and enters the last one; of
-//! each its first link is used. The hop fields are made with the ASes' keys as beacons make them.
+//! each its first link is used. The hosts are the control services of their ASes, and the core AS has one too. The
+//! hop fields are made with the ASes' keys as beacons make them.
 #![tactic(auto)]
 
 ghost use Rattle.std.specs.Prelude.{◌≡◌, ◌≢◌, length, false};

@@ -1,184 +1,41 @@
 //! A path between two hosts, tried.
 
-ghost use Rattle.std.specs.Prelude.{◌≡◌, ◌≤◌, IfOk, length};
+ghost use Rattle.std.specs.Prelude.{◌≤◌, IfOk, length};
 
+use crate::beacon::{Beacon, Carried};
 use crate::message::{Reply, SCMP, UDP, reply_of, request};
-use crate::packet::{Asked, End, Place, Segment, Way, datagram, segment_over};
-use process_packet::{Config, Ip, Underlay};
-use router_config::{read_config, read_underlay};
+use crate::packet::{Asked, datagram};
+use crate::plan::{Crossing, Plan, Spot, plan_of, refused};
+use crate::segment::Place;
 use std::alloc::Global;
-use std::net::{IpAddr, Ipv4Addr, Net, SocketAddr, UdpSocket};
+use std::io;
+use std::net::{Net, SocketAddr, UdpSocket};
 use std::rt::{Clock, Files};
-use std::time::{Duration, Instant, SystemTime, UNIX_EPOCH};
-use std::{fs, io};
+use std::time::{Duration, Instant};
 
 /// How many seconds an answer is waited for.
 const PATIENCE: u64 = 5;
 
-/// What this can't do.
-fn refused(what: &'static str) -> io::Error {
-    io::Error::new(io::ErrorKind::InvalidInput, what)
-}
-
-/// The configuration that a file holds.
-fn config_at<R: Files + AllocGlobal>(rt: &R, path: &str) -> io::Result<Config> {
-    let text = fs::read_to_string(rt, path)?;
-    match read_config(rt.alloc(), text.as_str()) {
-        Ok(config) => Ok(config),
-        Err(_) => Err(refused("no configuration")),
-    }
-}
-
-/// A router's end of its first link.
-fn end_of(config: &Config) -> io::Result<End<'_>> {
-    match config.links.first() {
-        Some(link) => Ok(End {
-            key: &config.key,
-            interface: link.id,
-        }),
-        None => Err(refused("no link")),
-    }
-}
-
-/// The IPv4 address and port that a word names.
-fn host_at(word: &str) -> io::Result<([u8; 4], u16)> {
-    match read_underlay(word) {
-        Some(
-            Underlay {
-                ip: Ip::V4(bytes),
-                port,
-            },
-        ) => Ok((bytes, port)),
-        _ => Err(refused("no IPv4 address and port")),
-    }
-}
-
 /// A socket of a host, which waits for a few seconds.
-fn socket_at<R: Net>(rt: &R, host: ([u8; 4], u16)) -> io::Result<UdpSocket> {
-    let address = SocketAddr::new(IpAddr::V4(Ipv4Addr::from_octets(host.0)), host.1);
-    let socket = UdpSocket::bind(rt, address)?;
+fn socket_at<R: Net>(rt: &R, host: Spot) -> io::Result<UdpSocket> {
+    let socket = UdpSocket::bind(rt, host.address())?;
     socket.set_read_timeout(Some(Duration::from_secs(PATIENCE)))?;
     Ok(socket)
 }
 
-/// The system's address of an IPv4 address and port.
-fn address_of(at: Underlay) -> io::Result<SocketAddr> {
-    match at.ip {
-        Ip::V4(bytes) => Ok(SocketAddr::new(IpAddr::V4(Ipv4Addr::from_octets(bytes)), at.port)),
-        Ip::V6(_) => Err(refused("no IPv4 address")),
-    }
-}
-
-/// The present minute.
-fn minute<R: Clock>(rt: &R) -> io::Result<u32> {
-    let Ok(since) = SystemTime::now(rt)?.duration_since(UNIX_EPOCH) else {
-        return Err(refused("the clock is before 1970"));
-    };
-    match u32::try_from(since.as_secs() / 60 * 60) {
-        Ok(minute) => Ok(minute),
-        Err(_) => Err(refused("the clock is after 2106")),
-    }
-}
-
-/// A segment from the core AS to another, a host there, and where its router takes packets of its AS.
-#[derive(Clone, Copy)]
-struct Branch {
-    segment: Segment,
-    place: Place,
-    internal: Underlay,
-}
-
-/// The branch over the first links of a router of the core AS and one of the other AS.
-fn branch_over(
-    core: &Config,
-    other: &Config,
-    host: [u8; 4],
-    at_core: u16,
-    now: u32,
-) -> io::Result<Branch> {
-    let segment = segment_over(end_of(core)?, end_of(other)?, at_core, now);
-    let place = Place {
-        isd: other.isd,
-        autonomous_system: other.autonomous_system,
-        host,
-    };
-    Ok(Branch {
-        segment,
-        place,
-        internal: other.internal,
-    })
-}
-
-/// The branch over the routers of two configurations, beaconed now.
-fn branch_at<R: Files + AllocGlobal>(
-    rt: &R,
-    core: &str,
-    other: &str,
-    host: [u8; 4],
-    at_core: u16,
-    now: u32,
-) -> io::Result<Branch> {
-    let core = config_at(rt, core)?;
-    let other = config_at(rt, other)?;
-    branch_over(&core, &other, host, at_core, now)
-}
-
-/// The way between two hosts, and where it enters the network.
-#[derive(Clone, Copy)]
-struct Plan {
-    way: Way,
-    entry: SocketAddr,
-}
-
-/// The plan for two hosts over the routers of these configurations.
-fn plan_of<R: Files + Clock + AllocGlobal>(
-    rt: &R,
-    configs: &[String],
-    from: [u8; 4],
-    to: [u8; 4],
-) -> io::Result<Plan>
-    requires { length configs.now ≡ 4 }
-{
-    let now = minute(rt)?;
-    let up = branch_at(
-        rt,
-        configs[1].as_str(),
-        configs[0].as_str(),
-        from,
-        0x1234,
-        now,
-    )?;
-    let down = branch_at(
-        rt,
-        configs[2].as_str(),
-        configs[3].as_str(),
-        to,
-        0x5678,
-        now,
-    )?;
-    let way = Way {
-        from: up.place,
-        to: down.place,
-        up: up.segment,
-        down: down.segment,
-    };
-    Ok(Plan {
-        way,
-        entry: address_of(up.internal)?,
-    })
-}
-
-/// A path between two hosts, with their sockets.
+/// A path between two hosts, with the sockets of the hosts and of the core AS's control service.
 #[derive(Drop)]
 pub struct Probe {
     plan: Plan,
     near: UdpSocket,
     far: UdpSocket,
+    core: UdpSocket,
 }
 
 /// The probe that these words ask for: the addresses of the two hosts, and the files of the configurations of
 /// the routers by which the packet leaves the first AS, enters and leaves the core AS, and enters the last one.
-/// Of each its first link is used.
+/// Of each its first link is used. The hosts are the control services of their ASes too; the core AS has a
+/// control service of its own.
 pub fn probe_of<R: Files + Net + Clock + AllocGlobal>(
     rt: &R,
     words: &[String],
@@ -186,12 +43,109 @@ pub fn probe_of<R: Files + Net + Clock + AllocGlobal>(
     if words.len() != 6 {
         return Err(refused("FROM TO FIRST CORE CORE LAST"));
     }
-    let near = host_at(words[0].as_str())?;
-    let far = host_at(words[1].as_str())?;
-    let plan = plan_of(rt, &words[2..], near.0, far.0)?;
+    let near = Spot::named(words[0].as_str())?;
+    let far = Spot::named(words[1].as_str())?;
+    let plan = plan_of(rt, &words[2..], near, far)?;
     let near = socket_at(rt, near)?;
     let far = socket_at(rt, far)?;
-    Ok(Probe { plan, near, far })
+    let core = socket_at(rt, plan.first.core_control)?;
+    Ok(Probe {
+        plan,
+        near,
+        far,
+        core,
+    })
+}
+
+/// A datagram that came: its length, its sender, and after how long.
+#[derive(Clone, Copy)]
+struct Came {
+    len: usize,
+    from: SocketAddr,
+    micros: u128,
+}
+
+/// Sends a datagram from a host into the network, and waits for what comes to a host.
+fn exchange<R: Clock>(
+    rt: &R,
+    from: &UdpSocket,
+    entry: Spot,
+    bytes: &[u8],
+    to: &UdpSocket,
+    room: &mut [u8],
+) -> io::Result<Came>
+    ensures { IfOk result (λ came. came.len ≤ length room.new) }
+{
+    let start = Instant::now(rt)?;
+    from.send_to(bytes, entry.address())?;
+    let (len, from) = to.recv_from(room)?;
+    let micros = start.elapsed(rt)?.as_micros();
+    Ok(Came { len, from, micros })
+}
+
+/// A host and the router by which it sends.
+#[derive(Clone, Copy)]
+struct Station<'a> {
+    socket: &'a UdpSocket,
+    entry: Spot,
+}
+
+/// Has a datagram carried from one host to another, and tells how many microseconds that took. It has to arrive
+/// byte for byte as it is wanted.
+fn carry<R: Clock>(
+    rt: &R,
+    from: Station<'_>,
+    to: Station<'_>,
+    carried: Carried,
+) -> io::Result<u128> {
+    let mut room = [0u8; 1500];
+    let came = exchange(
+        rt,
+        from.socket,
+        from.entry,
+        carried.sent.as_slice(),
+        to.socket,
+        &mut room,
+    )?;
+    if &room[..came.len] != carried.wanted.as_slice() {
+        return Err(refused("another datagram came"));
+    }
+    Ok(came.micros)
+}
+
+/// Prints the number of an AS and one of its interfaces.
+fn print_interface<R: Print>(rt: &R, place: Place, interface: u16) -> io::Result<()> {
+    let Place {
+        isd,
+        autonomous_system: number,
+        ..
+    } = place;
+    let (high, middle, low) = (number >> 32, number >> 16 & 0xffff, number & 0xffff);
+    print!(rt; "{isd}-{high:x}:{middle:x}:{low:x} interface {interface}")
+}
+
+/// Prints what became of a beacon.
+fn print_beacon<R: Print>(rt: &R, beacon: &Beacon, there: u128, back: u128) -> io::Result<()> {
+    let [first, second] = beacon.segment.hops;
+    print!(rt; "a beacon crossed from ")?;
+    print_interface(rt, beacon.from, first.construction_egress)?;
+    print!(rt; " to ")?;
+    print_interface(rt, beacon.to, second.construction_ingress)?;
+    println!(rt; " in {there} us, its answer back in {back} us")
+}
+
+/// Sends a beacon from one control service to another, which answers it, and prints that both came.
+fn try_beacon<R: Clock + Print + AllocGlobal>(
+    rt: &R,
+    from: Station<'_>,
+    to: Station<'_>,
+    beacon: &Beacon,
+) -> io::Result<()> {
+    let out = beacon.out(rt.alloc())?;
+    let there = carry(rt, from, to, out)?;
+    let answer = beacon.answer(rt.alloc())?;
+    let back = carry(rt, to, from, answer)?;
+    print_beacon(rt, beacon, there, back)
 }
 
 /// Prints what a router answered, and after how long.
@@ -206,24 +160,28 @@ fn print_reply<R: Print>(rt: &R, sequence: u8, reply: Reply, micros: u128) -> io
     )
 }
 
-/// A datagram that came: its length, its sender, and after how long.
-#[derive(Clone, Copy)]
-struct Came {
-    len: usize,
-    from: SocketAddr,
-    micros: u128,
-}
-
 impl Probe {
-    /// Sends a datagram into the network.
-    fn send(&self, alloc: Global, asked: Asked, protocol: u8, payload: &[u8]) -> io::Result<()> {
-        let bytes = datagram(alloc, &self.plan.way, asked, protocol, payload)?;
-        self.near.send_to(bytes.as_slice(), self.plan.entry)?;
-        Ok(())
+    /// Sends a beacon over a link each way, first from the core AS, and prints what comes.
+    fn cross<R: Clock + Print + AllocGlobal>(
+        &self,
+        rt: &R,
+        crossing: &Crossing,
+        other: &UdpSocket,
+    ) -> io::Result<()> {
+        let core = Station {
+            socket: &self.core,
+            entry: crossing.core_entry,
+        };
+        let other = Station {
+            socket: other,
+            entry: crossing.other_entry,
+        };
+        try_beacon(rt, core, other, &crossing.down)?;
+        try_beacon(rt, other, core, &crossing.up)
     }
 
     /// Sends a datagram into the network, and waits for what comes to a host.
-    fn exchange<R: Clock + AllocGlobal>(
+    fn send<R: Clock + AllocGlobal>(
         &self,
         rt: &R,
         asked: Asked,
@@ -234,18 +192,22 @@ impl Probe {
     ) -> io::Result<Came>
         ensures { IfOk result (λ came. came.len ≤ length room.new) }
     {
-        let start = Instant::now(rt)?;
-        self.send(rt.alloc(), asked, protocol, payload)?;
-        let (len, from) = host.recv_from(room)?;
-        let micros = start.elapsed(rt)?.as_micros();
-        Ok(Came { len, from, micros })
+        let bytes = datagram(rt.alloc(), &self.plan.way(), asked, protocol, payload)?;
+        exchange(
+            rt,
+            &self.near,
+            self.plan.first.other_entry,
+            bytes.as_slice(),
+            host,
+            room,
+        )
     }
 
     /// Sends one packet from host to host, and prints what arrives.
     fn ping<R: Clock + Print + AllocGlobal>(&self, rt: &R) -> io::Result<()> {
         let payload = b"\x75\x59\x75\x59\x00\x0d\x00\x00hello";
         let mut room = [0u8; 1500];
-        let Came { len, from, micros } = self.exchange(
+        let Came { len, from, micros } = self.send(
             rt,
             Asked::Nothing,
             UDP,
@@ -264,15 +226,18 @@ impl Probe {
         asked: Asked,
     ) -> io::Result<()> {
         let mut room = [0u8; 1500];
-        let came = self.exchange(rt, asked, SCMP, &request(sequence), &self.near, &mut room)?;
+        let came = self.send(rt, asked, SCMP, &request(sequence), &self.near, &mut room)?;
         match reply_of(&room[..came.len]) {
             Some(reply) => print_reply(rt, sequence, reply, came.micros),
             None => Err(refused("another answer")),
         }
     }
 
-    /// Sends one packet, and then asks the router at each interface of the path, and prints what comes.
+    /// Sends beacons over each link, then one packet over the segments that they made, and then asks the router at
+    /// each interface of the path, and prints what comes.
     pub fn try_all<R: Clock + Print + AllocGlobal>(&self, rt: &R) -> io::Result<()> {
+        self.cross(rt, &self.plan.first, &self.near)?;
+        self.cross(rt, &self.plan.last, &self.far)?;
         self.ping(rt)?;
         self.trace(rt, 1, Asked::Leaving)?;
         self.trace(rt, 2, Asked::EnteringCore)?;
