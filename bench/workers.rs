@@ -190,7 +190,7 @@ struct Counts {
     received: u64,
     sent: u64,
     answered: u64,
-    dropped: [u64; 18],
+    dropped: [u64; CAUSES],
 }
 
 impl Counts {
@@ -198,6 +198,9 @@ impl Counts {
         self.dropped[cause - 1] += 1;
     }
 }
+
+/// How many causes of drops the router has.
+const CAUSES: usize = 21;
 
 const PROCESSOR_FULL: usize = 12;
 const LINK_FULL: usize = 13;

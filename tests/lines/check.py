@@ -2,8 +2,8 @@
 """Gives the built program words, configurations and lines, and compares what it writes and how it ends with tables.
 
 The tables are the files beside this one. Each says at its head what its rows are; lines that begin with `# ` are
-comments. Besides, `router route` is given each beginning of the first datagram, and each datagram that differs from it
-in one byte. No router is started, and no network is needed.
+comments. Besides, `router route` is given each beginning of the first datagram and of two one-hop packets, and each
+datagram that differs from one of them in one byte. No router is started, and no network is needed.
 
 Use: tests/lines/check.py [PROGRAM], where PROGRAM is bin/router if it isn't named.
 """
@@ -208,6 +208,12 @@ def quoting(answer, datagram):
     return (answer + datagram)[:end].ljust(end, b"\0")
 
 
+def try_worked(trial, name, link, now, source, config, datagram, line):
+    """Counts a worked datagram by the line that is written for it."""
+    words = ["route", "--config", "c", "--link", link, "--now", now, *([] if source == "-" else ["--from", source])]
+    trial.compare(name, writes(f"{line}\n".encode()), words, config, f"{datagram.hex()}\n".encode())
+
+
 def try_datagrams(trial):
     config, first, answer = text_of("router.toml"), bytes_of("first.hex"), bytes_of("answer.hex")
     for row in rows_of("datagrams.txt"):
@@ -217,8 +223,25 @@ def try_datagrams(trial):
             begins += " " + made(datagram, len(datagram), leaves).hex()
         elif begins.startswith("answer "):
             begins += " " + quoting(made(answer, len(answer), leaves), datagram).hex()
-        words = ["route", "--config", "c", "--link", link, "--now", now, *([] if source == "-" else ["--from", source])]
-        trial.compare(name, writes(f"{begins}\n".encode()), words, config, f"{datagram.hex()}\n".encode())
+        try_worked(trial, name, link, now, source, config, datagram, begins)
+
+
+def without_neighbors(config, links):
+    """The configuration in which these links have no `neighbor`."""
+    for link in links:
+        config = re.sub(rf'(\{{id={link},.*), neighbor="[^"]*"', r"\1", config)
+    return config
+
+
+def try_one_hops(trial):
+    sound, leaving, entering = text_of("router.toml"), bytes_of("one-hop-out.hex"), bytes_of("one-hop-in.hex")
+    for row in rows_of("one-hops.txt"):
+        name, bare, link, now, source, length, changes, line, leaves = (column.strip() for column in row.split(";"))
+        config = sound if bare == "-" else without_neighbors(sound, bare.split())
+        datagram = made(leaving if link == "0" else entering, int(length), changes)
+        if line.startswith("send "):
+            line += " " + made(datagram, len(datagram), leaves).hex()
+        try_worked(trial, f"one hop: {name}", link, now, source, config, datagram, line)
 
 
 def try_longest(trial):
@@ -335,23 +358,60 @@ def is_good(line):
     return re.fullmatch(rb"drop \d+|send \d+ \S+ (?:[0-9a-f]{2})+", line) or message_of(line) is not None
 
 
+def turns_of(datagram):
+    """The places of a datagram, each with each way to turn its byte."""
+    return [(at, turn) for at in range(len(datagram)) for turn in range(1, 256)]
+
+
+def turned(datagram, at, turn):
+    return datagram[:at] + bytes([datagram[at] ^ turn]) + datagram[at + 1 :]
+
+
+def lines_for(trial, name, words, datagrams):
+    """The line that `route` writes for each datagram: one for each, all of them ended, and nothing else. Otherwise no
+    line is known to be of its datagram."""
+    given = "".join(f"{datagram.hex()}\n" for datagram in datagrams).encode()
+    status, output, errors = trial.run(words, text_of("router.toml"), given)
+    lines = output.split(b"\n")
+    if (status, errors, lines.pop(), len(lines)) != (0, b"", b"", len(datagrams)):
+        print(f"{name}: {len(lines)} lines, status {status}, {errors[:160]}")
+        lines = [b""] * len(datagrams)
+    return lines
+
+
 def try_malicious(trial):
     first = bytes_of("first.hex")
-    payload_at, cuts = 4 * first[5], [first[:end] for end in range(len(first))]
-    turns = [(at, turn) for at in range(len(first)) for turn in range(1, 256)]
-    turned = [first[:at] + bytes([first[at] ^ turn]) + first[at + 1 :] for at, turn in turns]
-    given = "".join(f"{datagram.hex()}\n" for datagram in cuts + turned).encode()
-    status, output, errors = trial.run(ROUTE, text_of("router.toml"), given)
-    lines = output.split(b"\n")
-    # one line for each, all of them ended, and nothing else; otherwise no line is known to be of its datagram
-    is_whole = (status, errors, lines.pop(), len(lines)) == (0, b"", b"", len(cuts + turned))
-    if not is_whole:
-        print(f"malicious datagrams: {len(lines)} lines, status {status}, {errors[:160]}")
-        lines = [b""] * len(cuts + turned)
+    payload_at, cuts, turns = 4 * first[5], [first[:end] for end in range(len(first))], turns_of(first)
+    lines = lines_for(trial, "malicious datagrams", ROUTE, cuts + [turned(first, at, turn) for at, turn in turns])
     for cut, line in zip(cuts, lines):
         trial.count(f"the first {len(cut)} bytes", is_cut_well(line, cut, payload_at), f"came   {line}")
     for (at, turn), line in zip(turns, lines[len(cuts) :]):
         trial.count(f"byte {at} turned by {turn:02x}", is_good(line), f"came   {line}")
+
+
+def is_one_hop_good(line, datagram, places):
+    """Whether a one-hop packet is dropped, or sent with no other bytes changed than those at these places."""
+    found = re.fullmatch(rb"send \d+ \S+ ((?:[0-9a-f]{2})+)", line)
+    if not found:
+        return re.fullmatch(rb"drop \d+", line) is not None
+    left = bytes.fromhex(found[1].decode())
+    return len(left) == len(datagram) and all(a == b or at in places for at, (a, b) in enumerate(zip(datagram, left)))
+
+
+def try_malicious_one_hop(trial, file, link, places):
+    """A one-hop packet that comes by a link, cut at each length and turned in each byte. `places` are those of the bytes
+    that the router changes in it. None is answered."""
+    packet = bytes_of(file)
+    payload_at, cuts, turns = 4 * packet[5], [packet[:end] for end in range(len(packet))], turns_of(packet)
+    words = ["route", "--config", "c", "--link", link, "--now", "1694499816"]
+    given = cuts + [turned(packet, at, turn) for at, turn in turns]
+    lines = lines_for(trial, file, words, given)
+    for cut, line in zip(cuts, lines):
+        wanted = b"drop 1" if len(cut) < payload_at else b"drop 4"
+        trial.count(f"{file}: the first {len(cut)} bytes", line == wanted, f"came   {line}")
+    for (at, turn), datagram, line in zip(turns, given[len(cuts) :], lines[len(cuts) :]):
+        good = is_one_hop_good(line, datagram, places)
+        trial.count(f"{file}: byte {at} turned by {turn:02x}", good, f"came   {line}")
 
 
 def main():
@@ -367,11 +427,14 @@ def main():
         try_warnings(trial)
         try_sockets(trial)
         try_datagrams(trial)
+        try_one_hops(trial)
         try_longest(trial)
         try_cases(trial, "routes.txt", ROUTE, text_of("router.toml"))
         try_cases(trial, "replays.txt", REPLAY, text_of("replay.toml"))
         try_replay_faults(trial)
         try_malicious(trial)
+        try_malicious_one_hop(trial, "one-hop-out.hex", "0", range(38, 40))
+        try_malicious_one_hop(trial, "one-hop-in.hex", "1", range(56, 68))
     print(f"{trial.passed} passed, {trial.failed} failed")
     sys.exit(1 if trial.failed else 0)
 

@@ -5,8 +5,9 @@
 
 Each net has core ASes, their children and grandchildren, of one to three routers each, over IPv4 or IPv6. Hosts send
 packets on beaconed paths of one to three segments, with other bytes here and there, traceroute requests, urgent ones
-and such as have expired. `router route` says what each router on the way makes of a packet. What arrives at hosts and
-services must be exactly that, byte for byte, each flow in order, and each router's report must count exactly that.
+and such as have expired. Hosts and services also send beacons over the links, each way, on paths of one hop, and answers
+to them. `router route` says what each router on the way makes of a packet. What arrives at hosts and services must be
+exactly that, byte for byte, each flow in order, and each router's report must count exactly that.
 """
 
 import argparse
@@ -176,6 +177,7 @@ class Net:
         for at, to, is_first in ((one, kind, True), (other, back, False)):
             of = router if router and is_first else self.dice.choice(at["routers"])
             end = {"as": at, "id": self.new_interface(at), "kind": to, "router": of, "bands": self.dice.choice([1, 2])}
+            end["named"] = self.dice.random() < 0.9
             ends.append(end)
         is_v6 = self.is_v6 or self.dice.random() < 0.2
         for end in ends:
@@ -220,6 +222,7 @@ def config_of(router):
         lines += ["[[link]]", f"id = {end['id']}", f'kind = "{end["kind"]}"']
         lines += [f'local = "{text_of(end["local"])}"', f'remote = "{text_of(end["remote"])}"']
         lines += [f"bands = {end['bands']}"] * two
+        lines += [f'neighbor = "{isd_as_text(end["far"]["as"])}"'] * end["named"]
     for other in one["routers"]:
         for end in other["links"] if other is not router else []:
             lines += ["[[sibling]]", f"id = {end['id']}", f'kind = "{end["kind"]}"', f'at = "{text_of(other["internal"])}"']
@@ -231,6 +234,16 @@ def config_of(router):
 # Paths and packets.
 
 
+def some_expiry(dice, timestamp, now):
+    expiry = 255 if dice.random() < 0.97 else dice.randint(0, 60)
+    # not one that would expire while the routers run
+    return 255 if 0 <= timestamp + (1 + expiry) * 337.5 - now < 300 else expiry
+
+
+def mac_of(key, beta, timestamp, expiry, ingress, egress):
+    return tag6(key, struct.pack("!HHIBBHHH", 0, beta, timestamp, 0, expiry, ingress, egress, 0))
+
+
 def beaconed(dice, now, ends):
     """The segment over these links, each by its end at the AS nearer the segment's beginning: hops in the order of construction."""
     stops = [ends[0]["as"], *[end["far"]["as"] for end in ends]]
@@ -239,12 +252,8 @@ def beaconed(dice, now, ends):
     for at, one in enumerate(stops):
         ingress = ends[at - 1]["far"]["id"] if at else 0
         egress = ends[at]["id"] if at < len(ends) else 0
-        expiry = 255 if dice.random() < 0.97 else dice.randint(0, 60)
-        if 0 <= segment["timestamp"] + (1 + expiry) * 337.5 - now < 300:
-            # it would expire while the routers run
-            expiry = 255
-        block = struct.pack("!HHIBBHHH", 0, beta, segment["timestamp"], 0, expiry, ingress, egress, 0)
-        mac = tag6(one["key"], block)
+        expiry = some_expiry(dice, segment["timestamp"], now)
+        mac = mac_of(one["key"], beta, segment["timestamp"], expiry, ingress, egress)
         segment["hops"].append({"as": one, "in": ingress, "out": egress, "expiry": expiry, "mac": mac, "beta": beta})
         beta ^= int.from_bytes(mac[:2], "big")
     return segment
@@ -275,6 +284,10 @@ def travelled(segment, along):
 
 def some_path(dice, net, now):
     """A path of one to three segments, from an AS to another."""
+    if dice.random() < 0.05:
+        # the way of the answer to a beacon, whatever the link's kind
+        end = dice.choice(dice.choice(net.ases)["links"])
+        return [travelled(beaconed(dice, now, [end]), False)]
     cores = [it for it in net.ases if it["core"]]
     begin = dice.choice(cores)
     up = wandered(dice, begin, ["child"], 3)
@@ -326,6 +339,10 @@ def host_bytes(host):
     return (3 if is_v6 else 0), socket.inet_pton(socket.AF_INET6 if is_v6 else socket.AF_INET, host)
 
 
+def address_bytes(one):
+    return struct.pack("!HHI", one["isd"], one["as"] >> 32, one["as"] & 0xFFFFFFFF)
+
+
 def some_packet(dice, net, now, number):
     """A packet with its sender, the router that it is sent to, and what marks its flow."""
     parts = some_path(dice, net, now)
@@ -346,8 +363,7 @@ def some_packet(dice, net, now, number):
     flow, urgent = dice.randrange(8), dice.random() < 0.3
     traffic = 46 << 2 if urgent else dice.choice([0, 0, 8])
     kind_of_source, own = host_bytes(sender[0])
-    addresses = struct.pack("!HHI", target["isd"], target["as"] >> 32, target["as"] & 0xFFFFFFFF)
-    addresses += struct.pack("!HHI", source["isd"], source["as"] >> 32, source["as"] & 0xFFFFFFFF) + host + own
+    addresses = address_bytes(target) + address_bytes(source) + host + own
     length = 12 + len(addresses) + len(path)
     if length % 4 or length // 4 > 255:
         return some_packet(dice, net, now, number)
@@ -367,6 +383,75 @@ def some_packet(dice, net, now, number):
     router = owner[0] if owner and dice.random() < 0.9 else dice.choice(routers)
     flow_key = (sender, id(router), bytes(data[:4]), bytes(data[12 : 12 + len(addresses)]))
     return {"sender": sender, "router": router, "data": bytes(data), "flow": flow_key, "number": number}
+
+
+# What is wrong with a beacon, and nothing for most.
+SLIPS = [None] * 20 + ["destination", "source", "egress", "ingress", "mac", "late", "early", "service", "bfd", "router", "bits"]
+
+
+def first_hop(dice, end, slip, now):
+    """The info field and the first hop field of a beacon over a link, and its identifier past this hop."""
+    timestamp = now + 3000 if slip == "early" else now - 200000 if slip == "late" else now - dice.randint(-200, 20000)
+    beta, expiry = dice.randrange(1 << 16), some_expiry(dice, timestamp, now)
+    ingress = dice.randint(1, 65535) if slip == "ingress" else 0
+    egress = dice.randint(0, 65535) if slip == "egress" else end["id"]
+    mac = mac_of(end["as"]["key"], beta, timestamp, expiry, ingress, egress)
+    if slip == "mac":
+        mac = dice.randbytes(6)
+    path = struct.pack("!BBHI", 1 | dice.choice([0, 0, 0x80]), 0, beta, timestamp)
+    path += struct.pack("!BBHH", dice.choice([0, 0, 1, 2]), expiry, ingress, egress) + mac
+    return path, beta ^ int.from_bytes(mac[:2], "big")
+
+
+def is_alive(data, now):
+    at = 4 * data[5] - 32
+    return 2 * int.from_bytes(data[at + 4 : at + 8], "big") + 675 * (1 + data[at + 9]) >= 2 * now
+
+
+def delivered(data, end, beta):
+    """A lawful beacon as it arrives: the identifier past the first hop, and the second hop field."""
+    at = 4 * data[5] - 32
+    timestamp, expiry = int.from_bytes(data[at + 4 : at + 8], "big"), data[at + 9]
+    far = end["far"]
+    hop = struct.pack("!BBHH", 0, expiry, far["id"], 0) + mac_of(far["as"]["key"], beta, timestamp, expiry, far["id"], 0)
+    return data[: at + 2] + struct.pack("!H", beta) + data[at + 4 : at + 20] + hop + data[at + 32 :]
+
+
+def beacon_target(dice, slip, target):
+    """The kind and the bytes of a beacon's host: mostly the service of its AS."""
+    if slip != "service" and dice.random() < 0.3:
+        return host_bytes(dice.choice(target["hosts"])[0])
+    number = dice.randrange(400, 1 << 15) if slip == "service" else target["service"][0]
+    return 4, struct.pack("!HH", number, 0)
+
+
+def with_turned_bits(dice, data):
+    """The data with bits turned, but not in what tells of hosts, so that nothing is sent to strangers."""
+    data, end = bytearray(data), 4 * data[5]
+    for _ in range(dice.randint(1, 2)):
+        data[dice.choice([*range(9), *range(10, 28), *range(end - 32, end)])] ^= 1 << dice.randrange(8)
+    return bytes(data)
+
+
+def some_beacon(dice, net, now, number):
+    """A beacon over a link, with what `some_packet` tells, and as what it must arrive if nothing is wrong with it."""
+    end = dice.choice(dice.choice(net.ases)["links"])
+    slip, others = dice.choice(SLIPS), [it for it in net.ases if it not in (end["as"], end["far"]["as"])] or net.ases
+    target = dice.choice(others) if slip == "destination" else end["far"]["as"]
+    source = dice.choice(others) if slip == "source" else end["as"]
+    sender = dice.choice([end["as"]["service"][1], *end["as"]["hosts"]])
+    router = dice.choice(end["as"]["routers"]) if slip == "router" else end["router"]
+    (kind, host), (own_kind, own) = beacon_target(dice, slip, target), host_bytes(sender[0])
+    path, beta = first_hop(dice, end, slip, now)
+    addresses, payload = address_bytes(target) + address_bytes(source) + host + own, struct.pack("!I", number) + dice.randbytes(60)
+    length, traffic, flow = 12 + len(addresses) + 32, dice.choice([0, 46 << 2]), dice.randrange(8)
+    head = struct.pack("!IBBHBBH", traffic << 20 | flow, 203 if slip == "bfd" else 17, length // 4, len(payload), 2, kind << 4 | own_kind, 0)
+    data = head + addresses + path + dice.choice([bytes(12), dice.randbytes(12)]) + payload
+    data = with_turned_bits(dice, data) if slip == "bits" else data
+    flow_key = (sender, id(router), data[:4], data[12 : 12 + len(addresses)])
+    lawful = slip is None and end["named"] and end["far"]["named"] and is_alive(data, now)
+    wanted = delivered(data, end, beta) if lawful else None
+    return {"sender": sender, "router": router, "data": data, "flow": flow_key, "number": number, "wanted": wanted}
 
 
 # What `router route` says.
@@ -486,6 +571,10 @@ def differences(net, packets, arrivals, counts, arrived, reports):
             yield f"{text_of(address)} lacks {data.hex()[:400]}"
         for data in other - one:
             yield f"{text_of(address)} got {data.hex()[:400]}"
+    for at, it in enumerate(packets):
+        foretold_as = arrivals[at] and arrivals[at][1].hex()
+        if it.get("wanted") and foretold_as != it["wanted"].hex():
+            yield f"beacon {at} should arrive as {it['wanted'].hex()}, and `route` says {foretold_as}"
     for router in net.routers:
         first, found = reports[id(router)]
         if first != ["ready"]:
@@ -509,7 +598,7 @@ def differences(net, packets, arrivals, counts, arrived, reports):
 def try_net(program, seed, number, count):
     dice = random.Random(seed * 1000003 + number)
     net, now = Net(dice, number), int(time.time())
-    packets = [some_packet(dice, net, now, at) for at in range(count)]
+    packets = [(some_beacon if dice.random() < 0.2 else some_packet)(dice, net, now, at) for at in range(count)]
     with tempfile.TemporaryDirectory() as room:
         configs = {}
         for at, router in enumerate(net.routers):
@@ -557,6 +646,8 @@ def try_net(program, seed, number, count):
     found += [f"{text_of(it)} got something only at the end" for it in net.hosts if early[it] < len(arrived[it])]
     found += differences(net, packets, arrivals, counts, arrived, reports)
     summary = sum((it for it in counts.values()), collections.Counter())
+    summary["link beacons"] = sum("wanted" in it for it in packets)
+    summary["link beacons arrived"] = sum("wanted" in it and arrivals[at] is not None for at, it in enumerate(packets))
     return found, len(net.routers), summary, sum(it is not None for it in arrivals)
 
 
@@ -576,6 +667,7 @@ def main():
             print(f"net {number}: {line}")
         failed += bool(found)
     print(f"{given.nets} nets of {routers} routers, {given.nets * given.packets} packets, of which {arrived} arrived or were answered")
+    print(f"{total['link beacons']} of them were beacons, of which {total['link beacons arrived']} arrived")
     print("what the routers made of them: " + ", ".join(f"{it} {total[it]}" for it in sorted(total) if not it.startswith("link")))
     print(f"failed {failed}")
     return 1 if failed else 0

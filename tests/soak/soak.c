@@ -539,8 +539,11 @@ static void flood_for(long millis) {
 
 /* ---- the report ---- */
 
+/* How many causes of drops the router has. */
+enum { CAUSES = 21 };
+
 struct report {
-    unsigned long link[LINKS], links, received, sent, answered, dropped[19], lost;
+    unsigned long link[LINKS], links, received, sent, answered, dropped[CAUSES + 1], lost;
 };
 
 static void read_report(struct report *report) {
@@ -550,7 +553,7 @@ static void read_report(struct report *report) {
         if (sscanf(row, "link %lu sent %lu", &number, &count) == 2) {
             report->links += count;
             if (number < LINKS) report->link[number] = count;
-        } else if (sscanf(row, "dropped %lu %lu", &number, &count) == 2 && number < 19) {
+        } else if (sscanf(row, "dropped %lu %lu", &number, &count) == 2 && number <= CAUSES) {
             report->dropped[number] = count;
             report->lost += count;
         } else if (sscanf(row, "received %lu", &report->received) + sscanf(row, "sent %lu", &report->sent) +

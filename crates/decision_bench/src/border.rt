@@ -30,6 +30,7 @@ fn link(id: u8, kind: LinkKind) -> Link
         local: at(id, 1, 40000),
         remote: at(id, 2, 40000),
         bands: Bands::One,
+        neighbor: None,
     }
 }
 

@@ -3,6 +3,7 @@ use crate::links::{link, underlay};
 use process_packet::{Bands, Config, Ip, Link, Service, Sibling, Underlay};
 use router_config::{ConfigFault, fault_words, push_underlay, read_config, read_underlay};
 use sample_packets::CONFIGURATION as TEXT;
+use scion_header::Domain;
 use segment_switch::LinkKind;
 use std::alloc::Global;
 use std::process::Abort;
@@ -54,7 +55,7 @@ fn changed(rt: &(impl AllocGlobal + Abort), text: &str, old: &str, new: &str) ->
     text.replacen(rt.alloc(), old, new, 1).expect(rt, "text")
 }
 
-/// The text in version 2: the internal network has one band, link 2 has two.
+/// The text in version 2: the internal network has one band, link 2 has two, and its other end is named.
 fn second(rt: &(impl AllocGlobal + Abort)) -> String {
     let text = changed(rt, TEXT, "version = 1", "version = 2\ninternal_bands = 1");
     let text = changed(
@@ -67,7 +68,7 @@ fn second(rt: &(impl AllocGlobal + Abort)) -> String {
         rt,
         text.as_str(),
         "10.2.0.2:40000\"",
-        "10.2.0.2:40000\", bands=2",
+        "10.2.0.2:40000\", bands=2, neighbor=\"1-ff00:0:112\"",
     );
     changed(
         rt,
@@ -82,9 +83,14 @@ fn reads_the_second_version(rt: HostRuntime) {
     let config = read_config(rt.alloc(), second(&rt).as_str()).expect(&rt, "configuration");
     assert!(&rt; is_rest(&config));
     assert!(&rt; config.internal_bands == Bands::One);
+    let mut child = link(2, LinkKind::Child, 2, Bands::Two);
+    child.neighbor = Some(Domain {
+        isd: 1,
+        autonomous_system: 0xff00_0000_0112,
+    });
     let links = [
         link(1, LinkKind::Parent, 1, Bands::One),
-        link(2, LinkKind::Child, 2, Bands::Two),
+        child,
         link(3, LinkKind::Core, 3, Bands::One),
     ];
     assert!(&rt; config.links.as_slice() == links.as_slice());

@@ -1,11 +1,11 @@
 use process_packet::{
-    Arrival, Cause, Ip, NoMemory, Problem, Routed, Totals, Underlay, route, trace_request,
+    Arrival, CAUSES, Cause, Ip, NoMemory, Problem, Routed, Totals, Underlay, route, trace_request,
 };
 use router_config::read_config;
 use sample_packets::{CONFIGURATION, FIRST, IN_TIME, LATE, PATH_AT, with_bytes};
 use std::test::*;
 
-const CAUSES: [Cause; 18] = [
+const ALL: [Cause; CAUSES] = [
     Cause::Short,
     Cause::Version,
     Cause::PathType,
@@ -24,13 +24,16 @@ const CAUSES: [Cause; 18] = [
     Cause::Closed,
     Cause::SendFailed,
     Cause::NoBuffer,
+    Cause::OneHopEnds,
+    Cause::OneHopField,
+    Cause::OneHopHost,
 ];
 
 /// How many causes, from the first one on, have their places for numbers, and whose drops these
 /// totals count.
 fn causes_in_order(totals: &Totals) -> u8 {
     let mut place = 0u8;
-    for cause in CAUSES {
+    for cause in ALL {
         if cause.number() == place.wrapping_add(1)
             && totals.dropped_for(cause) == u128::from(cause.number()).wrapping_add(100)
         {
@@ -48,10 +51,10 @@ fn numbers_each_cause_and_tells_its_drops(rt: HostRuntime) {
         answered: 9,
         dropped: [
             101, 102, 103, 104, 105, 106, 107, 108, 109, 110, 111, 112, 113, 114, 115, 116, 117,
-            118,
+            118, 119, 120, 121,
         ],
     };
-    assert!(rt; causes_in_order(&totals) == 18);
+    assert!(rt; usize::from(causes_in_order(&totals)) == CAUSES);
 }
 
 /// The request that is in the bytes after the header of an SCMP message.

@@ -25,5 +25,6 @@ pub fn link(id: u16, kind: LinkKind, network: u8, bands: Bands) -> Link
         local: underlay([10, network, 0, 1], 40000),
         remote: underlay([10, network, 0, 2], 40000),
         bands,
+        neighbor: None,
     }
 }

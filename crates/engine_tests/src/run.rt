@@ -1,7 +1,7 @@
 //! The engine of `run` over readers and writers in memory, and over a router that is made for it.
 
 use crate::calls::count_call;
-use process_packet::Totals;
+use process_packet::{CAUSES, Totals};
 use router_engine::LinesFault;
 use router_lines::Closing;
 use run_engine::{Control, Figures, run_lines};
@@ -32,7 +32,7 @@ impl Control for Fake {
 
     fn finish(self) -> Figures {
         let Fake { sent } = self;
-        let mut dropped = [0; 18];
+        let mut dropped = [0; CAUSES];
         dropped[12] = 3;
         Figures {
             sent,

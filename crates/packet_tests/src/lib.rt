@@ -6,6 +6,8 @@
 #[cfg(test)]
 mod aes;
 #[cfg(test)]
+mod beacons;
+#[cfg(test)]
 mod cmac;
 #[cfg(test)]
 mod fields;
@@ -20,6 +22,8 @@ mod hops;
 mod made;
 #[cfg(test)]
 mod nets;
+#[cfg(test)]
+mod one_hop;
 #[cfg(test)]
 mod path;
 #[cfg(test)]

@@ -54,7 +54,7 @@ type Change = (usize, usize, &'static str);
 const NONE: Change = (3, 0, "");
 
 /// Nets that don't agree, each for the clause that is named.
-const CASES: [(&str, [Change; 2]); 14] = [
+const CASES: [(&str, [Change; 2]); 17] = [
     (
         "key",
         [
@@ -171,6 +171,39 @@ const CASES: [(&str, [Change; 2]); 14] = [
         ],
     ),
     (
+        "one end's neighbour",
+        [
+            (
+                0,
+                LINK,
+                "link = [{id=1, kind=\"child\", local=\"10.1.0.1:40000\", remote=\"10.1.0.2:40000\", neighbor=\"1-ff00:0:112\"}]\n",
+            ),
+            NONE,
+        ],
+    ),
+    (
+        "other end's neighbour",
+        [
+            (
+                2,
+                LINK,
+                "link = [{id=17, kind=\"parent\", local=\"10.1.0.2:40000\", remote=\"10.1.0.1:40000\", neighbor=\"1-ff00:0:112\"}]\n",
+            ),
+            NONE,
+        ],
+    ),
+    (
+        "neighbour's isolation domain",
+        [
+            (
+                2,
+                LINK,
+                "link = [{id=17, kind=\"parent\", local=\"10.1.0.2:40000\", remote=\"10.1.0.1:40000\", neighbor=\"2-ff00:0:110\"}]\n",
+            ),
+            NONE,
+        ],
+    ),
+    (
         "link's number",
         [
             (
@@ -218,6 +251,23 @@ fn agrees_only_where_each_clause_holds(rt: HostRuntime) {
     for (clause, changes) in CASES {
         assert!(rt; !agrees(&net(&rt, changes, &wired)), "{clause}");
     }
+}
+
+#[test]
+fn agrees_where_ends_name_each_other(rt: HostRuntime) {
+    let named = [
+        (
+            0,
+            LINK,
+            "link = [{id=1, kind=\"child\", local=\"10.1.0.1:40000\", remote=\"10.1.0.2:40000\", neighbor=\"1-ff00:0:111\"}]\n",
+        ),
+        (
+            2,
+            LINK,
+            "link = [{id=17, kind=\"parent\", local=\"10.1.0.2:40000\", remote=\"10.1.0.1:40000\", neighbor=\"1-ff00:0:110\"}]\n",
+        ),
+    ];
+    assert!(rt; agrees(&net(&rt, named, &[wire(end(0, 1), end(2, 17))])));
 }
 
 #[test]

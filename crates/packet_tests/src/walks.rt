@@ -82,7 +82,7 @@ pub(crate) fn underlay(address: [u8; 4], port: u16) -> Underlay {
     }
 }
 
-fn bytes_of(rt: &(impl AllocGlobal + Abort), digits: &str) -> Vec<u8> {
+pub(crate) fn bytes_of(rt: &(impl AllocGlobal + Abort), digits: &str) -> Vec<u8> {
     let mut bytes = Vec::new(rt.alloc());
     bytes.resize(digits.len() / 2, 0).expect(rt, "room");
     assert!(rt;
@@ -154,7 +154,7 @@ fn reply(
     }
 }
 
-fn arrival(bytes: Vec<u8>, link: u16, source: Underlay) -> Arrival {
+pub(crate) fn arrival(bytes: Vec<u8>, link: u16, source: Underlay) -> Arrival {
     Arrival {
         link,
         number: 1,
@@ -212,7 +212,7 @@ pub(crate) fn sends(stop: &Stop, router: usize, out: u16, address: Option<Underl
     }
 }
 
-fn sends_bytes(stop: &Stop, wanted: &[u8]) -> bool {
+pub(crate) fn sends_bytes(stop: &Stop, wanted: &[u8]) -> bool {
     match &stop.routed {
         Routed::Send { bytes, .. } => bytes.as_slice() == wanted,
         _ => false,

@@ -1,7 +1,7 @@
 ghost use Rattle.std.specs.Prelude.{◌≡◌, ◌*◌, ◌≤◌};
 
 use packet_ledger::{Blank, Book, Router, Share};
-use process_packet::{Cause, Totals};
+use process_packet::{CAUSES, Cause, Totals};
 use std::alloc::Global;
 use std::marker::Brand;
 use std::process::Abort;
@@ -14,7 +14,7 @@ const NOTHING: Totals = Totals {
     received: 0,
     sent: 0,
     answered: 0,
-    dropped: [0; 18],
+    dropped: [0; CAUSES],
 };
 
 // One share counts three as received and is posted, the other two drops and is not. What the first

@@ -1,6 +1,6 @@
 use crate::samples::{Coming, EXPIRED, LEAVES, is_what_leaves, pipeline};
 use pipe_model::{NoMemoryAt, Outgoing, Place, Queue, Step, StepFault, Worker, World};
-use process_packet::{Bands, Cause, NoMemory, Totals};
+use process_packet::{Bands, CAUSES, Cause, NoMemory, Totals};
 use std::alloc::Global;
 use std::process::Abort;
 
@@ -41,7 +41,7 @@ fn totals(received: u128, sent: u128) -> Totals {
         received,
         sent,
         answered: 0,
-        dropped: [0; 18],
+        dropped: [0; CAUSES],
     }
 }
 

@@ -34,6 +34,7 @@ fn config(alloc: Global, bands: Bands) -> Result<Config, AllocError> {
                 port: 40000,
             },
             bands: Bands::One,
+            neighbor: None,
         },
         Link {
             id: 2,
@@ -47,6 +48,7 @@ fn config(alloc: Global, bands: Bands) -> Result<Config, AllocError> {
                 port: 40000,
             },
             bands,
+            neighbor: None,
         },
     ];
     Ok(Config {

@@ -1,14 +1,15 @@
 //! What a run counts.
 
 ghost use Rattle.std.specs.Prelude.{◌≡◌, ◌<◌, replicate, slice_set};
+ghost use Rattle.process_packet.specs.Cause.{causes};
 
-use process_packet::Totals;
+use process_packet::{CAUSES, Totals};
 
 pub const NOTHING: Totals = Totals {
     received: 0,
     sent: 0,
     answered: 0,
-    dropped: [0; 18],
+    dropped: [0; CAUSES],
 };
 
 /// The places of causes among what was dropped.
@@ -26,11 +27,11 @@ pub const NO_BUFFER: usize = 17;
 
 /// Counts with these numbers received, sent, and dropped for the cause at a place.
 pub fn totals(received: u128, sent: u128, cause: usize, count: u128) -> Totals
-    requires { cause < 18 }
+    requires { cause < causes }
     ensures received { result.received ≡ received }
     ensures sent { result.sent ≡ sent }
     ensures answered { result.answered ≡ 0 }
-    ensures dropped { result.dropped ≡ slice_set (replicate 18 0) cause count }
+    ensures dropped { result.dropped ≡ slice_set (replicate causes 0) cause count }
 {
     let mut totals = NOTHING;
     totals.received = received;

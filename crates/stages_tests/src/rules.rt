@@ -115,11 +115,11 @@ const URGENT: [u8; 36] = *b"\x0b\x80\x00\x01\x11\x09\x00\x08\x01\x00\x00\x00\
 
 /// Whether a receiver of this router refuses what it has to, and finds the processor of what it takes.
 fn is_inspected(config: &Config) -> bool {
-    inspect(&URGENT) == None
-        && processor_or_fault(config, &URGENT) == Ok(1)
-        && inspect(&URGENT[..35]) == Some(Cause::Short)
-        && processor_or_fault(config, &URGENT[..35]) == Err(Cause::Short)
-        && inspect(&[0; TOO_LONG]) == Some(Cause::TooLong)
+    inspect(config, 0, &URGENT) == None
+        && processor_or_fault(config, 0, &URGENT) == Ok(1)
+        && inspect(config, 0, &URGENT[..35]) == Some(Cause::Short)
+        && processor_or_fault(config, 0, &URGENT[..35]) == Err(Cause::Short)
+        && inspect(config, 0, &[0; TOO_LONG]) == Some(Cause::TooLong)
 }
 
 #[test]

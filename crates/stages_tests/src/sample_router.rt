@@ -32,6 +32,7 @@ pub fn link(id: u16, net: u8, kind: LinkKind, bands: Bands) -> Link
         local: at(net, 1, 40000),
         remote: at(net, 2, 40000),
         bands,
+        neighbor: None,
     }
 }
 
