@@ -3,7 +3,7 @@ RT ?= rt
 PREFIX ?= /usr/local
 PROGRAM = crates/router_program/out/router_program
 
-.PHONY: all try demo demo-net test bench-decision install clean
+.PHONY: all try try-net demo demo-net test bench-decision install clean
 
 all: bin/router
 
@@ -31,6 +31,16 @@ try:
 	cd crates/router_program && $(RT) try -- $(ROUTE_FIRST) < $(CURDIR)/examples/first-datagram.hex
 	@echo 'Nothing was proved: `make demo` proves the program before it runs it.'
 
+THREE_ASES = $(CURDIR)/examples/three-ases
+HOSTS = 127.0.1.10:30041 127.0.3.10:30041
+PATH_FILES = first.toml core-1.toml core-2.toml last.toml
+
+# Carries beacons, a packet and a traceroute through three ASes over loopback addresses of this machine, by four routers in
+# one process, as they are compiled before any proof. Calls are tried as they run; nothing is proved by it.
+try-net:
+	cd crates/try_net && $(RT) try $(foreach it,$(PATH_FILES),--data $(it)=$(THREE_ASES)/$(it)) -- $(HOSTS) $(PATH_FILES)
+	@echo 'Nothing was proved: `make demo-net` does the same with the proved program, in a process for each router.'
+
 # Carries the first datagram from link 1 to link 2 through the proved program.
 demo: bin/router
 	bin/router $(ROUTE_FIRST) < examples/first-datagram.hex
@@ -40,8 +50,7 @@ bin/path_probe: $(PROVED)
 	mkdir -p bin
 	cp crates/path_probe/out/path_probe bin/path_probe
 
-# Carries a packet and a traceroute through three ASes over loopback addresses of this machine, by the proved program, in a
-# process for each router.
+# What `make try-net` does, by the proved program, in a process for each router.
 demo-net: bin/router bin/path_probe
 	examples/three-ases/try.sh
 

@@ -26,7 +26,7 @@ LAYERS = [
     ("sockets", "#f8dcd3", "udp_devices"),
     ("text and commands", "#e6def0", "text_values router_config config_warnings router_lines router_engine run_engine udp_router command_words router_faults check_command router_program"),
 ]
-LEFT_OUT = {"path_trial", "path_probe"}
+LEFT_OUT = {"path_trial", "path_probe", "try_net"}
 
 
 def is_left_out(name):
