@@ -31,6 +31,7 @@ fn link(id: u8, kind: LinkKind) -> Link
         remote: at(id, 2, 40000),
         bands: Bands::One,
         neighbor: None,
+        bfd: false,
     }
 }
 
@@ -61,6 +62,7 @@ pub(crate) fn border(alloc: Global) -> Result<Config, AllocError> {
         internal: at(0, 1, 30000),
         internal_bands: Bands::One,
         host_port: 30041,
+        dispatched_ports: None,
         processors: 1,
         capacity: 4,
         seed: 0,

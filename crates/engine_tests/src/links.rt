@@ -26,5 +26,6 @@ pub fn link(id: u16, kind: LinkKind, network: u8, bands: Bands) -> Link
         remote: underlay([10, network, 0, 2], 40000),
         bands,
         neighbor: None,
+        bfd: false,
     }
 }

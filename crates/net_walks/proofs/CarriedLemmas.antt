@@ -40,7 +40,7 @@ place_there : (net : Net) (p : Router → Bool) (source : Underlay) (bytes : Lis
     → arrives_within source bytes o ≡ Some d → d.router < length net.routers
 place_there net p source bytes d None at comes = absurd cc
 place_there net p source bytes d (Some q) at comes =
-    let x : Router = record { network = record { isd = 0; autonomous_system = 0; key = []; host_port = 0; links = []; siblings = []; services = [] }; internal = source } in
+    let x : Router = record { network = record { isd = 0; autonomous_system = 0; key = []; host_port = 0; dispatched_ports = None; links = []; siblings = []; services = [] }; internal = source } in
     let below = (position-Some p net.routers q x (position_from-zero p net.routers ∙ at)).0 in
     let made : Came = record { router = q; link = 0; source = source; bytes = bytes } in
     let same : made ≡ d = let is : Some made ≡ Some d = comes in cc in

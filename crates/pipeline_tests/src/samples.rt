@@ -35,6 +35,7 @@ fn config(alloc: Global, bands: Bands) -> Result<Config, AllocError> {
             },
             bands: Bands::One,
             neighbor: None,
+            bfd: false,
         },
         Link {
             id: 2,
@@ -49,6 +50,7 @@ fn config(alloc: Global, bands: Bands) -> Result<Config, AllocError> {
             },
             bands,
             neighbor: None,
+            bfd: false,
         },
     ];
     Ok(Config {
@@ -61,6 +63,7 @@ fn config(alloc: Global, bands: Bands) -> Result<Config, AllocError> {
         },
         internal_bands: Bands::One,
         host_port: 30041,
+        dispatched_ports: None,
         processors: 2,
         capacity: 1,
         seed: 0,

@@ -1,5 +1,5 @@
 -- Links, siblings' interfaces and services: what their types don't keep of their ranges, and what is told of them.
-use Rattle.std.specs.Prelude.{ℕ, Bool, true, false, not, ◌&&◌, ◌||◌, ◌==◌, nat_le, List, [], ◌∷◌, map, Option, is_some}
+use Rattle.std.specs.Prelude.{ℕ, Bool, true, false, not, ◌&&◌, ◌||◌, ◌==◌, nat_le, List, [], ◌∷◌, map, Option, Some, None, is_some}
 use Rattle.std.specs.List.{list_any}
 use Rattle.scion_header.specs.declared.domain.Domain.{Domain}
 use Rattle.segment_switch.specs.declared.kind.LinkKind.{LinkKind}
@@ -8,6 +8,7 @@ use Rattle.process_packet.specs.declared.neighbours.Bands.TheVariants.{One, Two}
 use Rattle.process_packet.specs.declared.neighbours.Link.{Link}
 use Rattle.process_packet.specs.declared.neighbours.Sibling.{Sibling}
 use Rattle.process_packet.specs.declared.neighbours.Service.{Service}
+use Rattle.process_packet.specs.declared.port_range.PortRange.{PortRange}
 use Rattle.process_packet.specs.declared.underlay.Underlay.{Underlay}
 
 abbrev pub link_id : Link → ℕ
@@ -44,6 +45,14 @@ service_at s = s.at
 -- port 0 is none
 abbrev pub has_port : Underlay → Bool
 has_port u = nat_le 1 u.port
+
+-- port 0 is in no range of ports, and none is empty
+abbrev pub is_range : PortRange → Bool
+is_range r = nat_le 1 r.first && nat_le r.first r.last
+
+abbrev pub is_range_if_there : Option PortRange → Bool
+is_range_if_there None = true
+is_range_if_there (Some r) = is_range r
 
 -- number 0 is that of the internal network
 abbrev pub is_link : Link → Bool

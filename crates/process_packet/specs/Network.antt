@@ -10,6 +10,7 @@ use Rattle.process_packet.specs.declared.config.Config.{Config}
 use Rattle.process_packet.specs.declared.neighbours.Link.{Link}
 use Rattle.process_packet.specs.declared.neighbours.Sibling.{Sibling}
 use Rattle.process_packet.specs.declared.neighbours.Service.{Service}
+use Rattle.process_packet.specs.declared.port_range.PortRange.{PortRange}
 use Rattle.process_packet.specs.declared.underlay.Ip.TheVariants.{V4, V6}
 use Rattle.process_packet.specs.declared.underlay.Underlay.{Underlay}
 use Rattle.process_packet.specs.Neighbours.{is_neighbored, link_neighbor, service_at, sibling_kind}
@@ -22,6 +23,7 @@ pub record Network : Type 0 where
   pub autonomous_system : ℕ
   pub key : List ℕ
   pub host_port : ℕ
+  pub dispatched_ports : Option PortRange
   pub links : List Link
   pub siblings : List Sibling
   pub services : List Service
@@ -32,6 +34,7 @@ network c = record {
   autonomous_system = c.autonomous_system;
   key = c.key;
   host_port = c.host_port;
+  dispatched_ports = c.dispatched_ports;
   links = c.links.items;
   siblings = c.siblings.items;
   services = c.services.items;

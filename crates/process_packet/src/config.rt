@@ -3,9 +3,10 @@
 ghost use Rattle.std.specs.Prelude.{◌≤◌, ◌<◌, ◌^◌, ◌++◌, IsTrue, map, length};
 ghost use Rattle.std.specs.List.{list_all};
 ghost use Rattle.process_packet.specs.Underlay.{is_whole};
-ghost use Rattle.process_packet.specs.Neighbours.{are_distinct, has_port, is_link, is_service, is_sibling, link_id, service_number, sibling_id};
+ghost use Rattle.process_packet.specs.Neighbours.{are_distinct, has_port, is_link, is_range_if_there, is_service, is_sibling, link_id, service_number, sibling_id};
 
 use crate::neighbours::{Bands, Link, Service, Sibling};
+use crate::port_range::PortRange;
 use crate::underlay::Underlay;
 use cmac_core::Cmac;
 
@@ -22,8 +23,10 @@ pub struct Config {
     pub internal: Underlay,
     /// The bands of the internal network, as of a link.
     pub internal_bands: Bands,
-    /// The port at which end hosts of the AS listen.
+    /// The port at which end hosts of the AS listen that have a dispatcher.
     pub host_port: u16,
+    /// The ports at which applications on end hosts listen themselves; none where all have a dispatcher.
+    pub dispatched_ports: Option<PortRange>,
     /// How many processors take packets side by side, 1 to 16.
     pub processors: u8,
     /// How many packets each queue holds, 1 to 65,536.
@@ -45,6 +48,7 @@ pub struct Config {
     pub ghost internal_has_a_port: { IsTrue (has_port internal) },
     pub ghost internal_ip_is_whole: { IsTrue (is_whole internal.ip) },
     pub ghost host_port_is_there: { 1 ≤ host_port },
+    pub ghost dispatched_ports_are_a_range: { IsTrue (is_range_if_there dispatched_ports) },
     pub ghost some_processors: { 1 ≤ processors },
     pub ghost few_processors: { processors ≤ 16 },
     pub ghost some_capacity: { 1 ≤ capacity },
@@ -72,6 +76,7 @@ impl Drop for Config {
             internal: _,
             internal_bands: _,
             host_port: _,
+            dispatched_ports: _,
             processors: _,
             capacity: _,
             seed: _,

@@ -23,6 +23,7 @@ mod one_hop_view;
 mod packet_view;
 mod parsed_headers;
 mod path_hop;
+mod port_range;
 mod refusal;
 mod request;
 mod routed;
@@ -45,6 +46,7 @@ pub use laws::{
 };
 pub use neighbours::{Bands, Link, Service, Sibling};
 pub use parsed_headers::LONGEST_DATAGRAM;
+pub use port_range::PortRange;
 pub use refusal::header_cause;
 pub use request::trace_request;
 pub use routed::route;

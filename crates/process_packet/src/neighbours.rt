@@ -43,6 +43,8 @@ pub struct Link {
     pub bands: Bands,
     /// The AS at its other end, if one-hop paths are carried over the link.
     pub neighbor: Option<Domain>,
+    /// Whether BFD control packets of that AS's router are answered (RFC 5880).
+    pub bfd: bool,
 }
 
 /// An interface of another router of this AS.

@@ -178,6 +178,7 @@ fn config_of(local: Local, internal: Internal, sizes: Sizes, around: Around) -> 
         internal: internal.router,
         internal_bands: internal.bands,
         host_port: internal.host_port,
+        dispatched_ports: None,
         processors: sizes.processors,
         capacity: sizes.capacity,
         seed: sizes.seed,

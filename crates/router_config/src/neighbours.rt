@@ -167,6 +167,7 @@ pub(crate) fn read_link(
         remote,
         bands,
         neighbor,
+        bfd: false,
     })
 }
 

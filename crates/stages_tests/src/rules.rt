@@ -29,6 +29,7 @@ fn config(alloc: Global, internal_bands: Bands) -> Result<Config, AllocError> {
         internal: at(0, 1, 30000),
         internal_bands,
         host_port: 30041,
+        dispatched_ports: None,
         processors: 1,
         capacity: 4,
         seed: 0,

@@ -33,6 +33,7 @@ pub fn link(id: u16, net: u8, kind: LinkKind, bands: Bands) -> Link
         remote: at(net, 2, 40000),
         bands,
         neighbor: None,
+        bfd: false,
     }
 }
 
@@ -54,6 +55,7 @@ pub fn router(alloc: Global, bands: Bands) -> Result<Config, AllocError>
         internal: at(0, 1, 30000),
         internal_bands: Bands::One,
         host_port: 30041,
+        dispatched_ports: None,
         processors: 1,
         capacity: 4,
         seed: 0,
