@@ -2,8 +2,10 @@
 """Gives the built program words, configurations and lines, and compares what it writes and how it ends with tables.
 
 The tables are the files beside this one. Each says at its head what its rows are; lines that begin with `# ` are
-comments. Besides, `router route` is given each beginning of the first datagram and of two one-hop packets, and each
-datagram that differs from one of them in one byte. No router is started, and no network is needed.
+comments. Besides, `router route` is given each beginning of the first datagram, of two one-hop packets and of BFD, and each
+datagram that differs from one of them in one byte, and packets for a host with each byte behind their header turned. What
+comes of BFD and to which port a host's packets go is compared with the model of tests/scion.py. No router is started, and
+no network is needed.
 
 Use: tests/lines/check.py [PROGRAM], where PROGRAM is bin/router if it isn't named.
 """
@@ -14,9 +16,14 @@ import struct
 import subprocess
 import sys
 import tempfile
+import tomllib
 
 HERE = os.path.dirname(os.path.abspath(__file__))
 TOP = os.path.dirname(os.path.dirname(HERE))
+sys.path.insert(0, os.path.join(TOP, "tests"))
+
+import scion  # noqa: E402
+
 SECONDS = 60
 MOST_SHOWN = 20
 
@@ -244,6 +251,133 @@ def try_one_hops(trial):
         try_worked(trial, f"one hop: {name}", link, now, source, config, datagram, line)
 
 
+# BFD, and the ports of hosts.
+
+
+def with_bfd(config, links):
+    """The configuration in which these links have `bfd`."""
+    for link in links:
+        config = re.sub(rf"(\{{id={link},[^}}]*)\}}", r"\1, bfd=true}", config)
+    return config
+
+
+def router_of(config):
+    """The router of a configuration, for the model."""
+    keys = tomllib.loads(config)
+    links = {}
+    for it in keys["link"]:
+        local, remote = scion.underlay_of(it["local"]), scion.underlay_of(it["remote"])
+        links[it["id"]] = scion.Link(it["id"], local, remote, scion.isd_as_of(it["neighbor"]), it.get("bfd", False))
+    services = {it["number"]: it["at"] for it in keys["service"]}
+    isd_as, key = scion.isd_as_of(keys["isd_as"]), bytes.fromhex(keys["key"])
+    return scion.Router(isd_as, key, keys["host_port"], keys.get("dispatched_ports"), links, services)
+
+
+def try_bfd(trial):
+    sound, asked, answer = with_bfd(text_of("router.toml"), "12"), bytes_of("bfd-in.hex"), bytes_of("bfd-answer.hex")
+    for row in rows_of("bfd.txt"):
+        name, change, link, now, source, length, changes, line, leaves = (column.strip() for column in row.split(";"))
+        old, _, new = change.partition(" ->")
+        config = sound if change == "-" else changed(sound, old, new.strip())
+        datagram = made(asked, int(length), changes)
+        if line.startswith("answer "):
+            line += " " + quoting(made(answer, len(answer), leaves), b"").hex()
+        elif line.startswith("send "):
+            line += " " + made(datagram, len(datagram), leaves).hex()
+        try_worked(trial, f"BFD: {name}", link, now, source, config, datagram, line)
+
+
+# Packets for hosts and a service of this AS, each with no byte behind its header: what it is, the file and what it has in
+# place of its bytes, and what it has in place of them when it is sent.
+FOR_HOSTS = [
+    ("an IPv4 host", "first.hex", 84, "19=10 29=00004d 36=02 66=c0c1c2c3c4c5 75=01 78=f45c25cfe94d", "", "10.0.0.77"),
+    (
+        "an IPv6 host",
+        "first.hex",
+        96,
+        "5=18 9=30 19=10 28=fd0000000000000000000000000000770a010005020030000100123465000000 63=000011a0a1a2a3a4a5 "
+        "75=010002c0c1c2c3c4c5003f00010000f45c25cfe94d",
+        "",
+        "[fd00:0:0:0:0:0:0:77]",
+    ),
+    ("a service", "first.hex", 84, "9=40 19=10 28=00 31=00 36=02 66=c0c1c2c3c4c5 75=01 78=f45c25cfe94d", "", None),
+    ("a host, over one hop", "one-hop-in.hex", 68, "9=00 28=0a00004d", "57=3f00010000f0821ddd927c", "10.0.0.77"),
+]
+
+
+def behind_header(text):
+    """The bytes of a column of ports.txt."""
+    found = b""
+    for word in text.split():
+        if word.startswith("quote:"):
+            found += made(bytes_of("sent.hex"), 84, f"4={word[6:]}")
+        else:
+            found += bytes.fromhex(word)
+    return found
+
+
+def for_host(kind, next_header, behind, port):
+    """A packet for a host with these bytes behind its header, and its line where the host listens at this port."""
+    _, file, length, changes, leaves, host = kind
+    datagram = made(bytes_of(file), length, f"{changes} 4={next_header:02x} 6={len(behind):04x}") + behind
+    left, to = made(datagram, len(datagram), leaves).hex(), f"{host}:{port}" if host else "10.0.0.9:30252"
+    return datagram, "drop 21" if (file, next_header) == ("one-hop-in.hex", scion.BFD) else f"send 0 {to} {left}"
+
+
+def with_ports(config, within):
+    return changed(config, "seed = 0", f"seed = 0⏎dispatched_ports = [{within}]") if within else config
+
+
+def try_for_hosts(trial, name, within, cases, kinds=FOR_HOSTS):
+    """Counts packets for hosts of these kinds, given together. A case has its name, next header, bytes and port."""
+    config = with_ports(text_of("router.toml"), within)
+    for kind in kinds:
+        made_so = [for_host(kind, next_header, behind, port) for _, next_header, behind, port in cases]
+        lines = lines_for(trial, name, ROUTE, [datagram for datagram, _ in made_so], config)
+        for case, (_, wanted), line in zip(cases, made_so, lines):
+            told = f"wanted {wanted}", f"came   {line}"
+            trial.count(f"{name}: {case[0]}, to {kind[0]}", line == wanted.encode(), *told)
+
+
+def try_ports(trial):
+    by_range = {}
+    for row in rows_of("ports.txt"):
+        name, within, next_header, behind, port = (column.strip() for column in row.split(";"))
+        case = name, int(next_header, 16), behind_header(behind), int(port)
+        by_range.setdefault(within, []).append(case)
+    for within, cases in by_range.items():
+        try_for_hosts(trial, f"ports {within}", within, cases)
+        try_for_hosts(trial, "no ports", None, [(*case[:3], 30041) for case in cases])
+
+
+def try_malicious_ports(trial):
+    """Packets for a host with each byte behind their header turned, and each beginning of them."""
+    within, router = "31000, 32767", router_of(with_ports(text_of("router.toml"), "31000, 32767"))
+    asked = ["11 75317b0c00080000", "c8 c90000001100000075317b0c00080000", "ca 810000007b0c0007"]
+    asked.append("ca 0500000000000000000000000000000000000000 quote:c8 1101000000000000 7b0c753100080000")
+    for text in asked:
+        next_header, whole = int(text[:2], 16), behind_header(text[3:])
+        cases = [(f"{end} bytes", next_header, whole[:end]) for end in range(len(whole))]
+        for at, turn in turns_of(whole):
+            cases.append((f"byte {at} turned by {turn:02x}", next_header, turned(whole, at, turn)))
+        ports = [scion.port_of(router, next_header, behind) for _, next_header, behind in cases]
+        try_for_hosts(trial, text, within, [(*case, port) for case, port in zip(cases, ports)], FOR_HOSTS[:1])
+
+
+def try_malicious_bfd(trial):
+    """BFD that comes by a link, cut at each length and turned in each byte, before and after it knows this end."""
+    config = with_bfd(text_of("router.toml"), "12")
+    router, now = router_of(config), 1694499816
+    for changes in ("", "69=c0 79=01", "1=8bfda0"):
+        whole = made(bytes_of("bfd-in.hex"), 92, changes)
+        given = [whole[:end] for end in range(12, len(whole))]
+        given += [turned(whole, at, turn) for at, turn in turns_of(whole) if at != 8]
+        link = router.links[1]
+        for datagram, line in zip(given, lines_for(trial, "BFD", ROUTE, given, config)):
+            wanted = scion.entering(router, link, now, link.remote, datagram)
+            trial.count(f"BFD: {datagram.hex()}", line == wanted.encode(), f"wanted {wanted}", f"came   {line}")
+
+
 def try_longest(trial):
     config, header, answer = text_of("router.toml"), bytes_of("long-header.hex"), bytes_of("long-answer.hex")
     for length, line in ((9216, f"answer 1 - {answer.hex()}\n"), (9217, "drop 11\n")):
@@ -367,11 +501,11 @@ def turned(datagram, at, turn):
     return datagram[:at] + bytes([datagram[at] ^ turn]) + datagram[at + 1 :]
 
 
-def lines_for(trial, name, words, datagrams):
+def lines_for(trial, name, words, datagrams, config=None):
     """The line that `route` writes for each datagram: one for each, all of them ended, and nothing else. Otherwise no
     line is known to be of its datagram."""
     given = "".join(f"{datagram.hex()}\n" for datagram in datagrams).encode()
-    status, output, errors = trial.run(words, text_of("router.toml"), given)
+    status, output, errors = trial.run(words, config or text_of("router.toml"), given)
     lines = output.split(b"\n")
     if (status, errors, lines.pop(), len(lines)) != (0, b"", b"", len(datagrams)):
         print(f"{name}: {len(lines)} lines, status {status}, {errors[:160]}")
@@ -428,6 +562,8 @@ def main():
         try_sockets(trial)
         try_datagrams(trial)
         try_one_hops(trial)
+        try_bfd(trial)
+        try_ports(trial)
         try_longest(trial)
         try_cases(trial, "routes.txt", ROUTE, text_of("router.toml"))
         try_cases(trial, "replays.txt", REPLAY, text_of("replay.toml"))
@@ -435,6 +571,8 @@ def main():
         try_malicious(trial)
         try_malicious_one_hop(trial, "one-hop-out.hex", "0", range(38, 40))
         try_malicious_one_hop(trial, "one-hop-in.hex", "1", range(56, 68))
+        try_malicious_bfd(trial)
+        try_malicious_ports(trial)
     print(f"{trial.passed} passed, {trial.failed} failed")
     sys.exit(1 if trial.failed else 0)
 

@@ -23,73 +23,10 @@ import tempfile
 import time
 
 ROOT = os.path.dirname(os.path.dirname(os.path.dirname(os.path.abspath(__file__))))
+sys.path.insert(0, os.path.join(ROOT, "tests"))
 
-
-# AES-128 and AES-CMAC of one block, as FIPS 197 and RFC 4493 have them.
-
-
-def doubled(x):
-    return (x << 1) ^ (0x11B if x & 0x80 else 0)
-
-
-def made_s_box():
-    box, p, q = [0x63] * 256, 1, 1
-    while True:
-        p = p ^ doubled(p)
-        q ^= q << 1
-        q ^= q << 2
-        q ^= q << 4
-        q &= 0xFF
-        if q & 0x80:
-            q ^= 0x09
-        turned = [((q << n) | (q >> (8 - n))) & 0xFF for n in range(5)]
-        box[p] = turned[0] ^ turned[1] ^ turned[2] ^ turned[3] ^ turned[4] ^ 0x63
-        if p == 1:
-            return box
-
-
-S_BOX = made_s_box()
-
-
-def expanded(key):
-    words, constant = [list(key[at : at + 4]) for at in range(0, 16, 4)], 1
-    for at in range(4, 44):
-        last = words[-1]
-        if at % 4 == 0:
-            last = [S_BOX[it] for it in last[1:] + last[:1]]
-            last[0] ^= constant
-            constant = doubled(constant)
-        words.append([one ^ other for one, other in zip(words[at - 4], last)])
-    return [sum(words[at : at + 4], []) for at in range(0, 44, 4)]
-
-
-def encrypt(keys, block):
-    state = [one ^ other for one, other in zip(block, keys[0])]
-    for number in range(1, 11):
-        state = [S_BOX[it] for it in state]
-        state = [state[(at + 4 * (at % 4)) % 16] for at in range(16)]
-        if number < 10:
-            mixed = []
-            for at in range(0, 16, 4):
-                a, b, c, d = state[at : at + 4]
-                whole = a ^ b ^ c ^ d
-                mixed += [a ^ whole ^ doubled(a ^ b), b ^ whole ^ doubled(b ^ c)]
-                mixed += [c ^ whole ^ doubled(c ^ d), d ^ whole ^ doubled(d ^ a)]
-            state = mixed
-        state = [one ^ other for one, other in zip(state, keys[number])]
-    return bytes(state)
-
-
-def tag6(key, block):
-    keys = expanded(key)
-    zero = int.from_bytes(encrypt(keys, bytes(16)), "big")
-    sub = ((zero << 1) ^ (0x87 if zero >> 127 else 0)) & ((1 << 128) - 1)
-    return encrypt(keys, bytes(a ^ b for a, b in zip(block, sub.to_bytes(16, "big"))))[:6]
-
-
-assert encrypt(expanded(bytes(range(16))), bytes.fromhex("00112233445566778899aabbccddeeff")) == bytes.fromhex(
-    "69c4e0d86a7b0430d8cdb78070b4c55a"
-)
+import scion  # noqa: E402
+from scion import mac_of  # noqa: E402
 
 
 # Nets.
@@ -238,10 +175,6 @@ def some_expiry(dice, timestamp, now):
     expiry = 255 if dice.random() < 0.97 else dice.randint(0, 60)
     # not one that would expire while the routers run
     return 255 if 0 <= timestamp + (1 + expiry) * 337.5 - now < 300 else expiry
-
-
-def mac_of(key, beta, timestamp, expiry, ingress, egress):
-    return tag6(key, struct.pack("!HHIBBHHH", 0, beta, timestamp, 0, expiry, ingress, egress, 0))
 
 
 def beaconed(dice, now, ends):
