@@ -155,6 +155,13 @@ NETS ?= 40
 nets: bin/router
 	tests/nets/try.py --nets $(NETS)
 
+SECONDS ?= 60
+.PHONY: bfd-trial
+
+# Speaks BFD with a running router over loopback, for some seconds beside a flood; it needs python3 too.
+bfd-trial: bin/router
+	tests/bfd/try.py --seconds $(SECONDS)
+
 .PHONY: gate-times
 
 # The gate, from nothing, with the processor time of each crate's proof, tests and wrong bodies; it needs python3 too.

@@ -6,8 +6,10 @@
 Each net has core ASes, their children and grandchildren, of one to three routers each, over IPv4 or IPv6. Hosts send
 packets on beaconed paths of one to three segments, with other bytes here and there, traceroute requests, urgent ones
 and such as have expired. Hosts and services also send beacons over the links, each way, on paths of one hop, and answers
-to them. `router route` says what each router on the way makes of a packet. What arrives at hosts and services must be
-exactly that, byte for byte, each flow in order, and each router's report must count exactly that.
+to them. In most ASes applications of hosts listen at ports of their own. Neighbours that aren't run speak BFD over links
+to them. `router route` says what each router on the way makes of a packet. What arrives at hosts, services and these
+neighbours must be exactly that, byte for byte, each flow in order, and each router's report must count exactly that. The
+port at a host, what a beacon arrives as and what BFD is answered by must also be what the model of tests/scion.py says.
 """
 
 import argparse
@@ -38,7 +40,7 @@ class Net:
     def __init__(self, dice, number):
         self.dice, self.port = dice, 20000 + number % 10 * 4000
         self.is_v6 = dice.random() < 0.25
-        self.ases, self.routers, self.hosts = [], [], {}
+        self.ases, self.routers, self.hosts, self.speakers = [], [], {}, []
         cores = dice.randint(1, 3)
         levels = [[self.add_as(True) for _ in range(cores)]]
         levels += [[self.add_as(False) for _ in range(dice.randint(1, 3))] for _ in range(dice.randint(1, 2))]
@@ -55,6 +57,8 @@ class Net:
                 # each router needs a link
                 other = dice.choice([it for it in self.ases if it is not router["as"]])
                 self.add_link(router["as"], other, "core", "core", router)
+        for number in range(dice.randint(1, 3)):
+            self.add_speaker(dice.choice(self.routers), number)
 
     def add_as(self, is_core):
         dice, number = self.dice, len(self.ases)
@@ -65,6 +69,7 @@ class Net:
             "core": is_core,
             "number": number,
             "host_port": self.next_port(),
+            "dispatched": [self.next_port() for _ in range(dice.choice([0, 1, 2, 3]))],
             "version": dice.choice([1, 2, 2]),
             "interfaces": set(),
             "links": [],
@@ -97,8 +102,10 @@ class Net:
         return router
 
     def add_host(self, one, index):
-        host = (self.address(one, 40 + index), one["host_port"])
-        self.hosts[host] = None
+        """A host by its address. It listens at `host_port` and at each of the AS's dispatched ports."""
+        host = self.address(one, 40 + index)
+        for port in (one["host_port"], *one["dispatched"]):
+            self.hosts[host, port] = None
         return host
 
     def new_interface(self, one):
@@ -115,6 +122,7 @@ class Net:
             of = router if router and is_first else self.dice.choice(at["routers"])
             end = {"as": at, "id": self.new_interface(at), "kind": to, "router": of, "bands": self.dice.choice([1, 2])}
             end["named"] = self.dice.random() < 0.9
+            end["bfd"] = end["named"] and self.dice.random() < 0.5
             ends.append(end)
         is_v6 = self.is_v6 or self.dice.random() < 0.2
         for end in ends:
@@ -123,6 +131,18 @@ class Net:
             end["remote"], end["far"] = far["local"], far
             end["router"]["links"].append(end)
             end["as"]["links"].append(end)
+
+    def add_speaker(self, router, number):
+        """A neighbour of a router that speaks BFD, and isn't run. No path leads over its link."""
+        one, v6 = router["as"], self.is_v6 or self.dice.random() < 0.2
+        end = {"as": one, "id": self.new_interface(one), "kind": self.dice.choice(["core", "parent", "child"])}
+        end |= {"router": router, "bands": self.dice.choice([1, 2]), "named": True, "bfd": self.dice.random() < 0.9}
+        end["local"] = ("::1" if v6 else f"127.{30 + one['number']}.1.{self.dice.randint(1, 9)}", self.next_port())
+        end["remote"] = ("::1" if v6 else f"127.90.1.{self.dice.randint(1, 9)}", self.next_port())
+        end["far"] = {"as": {"isd": 9, "as": 0xFF0000000900 + number}, "speaker": self.dice.randrange(1, 1 << 32)}
+        self.hosts[end["remote"]] = None
+        router["links"].append(end)
+        self.speakers.append(end)
 
 
 def text_of(address):
@@ -153,6 +173,7 @@ def config_of(router):
     two = one["version"] == 2
     lines += [f"version = {one['version']}", f'isd_as = "{isd_as_text(one)}"', f'key = "{one["key"].hex()}"']
     lines += [f'internal = "{text_of(router["internal"])}"', f"host_port = {one['host_port']}"]
+    lines += [f"dispatched_ports = [{min(one['dispatched'])}, {max(one['dispatched'])}]"] if one["dispatched"] else []
     lines += [f"internal_bands = {router['bands']}"] * two
     lines += [f"processors = {router['processors']}", "capacity = 256", "buffers = 256", f"seed = {router['seed']}"]
     for end in router["links"]:
@@ -160,6 +181,7 @@ def config_of(router):
         lines += [f'local = "{text_of(end["local"])}"', f'remote = "{text_of(end["remote"])}"']
         lines += [f"bands = {end['bands']}"] * two
         lines += [f'neighbor = "{isd_as_text(end["far"]["as"])}"'] * end["named"]
+        lines += ["bfd = true"] * end["bfd"]
     for other in one["routers"]:
         for end in other["links"] if other is not router else []:
             lines += ["[[sibling]]", f"id = {end['id']}", f'kind = "{end["kind"]}"', f'at = "{text_of(other["internal"])}"']
@@ -276,22 +298,63 @@ def address_bytes(one):
     return struct.pack("!HHI", one["isd"], one["as"] >> 32, one["as"] & 0xFFFFFFFF)
 
 
+def some_port(dice, one):
+    """A port of hosts of an AS, mostly a dispatched one, or another one."""
+    others = [one["host_port"], dice.randrange(1 << 16)]
+    others += [one["dispatched"][0] - 1, one["dispatched"][-1] + 1] if one["dispatched"] else []
+    return dice.choice([*one["dispatched"] * 3, *others])
+
+
+def quoting(dice, source, target, host):
+    """An SCMP error message for a datagram of the target's host, mostly in part."""
+    kind, own = host_bytes(host)
+    path = dice.randbytes(4 * dice.randrange(8))
+    length = 12 + 16 + 2 * len(own) + len(path)
+    protocol, behind = 17, struct.pack("!HHHH", some_port(dice, target), some_port(dice, source), 8, 0)
+    if dice.random() < 0.3:
+        protocol = 202
+        behind = struct.pack("!BBHHH", dice.choice([128, 130, 129, 4]), 0, 0, some_port(dice, target), 7)
+    if dice.random() < 0.2:
+        protocol, behind = 201, bytes([protocol, 1, *bytes(6)]) + behind
+    head = struct.pack("!IBBHBBH", 1, protocol, length // 4, len(behind), dice.choice([0, 1, 2, 3]), kind << 4 | kind, 0)
+    quote = head + address_bytes(source) + address_bytes(target) + own + own + path + behind
+    type_of, at = dice.choice([(1, 8), (2, 8), (4, 8), (5, 20), (6, 28), (3, 8)])
+    return bytes([type_of]).ljust(at, b"\0") + quote[: dice.choice([len(quote)] * 3 + [dice.randrange(len(quote))])]
+
+
+def some_payload(dice, source, target, host, number):
+    """The next header and what is behind the header of a packet to a host."""
+    kind, data = dice.random(), struct.pack("!I", number) + dice.randbytes(dice.choice([0, 4, 60, 1200, 4000]))
+    if kind < 0.75:
+        head = struct.pack("!HHHH", some_port(dice, source), some_port(dice, target), 8 + len(data), 0)
+        found = 17, head + data
+    elif kind < 0.85:
+        found = 202, struct.pack("!BBHHH", dice.choice([128, 129, 130, 131]), 0, 0, some_port(dice, target), 7) + data
+    else:
+        found = 202, quoting(dice, source, target, host)
+    for extension in (201, 200):
+        if dice.random() < 0.1:
+            found = extension, bytes([found[0], 1, *bytes(6)]) + found[1]
+    return found if dice.random() < 0.97 else (found[0], found[1][: dice.randrange(len(found[1]))])
+
+
 def some_packet(dice, net, now, number):
     """A packet with its sender, the router that it is sent to, and what marks its flow."""
     parts = some_path(dice, net, now)
     hops = [hop for part in parts for hop in part["hops"]]
     source, target = hops[0]["as"], hops[-1]["as"]
-    sender = dice.choice(source["hosts"])
-    kind, host = host_bytes(dice.choice(target["hosts"])[0])
+    sender = dice.choice(source["hosts"]), dice.choice([source["host_port"], *source["dispatched"]])
+    host_of_target = dice.choice(target["hosts"])
+    kind, host = host_bytes(host_of_target)
+    next_header, payload = some_payload(dice, source, target, host_of_target, number)
     if dice.random() < 0.15:
         service = target["service"][0] if dice.random() < 0.8 else dice.randrange(1 << 15)
         kind, host = 4, struct.pack("!HH", service, 0)
-    alert, next_header = None, 17
-    payload = struct.pack("!I", number) + dice.randbytes(dice.choice([0, 4, 60, 1200, 4000]))
+    alert = None
     if dice.random() < 0.2:
         alert = (dice.randrange(len(hops)), dice.choice([1, 2, 3]))
-        next_header = 202
-        payload = struct.pack("!BBHHHHHIQ", dice.choice([130, 130, 130, 128, 1]), 0, 0, number & 0xFFFF, 7, 0, 0, 0, 0)
+        next_header, identifier = 202, dice.choice([sender[1], number & 0xFFFF])
+        payload = struct.pack("!BBHHHHHIQ", dice.choice([130, 130, 130, 128, 1]), 0, 0, identifier, 7, 0, 0, 0, 0)
     path = path_bytes(dice, parts, alert)
     flow, urgent = dice.randrange(8), dice.random() < 0.3
     traffic = 46 << 2 if urgent else dice.choice([0, 0, 8])
@@ -353,7 +416,7 @@ def delivered(data, end, beta):
 def beacon_target(dice, slip, target):
     """The kind and the bytes of a beacon's host: mostly the service of its AS."""
     if slip != "service" and dice.random() < 0.3:
-        return host_bytes(dice.choice(target["hosts"])[0])
+        return host_bytes(dice.choice(target["hosts"]))
     number = dice.randrange(400, 1 << 15) if slip == "service" else target["service"][0]
     return 4, struct.pack("!HH", number, 0)
 
@@ -372,12 +435,18 @@ def some_beacon(dice, net, now, number):
     slip, others = dice.choice(SLIPS), [it for it in net.ases if it not in (end["as"], end["far"]["as"])] or net.ases
     target = dice.choice(others) if slip == "destination" else end["far"]["as"]
     source = dice.choice(others) if slip == "source" else end["as"]
-    sender = dice.choice([end["as"]["service"][1], *end["as"]["hosts"]])
+    hosts = [(host, port) for host in end["as"]["hosts"] for port in (end["as"]["host_port"], *end["as"]["dispatched"])]
+    sender = dice.choice([end["as"]["service"][1], *hosts])
     router = dice.choice(end["as"]["routers"]) if slip == "router" else end["router"]
     (kind, host), (own_kind, own) = beacon_target(dice, slip, target), host_bytes(sender[0])
     path, beta = first_hop(dice, end, slip, now)
-    addresses, payload = address_bytes(target) + address_bytes(source) + host + own, struct.pack("!I", number) + dice.randbytes(60)
-    length, traffic, flow = 12 + len(addresses) + 32, dice.choice([0, 46 << 2]), dice.randrange(8)
+    addresses, traffic, flow = address_bytes(target) + address_bytes(source) + host + own, dice.choice([0, 46 << 2]), dice.randrange(8)
+    payload = struct.pack("!HHHHI", sender[1], some_port(dice, target), 72, 0, number) + dice.randbytes(60)
+    if slip == "bfd":
+        # as if it came from the router at this end of the link
+        payload = some_control(dice, end["id"], end["far"]["id"]).bytes()
+        flow = dice.choice([flow, flow, scion.ANSWER_FLOW])
+    length = 12 + len(addresses) + 32
     head = struct.pack("!IBBHBBH", traffic << 20 | flow, 203 if slip == "bfd" else 17, length // 4, len(payload), 2, kind << 4 | own_kind, 0)
     data = head + addresses + path + dice.choice([bytes(12), dice.randbytes(12)]) + payload
     data = with_turned_bits(dice, data) if slip == "bits" else data
@@ -385,6 +454,92 @@ def some_beacon(dice, net, now, number):
     lawful = slip is None and end["named"] and end["far"]["named"] and is_alive(data, now)
     wanted = delivered(data, end, beta) if lawful else None
     return {"sender": sender, "router": router, "data": data, "flow": flow_key, "number": number, "wanted": wanted}
+
+
+# BFD.
+
+
+def some_control(dice, mine, yours):
+    """A BFD control packet, mostly one that is answered."""
+    state = dice.randrange(4)
+    known = yours if state in (scion.INIT, scion.UP) or dice.random() < 0.5 else 0
+    flags = dice.choice([0, 0, scion.POLL, scion.FINAL, scion.CONTROL_PLANE, scion.DEMAND])
+    control = scion.Control(state, mine, known, flags, dice.randint(1, 255), dice.choice([0, 200_000, 300_000, 1_000_000, 1 << 31]))
+    slips = [{}] * 30 + [{"version": 0}, {"length": 25}, {"length": 23}, {"multiplier": 0}, {"mine": 0}, {"yours": yours ^ 1}]
+    slips += [{"flags": flags | scion.AUTHENTICATION}, {"flags": flags | scion.MULTIPOINT}, {"state": scion.UP, "yours": 0}]
+    return control._replace(**dice.choice(slips))
+
+
+def some_bfd(dice, net, now, number):
+    """BFD of a neighbour that isn't run, with what `some_packet` tells, its link, and its answer where there is one."""
+    end = dice.choice(net.speakers)
+    one, far = end["as"], end["far"]["as"]
+    hosts = [host_bytes(address[0])[1] for address in (end["local"], end["remote"])]
+    behind = dice.choice([b""] * 4 + [bytes(4)])
+    packet = scion.OneHopPacket(
+        target=scion.IsdAs(one["isd"], one["as"]),
+        source=scion.IsdAs(far["isd"], far["as"]) if dice.random() < 0.95 else scion.IsdAs(9, 9),
+        target_host=hosts[0],
+        source_host=hosts[1],
+        seg_id=dice.randrange(1 << 16),
+        timestamp=now - dice.choice([0, 0, 100_000]),
+        hops=(scion.Hop(0, 63, 0, dice.randrange(1 << 16), dice.randbytes(6)), scion.NO_HOP),
+        next_header=scion.BFD,
+        payload=some_control(dice, end["far"]["speaker"], end["id"]).bytes() + behind,
+        traffic_class=0xB8,
+        flow=dice.choice([dice.randrange(8)] * 8 + [scion.ANSWER_FLOW]),
+    )
+    data = packet.bytes()
+    data = with_turned_bits(dice, data) if dice.random() < 0.1 else data
+    sender = end["remote"]
+    if dice.random() < 0.05:
+        # from elsewhere than the link's other end
+        sender = dice.choice([it["remote"] for it in net.speakers if (":" in it["local"][0]) == (":" in sender[0])])
+    flow = (sender, id(end["router"]), data[:4], data[12 : 4 * data[5] - 32])
+    found = {"sender": sender, "router": end["router"], "data": data, "flow": flow, "number": number, "link": end["id"]}
+    return found | {"to": end["local"], "bfd": True}
+
+
+def model_of(router):
+    """The router of a net, for the model."""
+    links = {}
+    for end in router["links"]:
+        local, remote = ((host_bytes(host)[1], port) for host, port in (end["local"], end["remote"]))
+        neighbor = scion.IsdAs(end["far"]["as"]["isd"], end["far"]["as"]["as"]) if end["named"] else None
+        links[end["id"]] = scion.Link(end["id"], local, remote, neighbor, end["bfd"])
+    one = router["as"]
+    ports = (one["dispatched"][0], one["dispatched"][-1]) if one["dispatched"] else None
+    service, at = one["service"]
+    return scion.Router(scion.IsdAs(one["isd"], one["as"]), one["key"], one["host_port"], ports, links, {service: text_of(at)})
+
+
+def is_modelled(model, link, data):
+    """Whether the model says what comes of a datagram: BFD and other one-hop packets that enter."""
+    return link and model.links[link].neighbor and len(data) >= 12 and not data[0] >> 4 and data[8] == scion.ONE_HOP
+
+
+def differs_from_model(model, link, source, now, data, line):
+    """Why the line of a datagram isn't the one of the model, or None."""
+    if is_modelled(model, link, data):
+        wanted = scion.entering(model, model.links[link], now, (host_bytes(source[0])[1], source[1]), data)
+        return None if line == wanted else f"wanted {wanted}, came {line} for {data.hex()}"
+    words = line.split()
+    if words[:2] == ["send", "0"] and data[12:20] == model.isd_as.bytes() and words[2] != scion.delivery(model, data):
+        return f"wanted {scion.delivery(model, data)}, came {words[2]} for {data.hex()}"
+    return None
+
+
+def at_moment(net, address, data, now):
+    """An answer to BFD as it were if it had been made at this moment, where it is right for its own; else the data."""
+    ends = [it for it in net.speakers if it["remote"] == address]
+    if not ends or data[1:4] != b"\x8b\xfd\xa0":
+        return data
+    end, at = ends[0], 4 * data[5] - 32
+    timestamp = int.from_bytes(data[at + 4 : at + 8], "big")
+    tags = [mac_of(end["as"]["key"], 0, it, 63, 0, end["id"]) for it in (timestamp, now)]
+    if not 0 <= timestamp - now < 300 or data[at + 14 : at + 20] != tags[0] or data[at + 2 : at + 4] != tags[0][:2]:
+        return data
+    return data[: at + 2] + tags[1][:2] + struct.pack("!I", now) + data[at + 8 : at + 14] + tags[1] + data[at + 20 :]
 
 
 # What `router route` says.
@@ -402,22 +557,25 @@ def routed(program, configs, router, link, source, now, datagrams):
 
 
 def foretold(program, net, configs, packets, now):
-    """What arrives where, by packet, and what each router counts."""
+    """What arrives where, by packet, what each router counts, and what the model says otherwise."""
     by_internal = {it["internal"]: it for it in net.routers}
     arrivals, counts = [None] * len(packets), {id(it): collections.Counter() for it in net.routers}
-    flying = [(at, it["router"], 0, it["sender"], it["data"]) for at, it in enumerate(packets)]
+    models, differing = {id(it): model_of(it) for it in net.routers}, []
+    flying = [(at, it["router"], it.get("link", 0), it["sender"], it["data"]) for at, it in enumerate(packets)]
     for it in packets:
         it["way"] = ()
     for _ in range(200):
         if not flying:
-            return arrivals, counts
+            return arrivals, counts, differing
         groups, flown = collections.defaultdict(list), []
         for at, router, link, source, data in flying:
             groups[id(router), link, source].append((at, router, data))
         for (_, link, source), members in groups.items():
             router = members[0][1]
             lines = routed(program, configs, router, link, source, now, [it[2] for it in members])
-            for (at, _, _), line in zip(members, lines):
+            for (at, _, data), line in zip(members, lines):
+                difference = differs_from_model(models[id(router)], link, source, now, data, line)
+                differing += [difference] if difference else []
                 words, count = line.split(), counts[id(router)]
                 count["received"] += 1
                 if words[0] == "drop":
@@ -435,7 +593,10 @@ def foretold(program, net, configs, packets, now):
                     end = next(it for it in router["links"] if it["id"] == out)
                     if to != "-":
                         sys.exit(f"a link's packet goes to {to}")
-                    flown.append((at, end["far"]["router"], end["far"]["id"], end["local"], data))
+                    if end in net.speakers:
+                        arrivals[at] = (end["remote"], data)
+                    else:
+                        flown.append((at, end["far"]["router"], end["far"]["id"], end["local"], data))
                 elif address_of(to) in by_internal:
                     flown.append((at, by_internal[address_of(to)], 0, router["internal"], data))
                 else:
@@ -531,14 +692,15 @@ def differences(net, packets, arrivals, counts, arrived, reports):
 def try_net(program, seed, number, count):
     dice = random.Random(seed * 1000003 + number)
     net, now = Net(dice, number), int(time.time())
-    packets = [(some_beacon if dice.random() < 0.2 else some_packet)(dice, net, now, at) for at in range(count)]
+    kinds = dice.choices([some_packet, some_beacon, some_bfd], [6, 2, 1], k=count)
+    packets = [it(dice, net, now, at) for at, it in enumerate(kinds)]
     with tempfile.TemporaryDirectory() as room:
         configs = {}
         for at, router in enumerate(net.routers):
             configs[id(router)] = f"{room}/{at}.toml"
             with open(configs[id(router)], "w", encoding="utf-8") as it:
                 it.write(config_of(router))
-        arrivals, counts = foretold(program, net, configs, packets, now)
+        arrivals, counts, differing = foretold(program, net, configs, packets, now)
         sockets = {address: bound(address) for address in net.hosts}
         running = [started(program, configs[id(it)], room, at) for at, it in enumerate(net.routers)]
         try:
@@ -555,7 +717,7 @@ def try_net(program, seed, number, count):
                     sys.exit(f"net {number}: a router isn't ready")
             arrived = collections.defaultdict(list)
             for at, it in enumerate(packets):
-                sockets[it["sender"]].sendto(it["data"], it["router"]["internal"])
+                sockets[it["sender"]].sendto(it["data"], it.get("to", it["router"]["internal"]))
                 if at % 16 == 15:
                     taken(sockets, arrived, 0.002)
             taken(sockets, arrived, 0.3)
@@ -577,10 +739,16 @@ def try_net(program, seed, number, count):
             fault.close()
     found = [f"a router ended with {it}" for it in status if it]
     found += [f"{text_of(it)} got something only at the end" for it in net.hosts if early[it] < len(arrived[it])]
+    arrived = {address: [at_moment(net, address, it, now) for it in arrived[address]] for address in net.hosts}
+    found += [f"the model: {it}" for it in differing]
     found += differences(net, packets, arrivals, counts, arrived, reports)
     summary = sum((it for it in counts.values()), collections.Counter())
     summary["link beacons"] = sum("wanted" in it for it in packets)
     summary["link beacons arrived"] = sum("wanted" in it and arrivals[at] is not None for at, it in enumerate(packets))
+    summary["link BFD"] = sum("bfd" in it for it in packets)
+    summary["link BFD answered"] = sum("bfd" in it and arrivals[at] is not None for at, it in enumerate(packets))
+    dispatched = {(host, port) for one in net.ases for host in one["hosts"] for port in one["dispatched"]}
+    summary["link dispatched"] = sum(it is not None and it[0] in dispatched for it in arrivals)
     return found, len(net.routers), summary, sum(it is not None for it in arrivals)
 
 
@@ -601,6 +769,8 @@ def main():
         failed += bool(found)
     print(f"{given.nets} nets of {routers} routers, {given.nets * given.packets} packets, of which {arrived} arrived or were answered")
     print(f"{total['link beacons']} of them were beacons, of which {total['link beacons arrived']} arrived")
+    print(f"{total['link BFD']} of them were BFD, of which {total['link BFD answered']} were answered")
+    print(f"{total['link dispatched']} went to a host's port other than `host_port`")
     print("what the routers made of them: " + ", ".join(f"{it} {total[it]}" for it in sorted(total) if not it.startswith("link")))
     print(f"failed {failed}")
     return 1 if failed else 0
