@@ -13,10 +13,10 @@ TOP = os.path.dirname(os.path.dirname(os.path.dirname(os.path.abspath(__file__))
 # Each layer's title, colour and crates, lowest first.
 LAYERS = [
     ("packets", "#dbe9f6", "field_rows scion_packet"),
-    ("formats", "#dbe9f6", "scion_header path_fields"),
+    ("formats", "#dbe9f6", "scion_header path_fields host_ports bfd_control"),
     ("ciphers", "#dbe9f6", "aes128_core cmac_core"),
     ("rules of a hop, a pair, a flow", "#dbe9f6", "hop_check segment_switch flow_key"),
-    ("decision and answers", "#d5ecd4", "process_packet address_kinds scmp_answer"),
+    ("decision and answers", "#d5ecd4", "process_packet address_kinds scmp_answer bfd_answer packet_answer"),
     ("nets and walks", "#d5ecd4", "walk_laws net_walks"),
     ("model of the pipeline", "#fdeec9", "pipeline_laws router_rules pipe_parts pipe_steps pipe_model"),
     ("between threads", "#f8dcd3", "ruled_pipe packet_ledger"),
