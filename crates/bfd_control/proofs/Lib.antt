@@ -1,0 +1,4 @@
+pub mod SessionLemmas
+pub mod ReceptionLemmas
+pub mod PacketLemmas
+pub mod AnswerLemmas
