@@ -1,0 +1,4 @@
+pub mod ExtensionLemmas
+pub mod QuoteLemmas
+pub mod GivenLemmas
+pub mod NoneLemmas
