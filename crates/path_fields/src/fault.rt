@@ -8,7 +8,7 @@ pub enum PathFault {
     Header,
     /// The segment lengths are no path's, or the cursor is at no hop, or at a hop of another segment
     /// than it says; or a path of one hop is travelled against its construction.
-    #[error("the path meta header has wrong lengths or a wrong cursor")]
+    #[error("the path's lengths, cursor or direction are wrong")]
     Path,
     /// A segment is a peering one.
     #[error("the path has a peering segment")]

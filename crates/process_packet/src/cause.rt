@@ -11,11 +11,12 @@ pub enum Cause {
     Short,
     /// The version is not 0.
     Version,
-    /// The path type is not that of a SCION path.
+    /// The path type is not one that is carried.
     PathType,
     /// The header length does not cover the addresses, or does not end where the path does.
     Header,
-    /// The path's lengths, its cursor or its hop count are refused.
+    /// The path's lengths, its cursor or its hop count are refused; or a path of one hop is travelled
+    /// against its construction.
     Path,
     /// A segment is marked as peering.
     Peering,

@@ -9,8 +9,8 @@ pub enum HeaderFault {
     /// The version is not 0.
     #[error("the version is not 0")]
     Version,
-    /// The path type is not the one that is asked for, mostly that of a SCION path.
-    #[error("the path type is not SCION")]
+    /// The path type is not the expected one: that of a SCION path, or of a path of one hop.
+    #[error("the path type is not the expected one")]
     PathType,
     /// The header is too short to hold its addresses.
     #[error("the header length does not cover the address header")]
