@@ -28,7 +28,9 @@ pub use in_place::{set_cursor, set_seg_id};
 pub use laws::path_is_lawful;
 pub use meta::{Meta, check_path, read_meta};
 pub use moves::advance;
-pub use one_hop::{check_one_hop, one_hop_first, one_hop_info, set_one_hop_seg_id, set_second_hop};
+pub use one_hop::{
+    check_one_hop, one_hop_first, one_hop_info, set_one_hop_seg_id, set_second_hop, write_one_hop,
+};
 pub use path::Path;
 pub use reading::{read_hop, read_info, read_path};
 pub use reversing::reversed;

@@ -1,7 +1,7 @@
 //! A path of one hop where it lies: an info field and two hop fields, 32 bytes, and no meta header
 //! (draft-dekater-scion-dataplane, "One-Hop Path Type").
 
-ghost use Rattle.std.specs.Prelude.{◌≡◌, ◌≤◌, [], ◌∷◌, length, None, Some, MatchResult, IfOk};
+ghost use Rattle.std.specs.Prelude.{◌≡◌, ◌≤◌, ◌+◌, [], ◌∷◌, length, replicate, None, Some, MatchResult, IfOk};
 ghost use Rattle.field_rows.specs.Place.{Puts};
 ghost use Rattle.field_rows.specs.Row.{field, row};
 ghost use Rattle.scion_packet.specs.OneHop.{IsOneHopPath, OneHopPath, one_hop_path_fault, one_hop_path_of, one_hop_text};
@@ -12,8 +12,8 @@ ghost use Rattle.path_fields.specs.Fields.{hop_field, info_field};
 use crate::fault::PathFault;
 use crate::fields::{Hop, Info};
 use crate::reading::{info_at, read_hop};
-use crate::writing::write_hop;
-use field_rows::put_u16;
+use crate::writing::{write_hop, write_info};
+use field_rows::{put, put_u16};
 
 /// Whether all tests of a path of one hop pass; else the fault of the first that fails: that it has 32
 /// bytes, that its segment isn't a peering one (P), and that it is travelled in the direction of its
@@ -52,6 +52,18 @@ pub fn one_hop_first(path: &[u8]) -> Hop
     ensures { hop_field result ≡ (one_hop_path_of path.now).first }
 {
     read_hop(path, 8)
+}
+
+/// Writes a path of one hop, 32 bytes from `at` on: its info field and the hop field of the AS from which the packet
+/// comes (draft-dekater-scion-dataplane, "One-Hop Path Type"). The second hop field is of zero bytes, until the
+/// next AS writes it.
+pub fn write_one_hop(info: &Info, first: &Hop, out: &mut [u8], at: usize)
+    requires { at + 32 ≤ length out.old }
+    ensures { Puts out.old out.new at (one_hop_text (record { info = info_field info.now; first = hop_field first.now; second = replicate 12 0 })) }
+{
+    write_info(info, out, at);
+    write_hop(first, out, at + 8);
+    put(out, at + 20, &[0; 12]);
 }
 
 /// Sets the segment's identifier (SegID) of the path of one hop that the bytes spell, as the router does

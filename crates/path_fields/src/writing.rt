@@ -46,7 +46,7 @@ fn flags_of(reserved: u8, high: bool, low: bool) -> u8
     reserved * 4 + u8::from(high) * 2 + u8::from(low)
 }
 
-fn write_info(info: &Info, out: &mut [u8], at: usize)
+pub(crate) fn write_info(info: &Info, out: &mut [u8], at: usize)
     requires { at + 8 ≤ length out.old }
     ensures { Puts out.old out.new at (rows (info_table (info_field info.now))) }
 {

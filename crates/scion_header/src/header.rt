@@ -5,7 +5,8 @@ ghost use Rattle.scion_header.specs.Host.{length_code};
 use crate::address::Address;
 
 /// The common header and the address header (draft-dekater-scion-dataplane, "SCION Header Specification").
-/// The version is 0 and the path type that of a SCION path in each.
+/// The version is 0 and the path type that of a SCION path in each, if it isn't written for another one
+/// (`write_header_as`).
 #[derive(Clone, Copy, PartialEq, Eq)]
 pub struct Header {
     /// The traffic class (TrafficClass): six bits of differentiated services, then two bits of congestion

@@ -33,4 +33,4 @@ pub use host::Host;
 pub use laws::header_is_lawful;
 pub use reading::{check_header, check_header_as, read_header};
 pub use upper::{Upper, UpperPlace};
-pub use writing::write_header;
+pub use writing::{write_header, write_header_as};

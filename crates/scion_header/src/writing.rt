@@ -19,9 +19,9 @@ fn kind_bits(address: &Address) -> u8
     address.kind * 4 + address.host.length_code()
 }
 
-fn write_common(header: &Header, out: &mut [u8])
+fn write_common(path_type: u8, header: &Header, out: &mut [u8])
     requires { 12 ≤ length out.old }
-    ensures { Puts out.old out.new 0 (rows (common_table (header_fields header.now))) }
+    ensures { Puts out.old out.new 0 (rows (common_table (record (header_fields header.now) { path_type = path_type }))) }
 {
     let first = u32::from(header.traffic_class) << 20 | header.flow_id;
     let kinds = kind_bits(&header.destination) * 16 + kind_bits(&header.source);
@@ -29,7 +29,7 @@ fn write_common(header: &Header, out: &mut [u8])
     put_u8(out, 4, header.next_header);
     put_u8(out, 5, header.header_length);
     put_u16(out, 6, header.payload_length);
-    put_u8(out, 8, SCION_PATH);
+    put_u8(out, 8, path_type);
     put_u8(out, 9, kinds);
     put_u16(out, 10, header.reserved);
 }
@@ -42,11 +42,11 @@ fn write_domain(address: &Address, out: &mut [u8], at: usize)
     put_u48(out, at + 2, address.autonomous_system);
 }
 
-/// Writes the common header and the address header at the front, and says how many bytes they are;
-/// what lies after them is as it was. Where there is no room for both `NoRoom` is answered, and
-/// nothing is written.
-pub fn write_header(header: &Header, out: &mut [u8]) -> Result<usize, NoRoom>
-    ensures written { OnOk result (Puts out.old out.new 0 (header_text (header_fields header.now))) }
+/// Writes the common header and the address header at the front, for a path of this type (PathType), and says how
+/// many bytes they are; what lies after them is as it was. Where there is no room for both `NoRoom` is answered,
+/// and nothing is written.
+pub fn write_header_as(path_type: u8, header: &Header, out: &mut [u8]) -> Result<usize, NoRoom>
+    ensures written { OnOk result (Puts out.old out.new 0 (header_text (record (header_fields header.now) { path_type = path_type }))) }
     ensures len { IfOk result (λ n. n ≡ front_len (header_fields header.now)) }
     ensures no_room { IsErr result ↔ (length out.old < front_len (header_fields header.now)) }
     ensures err { OnErr result (out.new ≡ out.old) }
@@ -58,10 +58,20 @@ pub fn write_header(header: &Header, out: &mut [u8]) -> Result<usize, NoRoom>
     if out.len() < whole {
         return Err(NoRoom);
     }
-    write_common(header, out);
+    write_common(path_type, header, out);
     write_domain(&header.destination, out, 12);
     write_domain(&header.source, out, 20);
     put(out, 28, destination);
     put(out, source_place, source);
     Ok(whole)
+}
+
+/// What `write_header_as` writes for a SCION path (path type 1), in the same way.
+pub fn write_header(header: &Header, out: &mut [u8]) -> Result<usize, NoRoom>
+    ensures written { OnOk result (Puts out.old out.new 0 (header_text (header_fields header.now))) }
+    ensures len { IfOk result (λ n. n ≡ front_len (header_fields header.now)) }
+    ensures no_room { IsErr result ↔ (length out.old < front_len (header_fields header.now)) }
+    ensures err { OnErr result (out.new ≡ out.old) }
+{
+    write_header_as(SCION_PATH, header, out)
 }
