@@ -13,6 +13,7 @@ use Rattle.process_packet.specs.declared.config.Config.{Config}
 use Rattle.process_packet.specs.declared.neighbours.Link.{Link}
 use Rattle.process_packet.specs.declared.neighbours.Service.{Service}
 use Rattle.process_packet.specs.declared.neighbours.Sibling.{Sibling}
+use Rattle.process_packet.specs.declared.port_range.PortRange.{PortRange}
 use Rattle.walk_laws.specs.declared.net.End.{End}
 use Rattle.walk_laws.specs.declared.net.Wire.{Wire}
 use Rattle.process_packet.specs.declared.underlay.Ip.{Ip}
@@ -133,6 +134,19 @@ service_decides a b =
     (λ is. (ap (λ (s : Service). s.number) is, ap (λ (s : Service). s.at) is))
     (both (a.number == b.number) (same_underlay a.at b.at) (Decides-eqb a.number b.number) (underlay_decides a.at b.at))
 
+range_decides : (a b : PortRange) → Decides (a.first == b.first && a.last == b.last) (a ≡ b)
+range_decides a b =
+    by_way (a.first == b.first && a.last == b.last)
+    (λ h. ap₂ (λ (f l : ℕ). let r : PortRange = record { first = f; last = l } in r) h.0 h.1)
+    (λ is. (ap (λ (r : PortRange). r.first) is, ap (λ (r : PortRange). r.last) is))
+    (both (a.first == b.first) (a.last == b.last) (Decides-eqb a.first b.first) (Decides-eqb a.last b.last))
+
+ports_decide : (a b : Option PortRange) → Decides (agreement.same_ports a b) (a ≡ b)
+ports_decide None None = (λ e. refl, λ is. refl)
+ports_decide None (Some b) = (λ e. let never : false ≡ true = e in absurd cc, λ is. absurd cc)
+ports_decide (Some a) None = (λ e. let never : false ≡ true = e in absurd cc, λ is. absurd cc)
+ports_decide (Some a) (Some b) = by_way (agreement.same_ports (Some a) (Some b)) (ap Some) (λ is. cc) (range_decides a b)
+
 pub end_decides : (a b : End) → Decides (agreement.same_end a b) (a ≡ b)
 end_decides a b =
     by_way (agreement.same_end a b)
@@ -200,13 +214,22 @@ within_decides r q x y =
     let n = y.network in
     let a = bytes_eq m.key n.key in
     let b = m.host_port == n.host_port in
-    let c = list_all (agreement.has_service n.services) m.services in
-    let d = (r == q) || agreement.lists_router x y in
+    let c = agreement.same_ports m.dispatched_ports n.dispatched_ports in
+    let d = list_all (agreement.has_service n.services) m.services in
+    let e = (r == q) || agreement.lists_router x y in
     by_way (agreement.agree_within (r == q) x y)
-    (λ h. record { key = h.0.0.0; host_port = h.0.0.1; services = h.0.1; internal = λ other. (h.1 other).internal; siblings = λ other. (h.1 other).siblings })
-    (λ w. (((w.key, w.host_port), w.services), λ other. record { internal = w.internal other; siblings = w.siblings other }))
+    (λ h. record {
+      key = h.0.0.0.0;
+      host_port = h.0.0.0.1;
+      dispatched_ports = h.0.0.1;
+      services = h.0.1;
+      internal = λ other. (h.1 other).internal;
+      siblings = λ other. (h.1 other).siblings;
+    })
+    (λ w. ((((w.key, w.host_port), w.dispatched_ports), w.services), λ other. record { internal = w.internal other; siblings = w.siblings other }))
+    (both (a && b && c && d) e
     (both (a && b && c) d
-    (both (a && b) c (both a b (bytes_eq-Decides m.key n.key) (Decides-eqb m.host_port n.host_port))
+    (both (a && b) c (both a b (bytes_eq-Decides m.key n.key) (Decides-eqb m.host_port n.host_port)) (ports_decide m.dispatched_ports n.dispatched_ports))
     (each (agreement.has_service n.services) (λ s. Contains n.services s) (λ s. some (agreement.same_service s) s (service_decides s) n.services) m.services))
     (unless (r == q) (agreement.lists_router x y) (Decides-eqb r q) (neighbours_decides x y)))
 

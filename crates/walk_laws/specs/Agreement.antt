@@ -10,6 +10,7 @@ use Rattle.process_packet.specs.declared.config.Config.{Config}
 use Rattle.process_packet.specs.declared.neighbours.Link.{Link}
 use Rattle.process_packet.specs.declared.neighbours.Service.{Service}
 use Rattle.process_packet.specs.declared.neighbours.Sibling.{Sibling}
+use Rattle.process_packet.specs.declared.port_range.PortRange.{PortRange}
 use Rattle.walk_laws.specs.declared.net.End.{End}
 use Rattle.walk_laws.specs.declared.net.Wire.{Wire}
 use Rattle.process_packet.specs.declared.underlay.Underlay.{Underlay}
@@ -57,12 +58,20 @@ same_service s t = s.number == t.number && same_underlay s.at t.at
 abbrev pub has_service : List Service → Service → Bool
 has_service services s = list_any (same_service s) services
 
+-- one range of ports, or none in both
+abbrev pub same_ports : Option PortRange → Option PortRange → Bool
+same_ports None None = true
+same_ports None (Some b) = false
+same_ports (Some a) None = false
+same_ports (Some a) (Some b) = a.first == b.first && a.last == b.last
+
 abbrev pub lists_router : Router → Router → Bool
 lists_router x y = not (same_underlay x.internal y.internal) && list_all (lists x.network y.internal) y.network.links
 
 abbrev pub agree_within : Bool → Router → Router → Bool
 agree_within same x y =
     bytes_eq x.network.key y.network.key && x.network.host_port == y.network.host_port
+    && same_ports x.network.dispatched_ports y.network.dispatched_ports
     && list_all (has_service y.network.services) x.network.services
     && (same || lists_router x y)
 

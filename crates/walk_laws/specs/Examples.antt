@@ -3,6 +3,7 @@ use Rattle.std.specs.Prelude.{ℕ}
 use Rattle.walk_laws.specs.Example.{example_net}
 use Rattle.walk_laws.specs.ExampleHops.{example_against, example_path, example_start}
 use Rattle.walk_laws.specs.ExampleTurn.{descent, descent_start, family, turn}
+use Rattle.walk_laws.specs.ExamplePorts.{PortsAgree}
 use Rattle.walk_laws.specs.PathSegments.{IsBeaconed, IsPathOver}
 use Rattle.walk_laws.specs.LawfulStart.{LawfulStart}
 use Rattle.walk_laws.specs.Net.{Agrees, Net}
@@ -20,7 +21,8 @@ pub record OneHopExample : Type 0 where
   pub starts : LawfulOneHopStart net moment start
 
 -- The example's packet sets out lawfully; the segment is one too where it is travelled against, and so is the path up and down.
--- A packet sets out lawfully that changes its segment in an AS of two routers, so that its pair of links is split over both.
+-- A packet sets out lawfully that changes its segment in an AS of two routers, so that its pair of links is split over both. Two
+-- routers of one AS agree where they know the same ports.
 pub record ExamplesAreLawful : Type 0 where
   pub agrees : Agrees example_net
   pub starts : LawfulStart example_net example_path moment example_start
@@ -29,3 +31,4 @@ pub record ExamplesAreLawful : Type 0 where
   pub family_agrees : Agrees family
   pub descends : LawfulStart family descent moment descent_start
   pub beacon : OneHopExample
+  pub ports : PortsAgree

@@ -14,4 +14,5 @@ pub mod OneHopStart
 pub mod ExampleHops
 pub mod Configured
 pub mod ExampleTurn
+pub mod ExamplePorts
 pub mod Examples

@@ -8,7 +8,7 @@ ghost use Rattle.walk_laws.specs.Net.{Agrees, net_of, router_of};
 ghost use Rattle.process_packet.specs.Network.{network};
 
 use crate::net::{End, Net, Wire};
-use process_packet::{Config, Link, Service};
+use process_packet::{Config, Link, PortRange, Service};
 use segment_switch::LinkKind;
 
 /// Whether both are the same kind.
@@ -84,12 +84,24 @@ fn shares_services(config: &Config, other: &Config) -> bool
         .all(|service| has_service(other, service))
 }
 
+/// Whether both are the same range of ports, or neither is there.
+fn same_ports(one: &Option<PortRange>, other: &Option<PortRange>) -> bool
+    ensures { result ≡ agreement.same_ports one.now other.now }
+{
+    match (one, other) {
+        (None, None) => true,
+        (Some(one), Some(other)) => one.first == other.first && one.last == other.last,
+        _ => false,
+    }
+}
+
 /// Whether two routers of one AS, or one and itself, agree.
 fn agree_within(same: bool, one: &Config, other: &Config) -> bool
     ensures { result ≡ agreement.agree_within same (router_of one.now) (router_of other.now) }
 {
     one.key.has_same_key(&other.key)
         && one.host_port == other.host_port
+        && same_ports(&one.dispatched_ports, &other.dispatched_ports)
         && shares_services(one, other)
         && (same || lists_router(one, other))
 }
@@ -223,8 +235,8 @@ fn are_net(configs: &[Config], wires: &[Wire]) -> bool
     routers_agree(configs) && are_wires(configs, wires) && all_apart(wires)
 }
 
-/// Whether the net agrees. Routers of one AS have one key, one host port and the same services, and
-/// different internal addresses; no two of them have an interface of one number, and each lists all
+/// Whether the net agrees. Routers of one AS have one key, one host port, the same ports for applications
+/// on end hosts and the same services, and different internal addresses; no two of them have an interface of one number, and each lists all
 /// interfaces of the others as siblings, with the owner's internal address and the kind of its link. A
 /// wire joins two links of the net, and a link is on at most one wire; each of both links has the other's
 /// local address as its remote one, their kinds are opposite, and if a link names the AS at its other end,

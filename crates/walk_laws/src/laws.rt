@@ -54,8 +54,9 @@ pub fn hops_make_routes()
 {}
 
 /// The definitions hold of the examples: a packet that sets out over three ASes, a path up and down, a
-/// packet that changes its segment in an AS of two routers, each of which lists the other's links, and a
-/// beacon over a link whose ends name each other's AS.
+/// packet that changes its segment in an AS of two routers, each of which lists the other's links, a
+/// beacon over a link whose ends name each other's AS, and two routers of one AS that know the same ports of
+/// applications on end hosts, or other ones.
 pub fn examples_are_lawful()
     ensures { ExamplesAreLawful }
 {}
