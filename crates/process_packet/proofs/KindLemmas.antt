@@ -14,7 +14,7 @@ use Rattle.process_packet.specs.Network.{Network, takes_one_hop}
 use Rattle.process_packet.specs.Routed.{IsAnswer}
 use Rattle.process_packet.specs.Rows as rows
 use Rattle.process_packet.specs.Rows.{Verdict}
-use Rattle.process_packet.specs.OneHopRows.{OneHopVerdict, Sent, Dropped}
+use Rattle.process_packet.specs.OneHopRows.{OneHopVerdict, Sent, Answered, Dropped}
 use Rattle.process_packet.specs.OneHopTable.{one_hop_decision_of, one_hop_moved_by, one_hop_verdict}
 use Rattle.process_packet.specs.OneHopLaws.{IsDecidedAsOneHop, IsDecidedAsScion}
 
@@ -38,40 +38,29 @@ decided_as_one_hop n link source moment bytes is = record {
   bytes_are = ap (λ (b : Bool). if b then one_hop_moved_by (one_hop_verdict n link source moment bytes) bytes else scion_moved n link source moment bytes) is;
 }
 
--- a packet on a path of one hop is never answered
-not_answered : (v : OneHopVerdict) (q : Problem) → one_hop_decision_of v ≡ decision.Answer q → ⊥
-not_answered (Sent link to p) q is = absurd cc
-not_answered (Dropped why) q is = absurd cc
-
-pub answered_as_scion : (n : Network) (link : ℕ) (source : Underlay) (moment : ℕ) (bytes : List ℕ) (q : Problem) → decide n link source moment bytes ≡ decision.Answer q
-    → scion_decide n link source moment bytes ≡ decision.Answer q
-answered_as_scion n link source moment bytes q says =
-    elim (cases_Bool (is_one_hop n link bytes)) [
-      | inl is ↦ absurd (not_answered (one_hop_verdict n link source moment bytes) q (sym (decided_as_one_hop n link source moment bytes is).decision ∙ says))
-      | inr other ↦ sym (decided_as_scion n link source moment bytes other).decision ∙ says
-    ]
-
 is_answered : (d : Decision) → IsAnswer d → (q : Problem) × (d ≡ decision.Answer q)
 is_answered (decision.Send link to) asks = absurd asks
 is_answered (decision.Answer q) asks = (q, refl)
 is_answered (decision.Drop why) asks = absurd asks
-
-pub asked_as_scion : (n : Network) (link : ℕ) (source : Underlay) (moment : ℕ) (bytes : List ℕ) → IsAnswer (decide n link source moment bytes) → IsAnswer (scion_decide n link source moment bytes)
-asked_as_scion n link source moment bytes asks =
-    let told = is_answered (decide n link source moment bytes) asks in
-    subst IsAnswer (sym (answered_as_scion n link source moment bytes told.0 told.1)) tt
 
 unchanged_scion : (v : Verdict) (bytes : List ℕ) (q : Problem) → decision_of v ≡ decision.Answer q → moved_by v bytes ≡ bytes
 unchanged_scion (rows.Sent link to p) bytes q says = absurd cc
 unchanged_scion (rows.Answered r) bytes q says = refl
 unchanged_scion (rows.Dropped why) bytes q says = refl
 
+unchanged_one_hop : (v : OneHopVerdict) (bytes : List ℕ) (q : Problem) → one_hop_decision_of v ≡ decision.Answer q → one_hop_moved_by v bytes ≡ bytes
+unchanged_one_hop (Sent link to p) bytes q says = absurd cc
+unchanged_one_hop (Answered r) bytes q says = refl
+unchanged_one_hop (Dropped why) bytes q says = refl
+
 -- what is answered stays as it came
 pub answered_unchanged : (n : Network) (link : ℕ) (source : Underlay) (moment : ℕ) (bytes : List ℕ) (q : Problem) → decide n link source moment bytes ≡ decision.Answer q
     → moved n link source moment bytes ≡ bytes
 answered_unchanged n link source moment bytes q says =
     elim (cases_Bool (is_one_hop n link bytes)) [
-      | inl is ↦ absurd (not_answered (one_hop_verdict n link source moment bytes) q (sym (decided_as_one_hop n link source moment bytes is).decision ∙ says))
+      | inl is ↦
+          let as_one_hop = decided_as_one_hop n link source moment bytes is in
+          as_one_hop.bytes_are ∙ unchanged_one_hop (one_hop_verdict n link source moment bytes) bytes q (sym as_one_hop.decision ∙ says)
       | inr other ↦
           let as_scion = decided_as_scion n link source moment bytes other in
           as_scion.bytes_are ∙ unchanged_scion (verdict n link source moment bytes) bytes q (sym as_scion.decision ∙ says)

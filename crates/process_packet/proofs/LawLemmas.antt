@@ -14,8 +14,9 @@ use Rattle.process_packet.specs.declared.decision.Problem.{Problem}
 use Rattle.process_packet.specs.declared.underlay.Underlay.{Underlay}
 use Rattle.process_packet.specs.Decide.{decision_of, decision_table, verdict, verdict_of}
 use Rattle.process_packet.specs.Laws.{IsAuthorised, IsMoved, LeavesByItsEgress, LeftLawfully, changes}
+use Rattle.process_packet.specs.HostPort.{delivered_at}
 use Rattle.process_packet.specs.Neighbours.{sibling_at}
-use Rattle.process_packet.specs.Network.{Network, interface_kind, is_local, own_link, reached_at, sibling}
+use Rattle.process_packet.specs.Network.{Network, interface_kind, is_local, own_link, sibling}
 use Rattle.process_packet.specs.Request.{is_request}
 use Rattle.process_packet.specs.Rows.{Answered, Dropped, Ends, GoesOn, Row, RowResult, Sent, came_lawfully, cause_of, delivered, ends_where, expired, faulty, is_destination_lawful, is_pair_lawful, is_source_lawful, sent_on, sent_out, sent_to, then_rows, unreachable, wrong_mac}
 use Rattle.process_packet.specs.Routed.{IsAnswer}
@@ -209,7 +210,7 @@ sent_inside q None out to p sent = absurd (unreachable_not_sent q.header.destina
 sent_inside q (Some at) out to p sent = let same = same_sent 0 out (Some at) to q p sent in (sym same.link, same.packet)
 
 pub delivered_inside : (n : Network) (q : Packet) (out : ℕ) (to : Option Underlay) (p : Packet) → delivered n q ≡ Sent out to p → (out ≡ 0) × (q ≡ p)
-delivered_inside n q out to p sent = sent_inside q (reached_at n q.header.destination) out to p sent
+delivered_inside n q out to p sent = sent_inside q (delivered_at n q.header q.payload) out to p sent
 
 at_the_end : (external last local : Bool) → (if external then (if last then local else not local) else not local) ≡ true → external ≡ true → local ≡ true → last ≡ true
 at_the_end true true local lawful e l = refl

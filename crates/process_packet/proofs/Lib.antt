@@ -18,6 +18,7 @@ pub mod Coming
 pub mod RowsPassed
 pub mod AuthorisedLemmas
 pub mod HostLemmas
+pub mod PortLemmas
 pub mod DeliveredLemmas
 pub mod KeptLemmas
 pub mod WaysLemmas
@@ -25,10 +26,12 @@ pub mod ByteLemmas
 pub mod LawfulLemmas
 pub mod WhatLeavesLemmas
 pub mod ChainingLemmas
-pub mod PointerLemmas
-pub mod RefusalLemmas
 pub mod OneHopConditionLemmas
 pub mod OneHopTestLemmas
 pub mod OneHopLawLemmas
+pub mod ControlLemmas
+pub mod PointerLemmas
+pub mod RefusalLemmas
 pub mod OneHopByteLemmas
 pub mod OneHopRefusalLemmas
+pub mod ControlAnswered

@@ -1,15 +1,18 @@
 -- The tests of the rows for one-hop paths decide the conditions that the laws cite, and say which links take such paths.
-use Rattle.std.proofs.Common.{◌≡◌, ◌≢◌, ◌||◌, ◌==◌, ℕ, suc, Bool, true, false, List, [], ◌∷◌, Option, Some, None, refl, sym, ap, ap₂, ◌∙◌, arith, inl, inr, if◌then◌else◌}
+use Rattle.std.proofs.Common.{◌≡◌, ◌≢◌, ◌&&◌, ◌||◌, ◌==◌, not, ℕ, suc, Bool, true, false, List, [], ◌∷◌, Option, Some, None, refl, sym, ap, ap₂, ◌∙◌, arith, inl, inr, if◌then◌else◌}
 use Rattle.std.specs.Bool.{Decides}
 use Rattle.std.specs.List.{list_any}
 use Rattle.std.specs.Option.{option_and_then}
 use Rattle.std.specs.Prelude.{Contains, cond, find, is_some}
 use Rattle.std.proofs.lemmas.Bool.{cases_Bool, eqb-true, ne_eqb}
-use Rattle.std.proofs.lemmas.Bool.Decides.{Decides-and, Decides-eqb, not_from_Decides}
+use Rattle.std.proofs.lemmas.Bool.Decides.{Decides-and, Decides-eqb, Decides-not, not_from_Decides}
 use Rattle.std.proofs.lemmas.List.Folds.{list_any_at}
+use Rattle.bfd_control.specs.Reception.{is_taken}
 use Rattle.scion_header.specs.declared.domain.Domain.{Domain}
 use Rattle.scion_packet.specs.Header.{HostAddress}
 use Rattle.process_packet.specs.declared.neighbours.Link.{Link}
+use Rattle.process_packet.specs.Conditions.{AsksByBfd}
+use Rattle.process_packet.specs.LinkControl.{answers_bfd, bfd_answer_flow, is_answered}
 use Rattle.process_packet.specs.Neighbours.{is_neighbored, link_neighbor}
 use Rattle.process_packet.specs.Network.{Network, is_neighbor, neighbor, own_link, takes_one_hop}
 use Rattle.process_packet.specs.OneHopLaws.{LeadsTo, TakesOneHops}
@@ -57,6 +60,40 @@ has_neighbor n link = (
   neighbor_of n link (own_link n link) refl,
   λ has. ap (λ (o : Option Link). is_some (option_and_then link_neighbor o)) has.listed ∙ ap (λ (d : Option Domain). is_some d) has.named,
 )
+
+-- ---- control packets of BFD
+
+-- The link is one of this router whose configuration has them answered.
+record HasBfd (n : Network) (link : ℕ) : Type 0 where
+  own : Link
+  listed : own_link n link ≡ Some own
+  answers : own.bfd ≡ true
+
+bfd_over : (n : Network) (link : ℕ) (o : Option Link) → own_link n link ≡ o → Decides (answers_bfd o) (HasBfd n link)
+bfd_over n link None none = (λ e. let never : false ≡ true = e in absurd cc, λ has. let listed = has.listed in absurd cc)
+bfd_over n link (Some l) there = (
+  λ e. record { own = l; listed = there; answers = e },
+  λ has.
+      let is : Some l ≡ Some has.own = sym there ∙ has.listed in
+      let one : l ≡ has.own = cc in
+      ap (λ (k : Link). k.bfd) one ∙ has.answers,
+)
+
+pub asks_by_bfd : (n : Network) (link flow : ℕ) (payload : List ℕ) → Decides (is_answered n link flow payload) (AsksByBfd n link flow payload)
+unfolding is_answered
+asks_by_bfd n link flow payload =
+    let a = answers_bfd (own_link n link) in
+    let b = not (flow == bfd_answer_flow) in
+    let c = is_taken link payload in
+    let both = Decides-and a b (bfd_over n link (own_link n link) refl) (Decides-not (flow == bfd_answer_flow) (Decides-eqb flow bfd_answer_flow)) in
+    let all = Decides-and (a && b) c both (λ e. e, λ e. e) in (
+      λ e.
+          let parts = all.0 e in
+          record { own = parts.0.0.own; listed = parts.0.0.listed; answers = parts.0.0.answers; first = parts.0.1; taken = parts.1 },
+      λ asks. all.1 ((record { own = asks.own; listed = asks.listed; answers = asks.answers }, asks.first), asks.taken),
+    )
+
+-- ---- what leads where
 
 -- a link that leads to an address has a neighbour
 pub led_to : (n : Network) (link : ℕ) (a : HostAddress) → LeadsTo n link a → HasNeighbor n link

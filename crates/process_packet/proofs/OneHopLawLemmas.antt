@@ -10,12 +10,14 @@ use Rattle.scion_packet.proofs.HeaderSpelled.{header_type}
 use Rattle.scion_packet.proofs.OneHopLaws.{one_hop_both_pass, one_hop_pass_both}
 use Rattle.process_packet.specs.declared.cause.Cause.{Cause}
 use Rattle.process_packet.specs.declared.decision.Decision.TheVariants as decision
+use Rattle.process_packet.specs.declared.decision.Problem.{Problem}
 use Rattle.process_packet.specs.declared.underlay.Underlay.{Underlay}
 use Rattle.process_packet.specs.Decide.{decide, decision_of, is_one_hop, moved, scion_decide, verdict}
-use Rattle.process_packet.specs.Network.{Network, reached_at, takes_one_hop}
+use Rattle.process_packet.specs.HostPort.{delivered_at, host_port_of}
+use Rattle.process_packet.specs.Network.{Network, takes_one_hop}
 use Rattle.process_packet.specs.OneHopLaws.{DecidedByKind, EntersTo, HasPathOf, IsOneHop, IsUsable, LeadsTo, MayEnterTo, MayLeaveBy}
 use Rattle.process_packet.specs.OneHopRows as row
-use Rattle.process_packet.specs.OneHopRows.{Dropped, OneHopRow, OneHopVerdict, Sent, are_ends_lawful, begins_here, complete, delivered, dropped_where, faulty, leave}
+use Rattle.process_packet.specs.OneHopRows.{Answered, Dropped, OneHopRow, OneHopVerdict, Sent, are_ends_lawful, begins_here, complete, delivered, dropped_where, ends_where, faulty, leave}
 use Rattle.process_packet.specs.OneHopState.{OneHopState, chained, completed, exit, is_external, one_hop_arrives}
 use Rattle.process_packet.specs.OneHopTable.{one_hop_decision_of, one_hop_ends_as, one_hop_moved_by, one_hop_table, one_hop_verdict, or_rows, tried}
 use Rattle.process_packet.specs.PacketState.{arrives}
@@ -40,19 +42,30 @@ Sends o s rows out to p = one_hop_ends_as (or_rows o s rows) ≡ Sent out to p
 
 abbrev IsSent : OneHopVerdict → Type 0
 IsSent (Sent out to p) = Unit {0}
+IsSent (Answered q) = ⊥
 IsSent (Dropped why) = ⊥
 
 dropped_not_sent : (why : Cause) (out : ℕ) (to : Option Underlay) (p : OneHopPacket) → Dropped why ≡ Sent out to p → ⊥
 dropped_not_sent why out to p e = subst IsSent (sym e) tt
 
--- what a row says that sends nothing: to go on, or a drop
+answered_not_sent : (q : Problem) (out : ℕ) (to : Option Underlay) (p : OneHopPacket) → Answered q ≡ Sent out to p → ⊥
+answered_not_sent q out to p e = subst IsSent (sym e) tt
+
+-- what a row says that sends nothing: to go on, an answer, or a drop
 data SendsNothing : Option OneHopVerdict → Type 0 where
   goes_on : SendsNothing None
+  answers : (q : Problem) → SendsNothing (Some (Answered q))
   drops : (why : Cause) → SendsNothing (Some (Dropped why))
 
 dropping : (t : Bool) (why : Cause) → SendsNothing (dropped_where t why)
 dropping true why = SendsNothing.drops why
 dropping false why = SendsNothing.goes_on
+
+-- of the row for control packets
+controlling : (t b : Bool) (q : Problem) (why : Cause) → SendsNothing (ends_where t (if b then Answered q else Dropped why))
+controlling true true q why = SendsNothing.answers q
+controlling true false q why = SendsNothing.drops why
+controlling false b q why = SendsNothing.goes_on
 
 at_fault : (f : Option Fault) → SendsNothing (faulty f)
 at_fault None = SendsNothing.goes_on
@@ -62,6 +75,7 @@ at_fault (Some f) = SendsNothing.drops (cause_of f)
 passed : (o : Option OneHopVerdict) → SendsNothing o → (s : OneHopState) (rows : List OneHopRow) (out : ℕ) (to : Option Underlay) (p : OneHopPacket)
     → Sends o s rows out to p → (o ≡ None) × Sends None s rows out to p
 passed _ SendsNothing.goes_on s rows out to p sent = (refl, sent)
+passed _ (SendsNothing.answers q) s rows out to p sent = absurd (answered_not_sent q out to p sent)
 passed _ (SendsNothing.drops why) s rows out to p sent = absurd (dropped_not_sent why out to p sent)
 
 no_fault : (f : Option Fault) → faulty f ≡ None → f ≡ None
@@ -93,7 +107,7 @@ let_through s out to p sent =
     let whole = passed (row.wrong_payload_length s) (dropping _ _) s (rest 4) out to p path.1 in
     let sender = passed (row.wrong_underlay_source s) (dropping _ _) s (rest 5) out to p whole.1 in
     let ends = passed (row.wrong_ends s) (dropping _ _) s (rest 6) out to p sender.1 in
-    let other = passed (row.link_control s) (dropping _ _) s (rest 7) out to p ends.1 in
+    let other = passed (row.link_control s) (controlling _ _ _ _) s (rest 7) out to p ends.1 in
     let begins = passed (row.wrong_exit s) (dropping _ _) s (rest 8) out to p other.1 in
     let far = passed (row.wrong_far_end s) (dropping _ _) s (rest 9) out to p begins.1 in
     let timely = passed (row.wrong_time s) (dropping _ _) s (rest 10) out to p far.1 in
@@ -151,10 +165,10 @@ pub record WentIn (s : OneHopState) (out : ℕ) (to : Option Underlay) (p : OneH
   pub link : out ≡ 0
   pub at : Underlay
   pub address : to ≡ Some at
-  pub reached : reached_at s.network s.packet.header.destination ≡ Some at
+  pub reached : delivered_at s.network s.packet.header s.packet.payload ≡ Some at
   pub packet : completed s ≡ p
 
-went_in_by : (s : OneHopState) (o : Option Underlay) (out : ℕ) (to : Option Underlay) (p : OneHopPacket) → reached_at s.network s.packet.header.destination ≡ o
+went_in_by : (s : OneHopState) (o : Option Underlay) (out : ℕ) (to : Option Underlay) (p : OneHopPacket) → delivered_at s.network s.packet.header s.packet.payload ≡ o
     → delivered (completed s) o ≡ Sent out to p → WentIn s out to p
 went_in_by s None out to p none sent = absurd (dropped_not_sent _ out to p sent)
 went_in_by s (Some at) out to p there sent =
@@ -189,7 +203,7 @@ may_leave s zero is = record {
   authentic = shown (has_other_mac s) _ (mac_asked s zero) is.authentic;
 }
 
-may_enter : (s : OneHopState) (at : Underlay) → s.link ≢ 0 → IsLetThrough s → reached_at s.network s.packet.header.destination ≡ Some at → MayEnterTo s at
+may_enter : (s : OneHopState) (at : Underlay) → s.link ≢ 0 → IsLetThrough s → delivered_at s.network s.packet.header s.packet.payload ≡ Some at → MayEnterTo s at
 may_enter s at other is there =
     let ends = shown (has_other_ends s) _ (ends_asked_outside s other) is.ends in
     record {
@@ -199,7 +213,7 @@ may_enter s at other is there =
       source = ends.1;
       destination = ends.0;
       other = shown (is_link_control s) _ (host_asked s other) is.other;
-      reached = reaches s.network s.packet.header.destination at there;
+      reached = reaches s.network (host_port_of s.network s.packet.header.next_header s.packet.payload) s.packet.header.destination at there;
     }
 
 -- ---- and back
@@ -278,6 +292,7 @@ of_decision (Sent l a p) out to says =
     let link : l ≡ out = cc in
     let address : a ≡ to = cc in
     (p, ap₂ (λ (x : ℕ) (y : Option Underlay). Sent x y p) link address)
+of_decision (Answered q) out to says = absurd cc
 of_decision (Dropped why) out to says = absurd cc
 
 -- The table sends it, and these bytes leave.
@@ -298,7 +313,7 @@ one_hop_told : (n : Network) (link : ℕ) (source : Underlay) (moment : ℕ) (by
 unfolding one_hop_verdict
 one_hop_told n link source moment bytes out to p sent = sent
 
-ends_so : (n : Network) (link : ℕ) (source : Underlay) (moment : ℕ) (bytes : List ℕ) (v : OneHopVerdict)
+pub ends_so : (n : Network) (link : ℕ) (source : Underlay) (moment : ℕ) (bytes : List ℕ) (v : OneHopVerdict)
     → tried (one_hop_arrives n link source moment bytes) one_hop_table ≡ Some v → one_hop_verdict n link source moment bytes ≡ v
 unfolding one_hop_verdict
 ends_so n link source moment bytes v ends = ap one_hop_ends_as ends
@@ -328,12 +343,12 @@ pub sent_in : (n : Network) (link : ℕ) (source : Underlay) (moment : ℕ) (byt
 sent_in n link source moment bytes out to p other sent =
     let s = one_hop_arrives n link source moment bytes in
     let through = let_through s out to p (one_hop_told n link source moment bytes out to p sent) in
-    let went = went_in_by s (reached_at s.network s.packet.header.destination) out to p refl (leaves_by true s out to p (outside s other) through.1) in
+    let went = went_in_by s (delivered_at s.network s.packet.header s.packet.payload) out to p refl (leaves_by true s out to p (outside s other) through.1) in
     record { may = record { at = went.at; address = went.address; entered = may_enter s went.at other through.0 went.reached }; link = went.link; packet = went.packet }
 
 -- ---- what shows its conditions is sent
 
-is_of_its_table : (n : Network) (link : ℕ) (bytes : List ℕ) → one_hop_fault bytes ≡ None → takes_one_hop n link ≡ true → is_one_hop n link bytes ≡ true
+pub is_of_its_table : (n : Network) (link : ℕ) (bytes : List ℕ) → one_hop_fault bytes ≡ None → takes_one_hop n link ≡ true → is_one_hop n link bytes ≡ true
 unfolding is_one_hop
 is_of_its_table n link bytes sound takes =
     ap₂ (λ (a b : Bool). a && b) (eq-eqb (slice_index bytes 8) one_hop_path (header_type one_hop_path bytes (one_hop_both_pass bytes sound).0)) takes
@@ -356,7 +371,8 @@ enters_if n link source moment bytes at is =
     let s = one_hop_arrives n link source moment bytes in
     let takes = outside_takes n link s.packet.header.source is.outside is.source in
     let decided = decided_as_one_hop n link source moment bytes (is_of_its_table n link bytes is.usable.sound takes) in
-    let there : reached_at n s.packet.header.destination ≡ Some at = reached n s.packet.header.destination at is.reached in
+    let h = s.packet.header in
+    let there : delivered_at n h s.packet.payload ≡ Some at = reached n (host_port_of n h.next_header s.packet.payload) h.destination at is.reached in
     let ends = reaches_the_end s (lets_enter s at is) ∙ leaves_as true s (outside s is.outside) ∙ ap (λ (o : Option Underlay). Some (delivered (completed s) o)) there in
     decided.decision ∙ ap one_hop_decision_of (ends_so n link source moment bytes (Sent 0 (Some at) (completed s)) ends)
 

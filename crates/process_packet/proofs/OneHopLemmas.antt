@@ -10,7 +10,6 @@ use Rattle.scion_packet.specs.Packet.{path_bytes}
 use Rattle.scion_packet.specs.Path.{HopField, InfoField}
 use Rattle.scion_packet.proofs.OneHopLaws.{one_hop_both_pass, one_hop_passes, one_hop_path_spelled, one_hop_written_over}
 use Rattle.scion_packet.proofs.Parts.{path_are, path_between}
-use Rattle.process_packet.specs.declared.cause.Cause.{Cause}
 use Rattle.process_packet.specs.declared.cause.Cause.TheVariants as cause
 use Rattle.process_packet.specs.declared.decision.Decision.TheVariants as decision
 use Rattle.process_packet.specs.Decide.{decide, decision_of, is_one_hop}
@@ -21,11 +20,14 @@ use Rattle.std.proofs.lemmas.Bool.Decides.{Decides-ltb}
 use Rattle.process_packet.specs.declared.one_hop_departure.OneHopDeparture.{OneHopDeparture}
 use Rattle.process_packet.specs.declared.one_hop_departure.OneHopDeparture.TheVariants.{Leaves, Enters}
 use Rattle.process_packet.specs.declared.underlay.Underlay.{Underlay}
-use Rattle.process_packet.specs.Network.{Network, reached_at}
+use Rattle.process_packet.specs.declared.refusal.Refusal.{Refusal}
+use Rattle.process_packet.specs.declared.refusal.Refusal.TheVariants as refusal
+use Rattle.process_packet.specs.HostPort.{delivered_at}
+use Rattle.process_packet.specs.Network.{Network}
 use Rattle.process_packet.specs.OneHopRows.{OneHopRow, OneHopVerdict, Dropped, Sent, complete, delivered, dropped_where, leave, faulty_header, faulty_path, too_long}
 use Rattle.process_packet.specs.OneHopState.{OneHopState, chained, completed, exit, first, hop_from, info, is_external, one_hop_arrives, second, with_second}
 use Rattle.process_packet.specs.OneHopTable.{one_hop_decision_of, one_hop_ends_as, one_hop_moved_by, one_hop_table, one_hop_verdict, or_rows, tried}
-use Rattle.process_packet.specs.OneHopView.{TellsOneHop, TellsOneHopDeparture, left_path, sent_so}
+use Rattle.process_packet.specs.OneHopView.{TellsOneHop, TellsOneHopDeparture, left_path, one_hop_refused, sent_so}
 use borrow.Rule.Slice.PartMut.{put_mid}
 
 -- ---- rows
@@ -61,16 +63,22 @@ some_passed s rows more none = past None s rows more none
 pub some_end : (s : OneHopState) (rows more : List OneHopRow) (v : OneHopVerdict) → tried s rows ≡ Some v → tried s (rows ++ more) ≡ Some v
 some_end s rows more v is = stop None s rows more v is
 
--- ---- a drop that is handed on
+-- ---- a refusal that is handed on
 
-pub drop_told : {T : Type 0} (given : Option OneHopVerdict) (result : Result T Cause) (why : Cause) → IsErrAnd result (λ e. e ≡ why) → given ≡ Some (Dropped why) → TellsOneHop given result
-drop_told given (Ok x) why is ends = absurd is
-drop_told given (Err e) why is ends = ends ∙ ap (λ (c : Cause). Some (Dropped c)) (sym is)
+pub row_refused : {T : Type 0} (given : Option OneHopVerdict) (result : Result T Refusal) (r : Refusal) → IsErrAnd result (λ e. e ≡ r) → given ≡ Some (one_hop_refused r)
+    → TellsOneHop given result
+row_refused given (Ok x) r is ends = absurd is
+row_refused given (Err e) r is ends = ends ∙ ap (λ (x : Refusal). Some (one_hop_refused x)) (sym is)
 
-pub departure_dropped : (given : Option OneHopVerdict) (p : OneHopPacket) (result : Result OneHopDeparture Cause) (why : Cause) → IsErrAnd result (λ e. e ≡ why) → given ≡ Some (Dropped why)
-    → TellsOneHopDeparture given p result
-departure_dropped given p (Ok x) why is ends = absurd is
-departure_dropped given p (Err e) why is ends = ends ∙ ap (λ (c : Cause). Some (Dropped c)) (sym is)
+pub departure_refused : (given : Option OneHopVerdict) (p : OneHopPacket) (result : Result OneHopDeparture Refusal) (r : Refusal) → IsErrAnd result (λ e. e ≡ r)
+    → given ≡ Some (one_hop_refused r) → TellsOneHopDeparture given p result
+departure_refused given p (Ok x) r is ends = absurd is
+departure_refused given p (Err e) r is ends = ends ∙ ap (λ (x : Refusal). Some (one_hop_refused x)) (sym is)
+
+-- what is refused stays as it came
+pub refused_keeps : (r : Refusal) (bytes : List ℕ) → bytes ≡ one_hop_moved_by (one_hop_refused r) bytes
+refused_keeps (refusal.Answer q) bytes = refl
+refused_keeps (refusal.Drop why) bytes = refl
 
 -- ---- the bytes that leave
 
@@ -105,7 +113,7 @@ pub same_second : (s : OneHopState) (link expiry : ℕ) (key : List ℕ) (i : In
 same_second s link expiry key i link-is expiry-is key-is info-is =
     ap₂ (λ (l e : ℕ). made l e key i) link-is expiry-is ∙ ap₂ (λ (k : List ℕ) (j : InfoField). made s.link (first s).expiry k j) key-is info-is
 
-pub enters_so : (s : OneHopState) (to : Underlay) (hop : HopField) → is_external s ≡ true → reached_at s.network s.packet.header.destination ≡ Some to → hop ≡ second s
+pub enters_so : (s : OneHopState) (to : Underlay) (hop : HopField) → is_external s ≡ true → delivered_at s.network s.packet.header s.packet.payload ≡ Some to → hop ≡ second s
     → tried s (leave ∷ complete ∷ []) ≡ Some (Sent 0 (Some to) (record s.packet { path = with_second hop s.packet.path }))
 enters_so s to hop external reached hop-is =
     ap (λ (b : Bool). or_rows (if b then None else Some (Sent (exit s) None (chained s))) s (complete ∷ [])) external

@@ -5,22 +5,27 @@ use Rattle.scion_packet.proofs.OneHopLaws.{one_hop_both_pass}
 use Rattle.process_packet.specs.declared.cause.Cause.{Cause}
 use Rattle.process_packet.specs.declared.cause.Cause.TheVariants as cause
 use Rattle.process_packet.specs.declared.underlay.Underlay.{Underlay}
+use Rattle.process_packet.specs.Conditions.{AsksByBfd}
+use Rattle.process_packet.specs.HostPort.{host_port_of}
+use Rattle.process_packet.specs.LinkControl.{control_answer, is_answered}
 use Rattle.process_packet.specs.OneHopRefusals.{HasItsExit, IsBetweenItsEnds, IsForAHost, IsForItsNeighbor, IsFromItsRouter, IsFromThisAs, IsOneHopRefusedSo, IsRead, IsRefusedFromInside, IsRefusedFromOutside, IsTimelyFromInside, IsTimelyFromOutside, IsWhole, OneHopsAreRefusedSo}
 use Rattle.process_packet.specs.OneHopRows as row
-use Rattle.process_packet.specs.OneHopRows.{Dropped, OneHopRow, OneHopVerdict, Sent, delivered, faulty}
+use Rattle.process_packet.specs.OneHopRows.{Answered, Dropped, OneHopRow, OneHopVerdict, Sent, controlled, delivered, faulty}
 use Rattle.process_packet.specs.OneHopState.{OneHopState, chained, completed, exit, is_external, one_hop_arrives}
 use Rattle.process_packet.specs.OneHopTable.{one_hop_ends_as, one_hop_table, one_hop_verdict, tried}
 use Rattle.process_packet.specs.Rows.{cause_of}
+use Rattle.process_packet.proofs.ConditionLemmas.{refuted}
 use Rattle.process_packet.proofs.HostLemmas.{unreached}
+use Rattle.process_packet.proofs.OneHopConditionLemmas.{asks_by_bfd}
 use Rattle.process_packet.proofs.OneHopLemmas.{one_ends, one_passed}
-use Rattle.process_packet.proofs.OneHopTestLemmas.{drops, ends_asked_inside, ends_asked_outside, exit_asked, far_end_asked, has_other_ends, has_other_exit, has_other_mac, has_other_time, host_asked, inside, is_for_other, is_from_other, is_link_control, is_not_whole, is_too_long, lets, lets_other, mac_asked, outside, router_asked, short_asked, time_asked, whole_asked}
+use Rattle.process_packet.proofs.OneHopTestLemmas.{drops, ends, ends_asked_inside, ends_asked_outside, exit_asked, far_end_asked, has_other_ends, has_other_exit, has_other_mac, has_other_time, host_asked, inside, is_for_other, is_from_other, is_link_control, is_not_whole, is_too_long, lets, lets_other, mac_asked, outside, router_asked, short_asked, time_asked, whole_asked}
 use Rattle.process_packet.proofs.RefusalLemmas.{caused}
 
-abbrev rest : ℕ → List OneHopRow
+abbrev pub rest : ℕ → List OneHopRow
 rest k = drop k one_hop_table
 
 module _ (s : OneHopState) where
-  abbrev Reaches : ℕ → Type 0
+  abbrev pub Reaches : ℕ → Type 0
   Reaches k = tried s one_hop_table ≡ tried s (rest k)
 
   abbrev ended : OneHopVerdict
@@ -50,7 +55,7 @@ module _ (s : OneHopState) where
     from_router : IsFromItsRouter s → Reaches 5
     from_router is = whole is.0 ∙ one_passed s row.wrong_underlay_source (rest 5) (lets (is_from_other s) _ (router_asked s other) is.1)
 
-    between : IsBetweenItsEnds s → Reaches 6
+    pub between : IsBetweenItsEnds s → Reaches 6
     between is = from_router is.0 ∙ one_passed s row.wrong_ends (rest 6) (lets (has_other_ends s) _ (ends_asked_outside s other) is.1)
 
     not_inside : not (is_external s) ≡ false
@@ -70,15 +75,26 @@ module _ (s : OneHopState) where
         ∙ one_passed s row.wrong_mac (rest 11) (lets_other (not (is_external s)) _ _ not_inside)
         ∙ one_passed s row.leave (rest 12) (ap (λ (b : Bool). if b then None else Some (Sent (exit s) None (chained s))) (outside s other))
 
+    -- a control packet that doesn't ask
+    no_answer : (AsksByBfd s.network s.link s.packet.header.flow_id s.packet.payload → ⊥) → controlled s ≡ Dropped cause.OneHopHost
+    no_answer quiet =
+        let h = s.packet.header in
+        let asks = asks_by_bfd s.network s.link h.flow_id s.packet.payload in
+        ap (λ (b : Bool). if b then Answered (control_answer s.link) else Dropped cause.OneHopHost)
+        (refuted (is_answered s.network s.link h.flow_id s.packet.payload) (λ e. quiet (asks.0 e)))
+
     refused_outside : IsRefusedFromOutside s ended
     refused_outside = record {
       other_router = λ is never. dropped row.wrong_underlay_source (rest 5) cause.UnderlaySource (whole is) (drops (is_from_other s) cause.UnderlaySource (router_asked s other) never);
       other_ends = λ is never. dropped row.wrong_ends (rest 6) cause.OneHopEnds (from_router is) (drops (has_other_ends s) cause.OneHopEnds (ends_asked_outside s other) never);
-      link_control = λ is bfd. dropped row.link_control (rest 7) cause.OneHopHost (between is) (drops (is_link_control s) cause.OneHopHost (host_asked s other) (λ not-bfd. not-bfd bfd));
+      link_control = λ is bfd quiet.
+          dropped row.link_control (rest 7) cause.OneHopHost (between is)
+          (ends (is_link_control s) (controlled s) (host_asked s other) (λ not-bfd. not-bfd bfd) ∙ ap Some (no_answer quiet));
       other_time = λ is never. dropped row.wrong_time (rest 10) cause.OneHopField (to_host is) (drops (has_other_time s) cause.OneHopField (time_asked s) never);
       no_host = λ is never.
           dropped row.complete (rest 13) cause.OneHopHost (timely_outside is)
-          (ap (λ (o : Option Underlay). Some (delivered (completed s) o)) (unreached s.network s.packet.header.destination never));
+          (ap (λ (o : Option Underlay). Some (delivered (completed s) o))
+          (unreached s.network (host_port_of s.network s.packet.header.next_header s.packet.payload) s.packet.header.destination never));
     }
 
   -- ---- from inside

@@ -1,4 +1,4 @@
--- The tests of the rows for one-hop paths: a row lets go on just what shows its condition, and drops the rest.
+-- The tests of the rows for one-hop paths: a row lets go on just what shows its condition, and ends the decision for the rest.
 use Rattle.std.proofs.Common.{◌≡◌, ◌≢◌, ◌≤◌, ◌+◌, ◌&&◌, ◌||◌, ◌==◌, not, nat_lt, ℕ, Bool, true, false, length, Some, None, refl, ap, if◌then◌else◌}
 use Rattle.std.specs.Bool.{Decides}
 use Rattle.std.specs.Prelude.{is_some}
@@ -9,7 +9,7 @@ use Rattle.process_packet.specs.Conditions.{CarriesMac, IsFarEnd, IsHere}
 use Rattle.process_packet.specs.Network.{is_local, is_neighbor, is_remote, neighbor, own_link}
 use Rattle.process_packet.specs.OneHopLaws.{LeadsTo}
 use Rattle.process_packet.specs.OneHopRefusals.{BeginsHere, IsForThisAs, IsOnTime}
-use Rattle.process_packet.specs.OneHopRows.{Dropped, are_ends_lawful, begins_here, dropped_where}
+use Rattle.process_packet.specs.OneHopRows.{Dropped, OneHopVerdict, are_ends_lawful, begins_here, dropped_where, ends_where}
 use Rattle.process_packet.specs.OneHopState.{OneHopState, exit, first, info, is_ahead, is_authentic, is_expired, is_external}
 use Rattle.process_packet.specs.Underlay.{longest_datagram}
 use Rattle.process_packet.proofs.ConditionLemmas.{carries_mac, external, far_end, in_time, is_here}
@@ -18,21 +18,24 @@ use Rattle.process_packet.proofs.PassingLemmas.{not_true}
 
 -- ---- a row, by what its test decides
 
-pub shown : {P : Type 0} (t : Bool) (why : Cause) → Decides (not t) P → dropped_where t why ≡ None → P
-shown true why decided none = absurd cc
-shown false why decided none = decided.0 refl
+pub shown : {P : Type 0} (t : Bool) (v : OneHopVerdict) → Decides (not t) P → ends_where t v ≡ None → P
+shown true v decided none = absurd cc
+shown false v decided none = decided.0 refl
 
-pub lets : {P : Type 0} (t : Bool) (why : Cause) → Decides (not t) P → P → dropped_where t why ≡ None
-lets true why decided is = let never : false ≡ true = decided.1 is in absurd cc
-lets false why decided is = refl
+pub lets : {P : Type 0} (t : Bool) (v : OneHopVerdict) → Decides (not t) P → P → ends_where t v ≡ None
+lets true v decided is = let never : false ≡ true = decided.1 is in absurd cc
+lets false v decided is = refl
+
+pub ends : {P : Type 0} (t : Bool) (v : OneHopVerdict) → Decides (not t) P → (P → ⊥) → ends_where t v ≡ Some v
+ends true v decided never = refl
+ends false v decided never = absurd (never (decided.0 refl))
 
 pub drops : {P : Type 0} (t : Bool) (why : Cause) → Decides (not t) P → (P → ⊥) → dropped_where t why ≡ Some (Dropped why)
-drops true why decided never = refl
-drops false why decided never = absurd (never (decided.0 refl))
+drops t why decided never = ends t (Dropped why) decided never
 
 -- a row for packets from one side alone lets go on what is from the other
-pub lets_other : (side t : Bool) (why : Cause) → side ≡ false → dropped_where (side && t) why ≡ None
-lets_other side t why other = ap (λ (b : Bool). dropped_where (b && t) why) other
+pub lets_other : (side t : Bool) (v : OneHopVerdict) → side ≡ false → ends_where (side && t) v ≡ None
+lets_other side t v other = ap (λ (b : Bool). ends_where (b && t) v) other
 
 -- ---- what a test decides
 

@@ -1,5 +1,5 @@
 -- Row after row: where the pointer of what each of them may tell points.
-use Rattle.std.proofs.Common.{◌≡◌, ◌<◌, ◌+◌, ◌-◌, ◌*◌, ◌&&◌, ◌==◌, not, nat_lt, ℕ, Bool, true, false, List, [], ◌∷◌, length, drop, None, refl, sym, ap₂, subst, ◌∙◌, arith, if◌then◌else◌, inl, inr, length-drop}
+use Rattle.std.proofs.Common.{◌≡◌, ◌<◌, ◌+◌, ◌-◌, ◌*◌, ◌&&◌, ◌==◌, not, nat_lt, ℕ, Bool, true, false, List, [], ◌∷◌, length, drop, None, refl, sym, ap, ap₂, subst, ◌∙◌, arith, if◌then◌else◌, inl, inr, length-drop}
 use Rattle.std.specs.Prelude.{◌⊎◌, is_some}
 use Rattle.std.proofs.lemmas.Bool.Decides.{Decides-ltb}
 use Rattle.std.proofs.lemmas.List.{length-take-le}
@@ -21,12 +21,11 @@ use Rattle.process_packet.specs.Laws.{changes}
 use Rattle.process_packet.specs.Network.{Network, interface_kind, is_local, own_link}
 use Rattle.process_packet.specs.Pointers.{IsAtHand, IsNamed, PointersAreRight, PointsAtHop, PointsAtInfo, PointsRight}
 use Rattle.process_packet.specs.Request.{is_request}
-use Rattle.process_packet.specs.Routed.{IsAnswer}
 use Rattle.process_packet.specs.Rows.{Answered, Dropped, GoesOn, Row, Sent, Verdict, came_lawfully, delivered, ends_where, expired, is_destination_lawful, is_pair_lawful, is_source_lawful, then_rows, wrong_mac}
 use Rattle.process_packet.specs.PacketState.{PacketState, arrives, chained, chained_id, changed_over, egress, egress_alert, hop_pointer, info_pointer, ingress, ingress_alert, is_along, is_authentic, is_expired, is_external, is_followed, is_last_of_segment, next_segment, packet, turned_back}
 use Rattle.process_packet.proofs.AlikeLemmas.{alike_set}
-use Rattle.process_packet.proofs.KindLemmas.{answered_as_scion}
-use Rattle.process_packet.proofs.LawLemmas.{answers_sound, rest}
+use Rattle.process_packet.proofs.ControlLemmas.{answered_so}
+use Rattle.process_packet.proofs.LawLemmas.{rest}
 use Rattle.process_packet.proofs.LawfulLemmas.{IsOnPath, is_on, some_hop, spelled}
 use Rattle.process_packet.proofs.PassingLemmas.{both_true, parameter}
 use Rattle.process_packet.proofs.ProblemLemmas.{IsTold, IsToldAfter, row_faulty, row_of, row_within, told_delivered, told_leave}
@@ -230,8 +229,17 @@ module _ (n : Network) (from : ℕ) (source : Underlay) (moment : ℕ) (bytes : 
   unfolding verdict
   points_right q says = told_by (verdict n from source moment bytes) q told_all says
 
+-- an answer by BFD has no such pointer
+points_nowhere : (bytes : List ℕ) (q : Problem) → q.kind ≡ 203 → PointsRight bytes q
+points_nowhere bytes q bfd = record {
+  named = λ four. absurd (omega (arith, four, bfd));
+  inside = λ four. absurd (omega (arith, four, bfd));
+  none = λ one. absurd (omega (arith, one, bfd));
+}
+
 pub pointers_right : PointersAreRight
 pointers_right n link source moment bytes q are says =
-    let told = answered_as_scion n link source moment bytes q says in
-    let asks : IsAnswer (scion_decide n link source moment bytes) = subst IsAnswer (sym told) tt in
-    points_right n link source moment bytes are (answers_sound n link source moment bytes asks) q told
+    elim (answered_so n link source moment bytes q says) [
+      | inl control ↦ points_nowhere bytes q (ap (λ (x : Problem). x.kind) control.problem)
+      | inr scmp ↦ points_right n link source moment bytes are scmp.sound q scmp.says
+    ]

@@ -8,8 +8,9 @@ use Rattle.scion_packet.specs.Path.{HopField, path_fault}
 use Rattle.process_packet.specs.Decide.{decision_table, verdict, verdict_of}
 use Rattle.process_packet.specs.Conditions.{ComesInBy}
 use Rattle.process_packet.specs.Laws.{IsAuthorised, changes}
+use Rattle.process_packet.specs.HostPort.{delivered_at}
 use Rattle.process_packet.specs.Neighbours.{sibling_at}
-use Rattle.process_packet.specs.Network.{Network, interface_kind, is_local, own_link, reached_at, sibling}
+use Rattle.process_packet.specs.Network.{Network, interface_kind, is_local, own_link, sibling}
 use Rattle.process_packet.specs.Problems.{IsProblem, ProblemsAreLawful}
 use Rattle.process_packet.specs.Shown.{StandsToLeave, is_for_us}
 use Rattle.process_packet.specs.Request.{is_request}
@@ -64,7 +65,7 @@ told_sent K p None k j =
 told_sent K p (Some at) k j = tt
 
 pub told_delivered : (K : Problem → Type 0) (n : Network) (p : Packet) → K (record { kind = 1; code = 0; pointer = 0 }) → K (parameter 21 9) → IsTold K (delivered n p)
-told_delivered K n p k j = told_sent K p (reached_at n p.header.destination) k j
+told_delivered K n p k j = told_sent K p (delivered_at n p.header p.payload) k j
 
 told_out : (K : Problem → Type 0) (last : Bool) (link : ℕ) (p : Packet) → IsTold K (if last then Dropped cause.PathEnd else Sent link None p)
 told_out K true link p = tt

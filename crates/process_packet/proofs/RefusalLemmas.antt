@@ -16,6 +16,7 @@ use Rattle.process_packet.specs.declared.neighbours.Service.{Service}
 use Rattle.process_packet.specs.declared.underlay.Underlay.{Underlay}
 use Rattle.process_packet.specs.Conditions.{CarriesMac, GoesOutBy, MayFollow}
 use Rattle.process_packet.specs.Decide.{decision_table, ends_as, verdict, verdict_of}
+use Rattle.process_packet.specs.HostPort.{host_port_of}
 use Rattle.process_packet.specs.Laws.{changes}
 use Rattle.process_packet.specs.Neighbours.{service_at}
 use Rattle.process_packet.specs.Network.{interface_kind, reached_at}
@@ -152,6 +153,9 @@ module _ (s : PacketState) where
   abbrev p : Packet
   p = packet (turned s)
 
+  abbrev port : ℕ
+  port = host_port_of s.network s.header.next_header s.payload
+
   -- where it isn't reached, its sender is told so
   abbrev told_as : Bool → Verdict
   told_as service_host = if service_host then problem 1 0 0 else parameter 21 9
@@ -166,17 +170,17 @@ module _ (s : PacketState) where
   pub undeliverable : IsToBeDelivered s → IsUndeliverable s ended
   undeliverable is =
       let shown = comes_so s is.authorised in
-      let goes : ended ≡ sent_to p (reached_at s.network a) = delivers s shown is.quiet is.for_us in
+      let goes : ended ≡ sent_to p (reached_at s.network port a) = delivers s shown is.quiet is.for_us in
       record {
         no_service = λ kind code none.
             goes
-            ∙ ap (λ (o : Option Underlay). sent_to p o) (named s.network a kind code ∙ ap (λ (o : Option Service). option_map service_at o) none)
+            ∙ ap (λ (o : Option Underlay). sent_to p o) (named s.network port a kind code ∙ ap (λ (o : Option Service). option_map service_at o) none)
             ∙ ap told_as (ap₂ (λ (x y : Bool). x && y) (eq-eqb a.kind 1 kind) (eq-eqb (host_code a) 0 code));
         unknown_host = λ address service_host.
             let other : (a.kind == 1 && host_code a == 0) ≡ false = never_both (a.kind == 1) (host_code a == 0) (λ e. ne_eqb (host_code a) 0 (service_host ((Decides-eqb a.kind 1).0 e))) in
             goes
             ∙ ap (λ (o : Option Underlay). sent_to p o)
-            (unknown s.network a
+            (unknown s.network port a
             (never_both (a.kind == 0) (host_code a == 0) (λ e. ne_eqb (host_code a) 0 (address (is_zero e)).0))
             (never_both (a.kind == 0) (host_code a == 3) (λ e. ne_eqb (host_code a) 3 (address (is_zero e)).1))
             other)

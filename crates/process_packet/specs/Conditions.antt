@@ -1,6 +1,7 @@
 -- What a packet must show at a router, said of the fields of its header, its info field and its hop field. The laws cite these
 -- conditions, and none of them is a row's own test: a wrong test is refused there.
 use Rattle.std.specs.Prelude.{◌≡◌, ◌≢◌, ◌≤◌, ◌+◌, ◌-◌, ◌*◌, ℕ, Bool, true, false, List, length, take, Option, Some, None, slice_index}
+use Rattle.bfd_control.specs.Reception.{is_taken}
 use Rattle.cmac_core.specs.Cmac.{tag}
 use Rattle.hop_check.specs.Mac.{mac_input}
 use Rattle.scion_packet.specs.Extensions.{Layer, upper_layer}
@@ -126,3 +127,13 @@ pub record IsTracerouteRequest (next_header : ℕ) (payload : List ℕ) : Type 0
   pub there : 24 ≤ length layer.bytes
   pub kind : slice_index layer.bytes 0 ≡ 130
   pub code : slice_index layer.bytes 1 ≡ 0
+
+-- A control packet of BFD that came by a link, by its flow (FlowID) and its bytes, asks for an answer: the link is one of this
+-- router whose configuration has them answered; it is no answer itself, which its flow would say (bfda0); and it passes the tests
+-- on reception, where the number of the link is this end's discriminator (RFC 5880, 6.8.6).
+pub record AsksByBfd (n : Network) (link flow : ℕ) (payload : List ℕ) : Type 0 where
+  pub own : Link
+  pub listed : own_link n link ≡ Some own
+  pub answers : own.bfd ≡ true
+  pub first : flow ≢ 0xbfda0
+  pub taken : is_taken link payload ≡ true

@@ -5,10 +5,9 @@ use Rattle.scion_packet.specs.Path.{Place, Segment, hops_in}
 use Rattle.scion_packet.specs.Places as places
 use Rattle.scion_packet.specs.Places.{next}
 use Rattle.process_packet.specs.declared.underlay.Underlay.{Underlay}
-use Rattle.process_packet.specs.Decide.{decide, verdict}
+use Rattle.process_packet.specs.Decide.{verdict}
 use Rattle.process_packet.specs.Neighbours.{sibling_at}
 use Rattle.process_packet.specs.Network.{Network, is_local, own_link, sibling}
-use Rattle.process_packet.specs.Routed.{IsAnswer}
 use Rattle.process_packet.specs.Rows.{Sent}
 use Rattle.process_packet.specs.Conditions.{CarriesMac, ComesFromItsRouter, ComesInBy, HasItsDestination, HasItsPair, HasItsSource, IsInTime}
 use Rattle.process_packet.specs.PacketView.{with_id}
@@ -103,8 +102,3 @@ NothingElseChanges =
 abbrev pub NextPlaceIsNext : Type 0
 NextPlaceIsNext =
     (ss : List Segment) (at : Place) → at.position < hops_in ss at.segment → next ss at ≡ (if places.is_last_of_path ss at then None else Some (next_place ss at))
-
--- Only a datagram without a fault is answered.
-abbrev pub AnswersAreSound : Type 0
-AnswersAreSound =
-    (n : Network) (link : ℕ) (source : Underlay) (moment : ℕ) (bytes : List ℕ) → IsAnswer (decide n link source moment bytes) → first_fault bytes ≡ None

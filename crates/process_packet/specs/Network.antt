@@ -81,12 +81,12 @@ takes_one_hop n link = if link == 0 then list_any is_neighbored n.links else is_
 
 -- ---- hosts and services of this AS
 
--- where one is reached: a host of kind 0 with 4 or 16 bytes is an IP address, one of kind 1 with 4 bytes a service; no other kind
--- is known
-abbrev pub reached_at : Network → HostAddress → Option Underlay
-reached_at n a =
-    if a.kind == 0 && host_code a == 0 then Some (record { ip = V4 a.host; port = n.host_port })
-    else if a.kind == 0 && host_code a == 3 then Some (record { ip = V6 a.host; port = n.host_port })
+-- where one is reached: a host of kind 0 with 4 or 16 bytes is an IP address, and listens at this port; one of kind 1 with 4 bytes
+-- is a service, at its own port; no other kind is known
+abbrev pub reached_at : Network → ℕ → HostAddress → Option Underlay
+reached_at n port a =
+    if a.kind == 0 && host_code a == 0 then Some (record { ip = V4 a.host; port = port })
+    else if a.kind == 0 && host_code a == 3 then Some (record { ip = V6 a.host; port = port })
     else if a.kind == 1 && host_code a == 0 then option_map service_at (service n (number_at a.host 0 2))
     else None
 

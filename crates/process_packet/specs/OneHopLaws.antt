@@ -12,7 +12,7 @@ use Rattle.process_packet.specs.declared.neighbours.Link.{Link}
 use Rattle.process_packet.specs.declared.underlay.Underlay.{Underlay}
 use Rattle.process_packet.specs.Conditions.{CarriesMac, IsFarEnd, IsHere, IsInTime}
 use Rattle.process_packet.specs.Decide.{decide, moved, scion_decide, scion_moved}
-use Rattle.process_packet.specs.Hosts.{IsReachedAt}
+use Rattle.process_packet.specs.Hosts.{IsDeliveredAt}
 use Rattle.process_packet.specs.Network.{Network, own_link, takes_one_hop}
 use Rattle.process_packet.specs.OneHopRows.{Sent}
 use Rattle.process_packet.specs.OneHopState.{OneHopState, first, info, one_hop_arrives}
@@ -58,7 +58,7 @@ pub record MayEnterTo (s : OneHopState) (to : Underlay) : Type 0 where
   pub source : LeadsTo s.network s.link s.packet.header.source
   pub destination : IsHere s.network s.packet.header.destination
   pub other : s.packet.header.next_header ≢ 203
-  pub reached : IsReachedAt s.network s.packet.header.destination to
+  pub reached : IsDeliveredAt s.network s.packet.header s.packet.payload to
 
 -- ---- what changes
 

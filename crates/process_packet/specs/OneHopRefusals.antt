@@ -9,8 +9,8 @@ use Rattle.process_packet.specs.declared.cause.Cause.{Cause}
 use Rattle.process_packet.specs.declared.cause.Cause.TheVariants as cause
 use Rattle.process_packet.specs.declared.neighbours.Link.{Link}
 use Rattle.process_packet.specs.declared.underlay.Underlay.{Underlay}
-use Rattle.process_packet.specs.Conditions.{CarriesMac, IsFarEnd, IsHere, IsInTime}
-use Rattle.process_packet.specs.Hosts.{IsReachedAt}
+use Rattle.process_packet.specs.Conditions.{AsksByBfd, CarriesMac, IsFarEnd, IsHere, IsInTime}
+use Rattle.process_packet.specs.Hosts.{IsDeliveredAt}
 use Rattle.process_packet.specs.Network.{Network, own_link}
 use Rattle.process_packet.specs.OneHopLaws.{LeadsTo}
 use Rattle.process_packet.specs.OneHopRows.{Dropped, OneHopVerdict}
@@ -41,7 +41,7 @@ IsOnTime s = IsInTime (info s) (first s) s.moment × ((info s).timestamp ≤ s.m
 
 -- its host or service is reached nowhere
 abbrev pub IsUnreached : OneHopState → Type 0
-IsUnreached s = (to : Underlay) → IsReachedAt s.network s.packet.header.destination to → ⊥
+IsUnreached s = (to : Underlay) → IsDeliveredAt s.network s.packet.header s.packet.payload to → ⊥
 
 -- ---- step by step, each with those before
 
@@ -83,7 +83,8 @@ IsTimelyFromInside s = IsForItsNeighbor s × IsOnTime s
 pub record IsRefusedFromOutside (s : OneHopState) (v : OneHopVerdict) : Type 0 where
   pub other_router : IsWhole s → (IsFarEnd s.network s.link s.source → ⊥) → v ≡ Dropped cause.UnderlaySource
   pub other_ends : IsFromItsRouter s → (IsForThisAs s → ⊥) → v ≡ Dropped cause.OneHopEnds
-  pub link_control : IsBetweenItsEnds s → s.packet.header.next_header ≡ 203 → v ≡ Dropped cause.OneHopHost
+  pub link_control : IsBetweenItsEnds s → s.packet.header.next_header ≡ 203 → (AsksByBfd s.network s.link s.packet.header.flow_id s.packet.payload → ⊥)
+      → v ≡ Dropped cause.OneHopHost
   pub other_time : IsForAHost s → (IsOnTime s → ⊥) → v ≡ Dropped cause.OneHopField
   pub no_host : IsTimelyFromOutside s → IsUnreached s → v ≡ Dropped cause.OneHopHost
 

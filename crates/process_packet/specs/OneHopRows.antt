@@ -1,6 +1,6 @@
 -- The rows of the decision table for packets on a path of one hop (draft-dekater-scion-dataplane, "One-Hop Path Type"). Such a
--- packet is never answered: its sender stands one hop away, and has no path back yet. What a row tests of the packet's way is
--- this router's own rule, but for the hop field and its MAC.
+-- packet is never answered by SCMP: its sender stands one hop away, and has no path back yet. What a row tests of the packet's way
+-- is this router's own rule, but for the hop field and its MAC.
 use Rattle.std.specs.Prelude.{ℕ, Bool, true, false, not, ◌&&◌, ◌||◌, ◌==◌, nat_lt, length, if◌then◌else◌, Option, Some, None, is_some}
 use Rattle.scion_packet.specs.Fault.{Fault}
 use Rattle.scion_packet.specs.Header.{header_fault_as, one_hop_path}
@@ -8,8 +8,11 @@ use Rattle.scion_packet.specs.OneHop.{OneHopPacket, one_hop_path_fault}
 use Rattle.scion_packet.specs.Packet.{path_bytes}
 use Rattle.process_packet.specs.declared.cause.Cause.{Cause}
 use Rattle.process_packet.specs.declared.cause.Cause.TheVariants as cause
+use Rattle.process_packet.specs.declared.decision.Problem.{Problem}
 use Rattle.process_packet.specs.declared.underlay.Underlay.{Underlay}
-use Rattle.process_packet.specs.Network.{is_local, is_neighbor, is_remote, neighbor, own_link, reached_at}
+use Rattle.process_packet.specs.HostPort.{delivered_at}
+use Rattle.process_packet.specs.LinkControl.{bfd_protocol, control_answer, is_answered}
+use Rattle.process_packet.specs.Network.{is_local, is_neighbor, is_remote, neighbor, own_link}
 use Rattle.process_packet.specs.OneHopState.{OneHopState, chained, completed, exit, first, is_ahead, is_authentic, is_expired, is_external}
 use Rattle.process_packet.specs.Rows.{cause_of}
 use Rattle.process_packet.specs.Underlay.{longest_datagram}
@@ -17,15 +20,20 @@ use Rattle.process_packet.specs.Underlay.{longest_datagram}
 -- what becomes of a packet; a packet that is sent stands as it leaves
 pub data OneHopVerdict : Type 0 where
   Sent : ℕ → Option Underlay → OneHopPacket → OneHopVerdict
+  Answered : Problem → OneHopVerdict
   Dropped : Cause → OneHopVerdict
 
 -- a row ends the decision, or lets the packet go on to the next row
 abbrev pub OneHopRow : Type 0
 OneHopRow = OneHopState → Option OneHopVerdict
 
+-- a row that ends the decision where its test applies
+abbrev pub ends_where : Bool → OneHopVerdict → Option OneHopVerdict
+ends_where true v = Some v
+ends_where false v = None
+
 abbrev pub dropped_where : Bool → Cause → Option OneHopVerdict
-dropped_where true why = Some (Dropped why)
-dropped_where false why = None
+dropped_where applies why = ends_where applies (Dropped why)
 
 -- ---- the datagram
 
@@ -64,9 +72,14 @@ are_ends_lawful s =
 abbrev pub wrong_ends : OneHopRow
 wrong_ends s = dropped_where (not (are_ends_lawful s)) cause.OneHopEnds
 
--- from outside it is of the link's own liveness protocol, BFD (RFC 5880), which isn't spoken here
+-- A control packet of BFD (RFC 5880) has no host here: it is answered, or dropped.
+abbrev pub controlled : OneHopState → OneHopVerdict
+controlled s =
+    if is_answered s.network s.link s.packet.header.flow_id s.packet.payload then Answered (control_answer s.link) else Dropped cause.OneHopHost
+
+-- from outside it is of BFD, the link's own protocol
 abbrev pub link_control : OneHopRow
-link_control s = dropped_where (is_external s && s.packet.header.next_header == 203) cause.OneHopHost
+link_control s = ends_where (is_external s && s.packet.header.next_header == bfd_protocol) (controlled s)
 
 -- ---- the first hop field
 
@@ -101,4 +114,4 @@ delivered p (Some at) = Sent 0 (Some at) p
 
 -- from outside: to its host or service, with the second hop field made
 abbrev pub complete : OneHopRow
-complete s = Some (delivered (completed s) (reached_at s.network s.packet.header.destination))
+complete s = Some (delivered (completed s) (delivered_at s.network s.packet.header s.packet.payload))

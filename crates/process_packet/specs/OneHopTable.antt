@@ -6,7 +6,7 @@ use Rattle.process_packet.specs.declared.decision.Decision.{Decision}
 use Rattle.process_packet.specs.declared.decision.Decision.TheVariants as decision
 use Rattle.process_packet.specs.declared.underlay.Underlay.{Underlay}
 use Rattle.process_packet.specs.Network.{Network}
-use Rattle.process_packet.specs.OneHopRows.{OneHopRow, OneHopVerdict, Sent, Dropped, too_long, faulty_header, faulty_path, wrong_payload_length, wrong_underlay_source, wrong_ends, link_control, wrong_exit, wrong_far_end, wrong_time, wrong_mac, leave, complete}
+use Rattle.process_packet.specs.OneHopRows.{OneHopRow, OneHopVerdict, Sent, Answered, Dropped, too_long, faulty_header, faulty_path, wrong_payload_length, wrong_underlay_source, wrong_ends, link_control, wrong_exit, wrong_far_end, wrong_time, wrong_mac, leave, complete}
 use Rattle.process_packet.specs.OneHopState.{OneHopState, one_hop_arrives}
 
 -- tried in order; the first that ends the decision decides
@@ -36,9 +36,11 @@ one_hop_verdict n link source moment bytes = one_hop_ends_as (tried (one_hop_arr
 
 abbrev pub one_hop_decision_of : OneHopVerdict → Decision
 one_hop_decision_of (Sent link to p) = decision.Send link to
+one_hop_decision_of (Answered problem) = decision.Answer problem
 one_hop_decision_of (Dropped c) = decision.Drop c
 
 -- the datagram as it leaves; one that isn't sent is as it came
 abbrev pub one_hop_moved_by : OneHopVerdict → List ℕ → List ℕ
 one_hop_moved_by (Sent link to p) bytes = one_hop_spelling p
+one_hop_moved_by (Answered problem) bytes = bytes
 one_hop_moved_by (Dropped c) bytes = bytes

@@ -5,11 +5,12 @@ use Rattle.path_fields.specs.Fields.{hop_field, info_field}
 use Rattle.scion_header.specs.declared.ends.HeaderEnds.{HeaderEnds}
 use Rattle.scion_packet.specs.Header.{front_end, header_end, header_of}
 use Rattle.scion_packet.specs.OneHop.{OneHopPacket, OneHopPath, one_hop_fault}
-use Rattle.process_packet.specs.declared.cause.Cause.{Cause}
 use Rattle.process_packet.specs.declared.one_hop_departure.OneHopDeparture.{OneHopDeparture}
 use Rattle.process_packet.specs.declared.one_hop_departure.OneHopDeparture.TheVariants.{Leaves, Enters}
 use Rattle.process_packet.specs.declared.one_hop_view.OneHopView.{OneHopView}
-use Rattle.process_packet.specs.OneHopRows.{OneHopVerdict, Sent, Dropped}
+use Rattle.process_packet.specs.declared.refusal.Refusal.{Refusal}
+use Rattle.process_packet.specs.declared.refusal.Refusal.TheVariants as refusal
+use Rattle.process_packet.specs.OneHopRows.{OneHopVerdict, Sent, Answered, Dropped}
 use Rattle.process_packet.specs.OneHopState.{OneHopState, first, info, with_identifier, with_second}
 
 -- The datagram has no fault, and these are the ends of its addresses and of its header.
@@ -30,9 +31,13 @@ pub record ShowsOneHop (v : OneHopView) (bytes : List ℕ) (s : OneHopState) : T
   pub info : info_field v.info ≡ info s
   pub first : hop_field v.first ≡ first s
 
--- a result tells what rows give: on Ok the packet goes on, else it is dropped
-abbrev pub TellsOneHop : {T : Type 0} → Option OneHopVerdict → Result T Cause → Type 0
-TellsOneHop given result = MatchResult result (λ _. given ≡ None) (λ why. given ≡ Some (Dropped why))
+abbrev pub one_hop_refused : Refusal → OneHopVerdict
+one_hop_refused (refusal.Answer p) = Answered p
+one_hop_refused (refusal.Drop c) = Dropped c
+
+-- a result tells what rows give: on Ok the packet goes on, else it is answered or dropped
+abbrev pub TellsOneHop : {T : Type 0} → Option OneHopVerdict → Result T Refusal → Type 0
+TellsOneHop given result = MatchResult result (λ _. given ≡ None) (λ r. given ≡ Some (one_hop_refused r))
 
 -- ---- how it leaves
 
@@ -44,6 +49,6 @@ abbrev pub sent_so : OneHopDeparture → OneHopPacket → OneHopVerdict
 sent_so (Leaves link segment_id) p = Sent link None (record p { path = with_identifier segment_id p.path })
 sent_so (Enters to second) p = Sent 0 (Some to) (record p { path = with_second (hop_field second) p.path })
 
--- a result tells how the packet is sent, or why it is dropped
-abbrev pub TellsOneHopDeparture : Option OneHopVerdict → OneHopPacket → Result OneHopDeparture Cause → Type 0
-TellsOneHopDeparture given p result = MatchResult result (λ d. given ≡ Some (sent_so d p)) (λ why. given ≡ Some (Dropped why))
+-- a result tells how the packet is sent, or the refusal
+abbrev pub TellsOneHopDeparture : Option OneHopVerdict → OneHopPacket → Result OneHopDeparture Refusal → Type 0
+TellsOneHopDeparture given p result = MatchResult result (λ d. given ≡ Some (sent_so d p)) (λ r. given ≡ Some (one_hop_refused r))

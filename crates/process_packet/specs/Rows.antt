@@ -11,8 +11,9 @@ use Rattle.process_packet.specs.declared.cause.Cause.{Cause}
 use Rattle.process_packet.specs.declared.cause.Cause.TheVariants as cause
 use Rattle.process_packet.specs.declared.decision.Problem.{Problem}
 use Rattle.process_packet.specs.declared.underlay.Underlay.{Underlay}
+use Rattle.process_packet.specs.HostPort.{delivered_at}
 use Rattle.process_packet.specs.Neighbours.{sibling_at}
-use Rattle.process_packet.specs.Network.{Network, own_link, sibling, interface_kind, is_local, is_owner, is_remote, reached_at}
+use Rattle.process_packet.specs.Network.{Network, own_link, sibling, interface_kind, is_local, is_owner, is_remote}
 use Rattle.process_packet.specs.PacketState.{PacketState, packet, arrival_kind, is_external, is_expired, is_authentic, is_along, ingress, egress, entry, ingress_alert, egress_alert, is_first_of_path, is_last_of_segment, is_last_of_path, is_followed, next_place, hop_pointer, info_pointer, chained, turned_back, changed_over, with_place}
 use Rattle.process_packet.specs.Request.{is_request}
 use Rattle.process_packet.specs.Underlay.{longest_datagram}
@@ -148,7 +149,7 @@ sent_to p None = unreachable p.header.destination
 sent_to p (Some at) = Sent 0 (Some at) p
 
 abbrev pub delivered : Network → Packet → Verdict
-delivered n p = sent_to p (reached_at n p.header.destination)
+delivered n p = sent_to p (delivered_at n p.header p.payload)
 
 -- From outside and for this AS: the packet goes to its host, or its sender is told that the host can't be reached.
 abbrev pub delivery : Row

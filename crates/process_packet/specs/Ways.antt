@@ -14,7 +14,7 @@ use Rattle.process_packet.specs.PacketState.{PacketState, arrives, egress, is_la
 -- It is for this AS, and goes to its host as it stands.
 pub record IsDeliveredSo (s : PacketState) (out : ℕ) (to : Option Underlay) (p : Packet) : Type 0 where
   pub for_us : is_for_us s ≡ true
-  pub host : IsSentToHost s.network s.header.destination out to
+  pub host : IsSentToHost s.network s.header s.payload out to
   pub packet : packet (turned s) ≡ p
 
 -- It leaves by the egress interface of the hop at which it stands: a link of this router, where the path goes on.

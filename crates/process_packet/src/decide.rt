@@ -93,7 +93,7 @@ impl PacketView {
             → IsAlike s.path.place.segment (path_of path.now).segments s.path.segments
             → TellsVerdict (ends_as s (row.delivery ∷ row.switch ∷ row.unknown_egress ∷ row.wrong_pair ∷ row.egress_request ∷ row.leave ∷ [])) p result }
     {
-        if let Some(to) = self.delivery(config, bytes)? {
+        if let Some(to) = self.delivery(config, bytes, payload)? {
             return Ok(self.unchanged(0, Some(to)));
         }
         self.switch(config, path, meta)?;

@@ -3,15 +3,17 @@
 use crate::cause::Cause;
 use crate::underlay::Underlay;
 
-/// What the sender of a packet is told by SCMP (SCMP specification, "Message Format").
+/// What a packet is answered for: what its sender is told by SCMP (SCMP specification, "Message Format"), or by BFD
+/// (RFC 5880).
 #[derive(Clone, Copy, PartialEq, Eq)]
 pub struct Problem {
-    /// The type: 1 destination unreachable, 4 parameter problem, 131 traceroute reply.
+    /// The type of the SCMP message: 1 destination unreachable, 4 parameter problem, 131 traceroute reply. 203, the
+    /// protocol number of BFD, for a BFD control packet.
     pub kind: u8,
     /// The code, whose meaning depends on the type.
     pub code: u8,
     /// Of a parameter problem, where the wrong field begins, in bytes from the datagram's start; of a
-    /// traceroute reply, the interface; else 0.
+    /// traceroute reply, the interface; of a BFD control packet, the link by which the packet came; else 0.
     pub pointer: u16,
 }
 

@@ -3,7 +3,8 @@
 ghost use Rattle.std.specs.Prelude.{◌≡◌, ◌&&◌, Some, None, MatchOption, MatchResult, ◌≤◌, length};
 ghost use Rattle.scion_packet.specs.Header.{header_of, front_end};
 ghost use Rattle.scion_packet.specs.Packet.{Packet};
-ghost use Rattle.process_packet.specs.Network.{is_local, network, reached_at};
+ghost use Rattle.process_packet.specs.HostPort.{delivered_at};
+ghost use Rattle.process_packet.specs.Network.{is_local, network};
 ghost use Rattle.process_packet.specs.Rows as row;
 ghost use Rattle.process_packet.specs.Rows.{delivered, unreachable};
 ghost use Rattle.process_packet.specs.PacketView.{Shows, refused};
@@ -11,29 +12,31 @@ ghost use Rattle.process_packet.specs.PacketState.{PacketState, is_external, pac
 
 use crate::config::Config;
 use crate::decision::Problem;
+use crate::host_port::listening_port;
 use crate::packet_view::PacketView;
 use crate::refusal::{Refusal, parameter_problem};
 use crate::scmp::{DESTINATION_UNREACHABLE, NO_ROUTE, UNKNOWN_ADDRESS_FORMAT};
 use crate::underlay::{Ip, Underlay};
 use field_rows::u16_at;
-use scion_header::{Host, destination_address};
+use scion_header::{Host, destination_address, next_header};
 
-/// Where the destination of a datagram is reached in this AS: an IP host at the end hosts' port, a service at its
-/// own address. There is nowhere for a service that the AS doesn't have, and for other kinds of hosts.
+/// Where the destination of a datagram is reached in this AS: an IP host at the port where it listens for what comes
+/// after the header, a service at its own address. There is nowhere for a service that the AS doesn't have, and for
+/// other kinds of hosts.
 #[inline(always)]
-pub(crate) fn host_at(config: &Config, bytes: &[u8]) -> Option<Underlay>
+pub(crate) fn host_at(config: &Config, bytes: &[u8], payload: &[u8]) -> Option<Underlay>
     requires addresses { front_end bytes.now ≤ length bytes.now }
-    ensures { result ≡ reached_at (network config.now) (header_of bytes.now).destination }
+    ensures { result ≡ delivered_at (network config.now) (header_of bytes.now) payload.now }
 {
     let destination = destination_address(bytes);
     match (destination.kind, destination.host) {
         (0, Host::Four(address)) => Some(Underlay {
             ip: Ip::V4(address),
-            port: config.host_port,
+            port: listening_port(config, next_header(bytes), payload),
         }),
         (0, Host::Sixteen(address)) => Some(Underlay {
             ip: Ip::V6(address),
-            port: config.host_port,
+            port: listening_port(config, next_header(bytes), payload),
         }),
         (1, Host::Four(service)) => config.service_at(u16_at(&service, 0)),
         _ => None,
@@ -57,12 +60,12 @@ fn unreachable(bytes: &[u8]) -> Refusal
 }
 
 /// Where a packet is delivered, or what its sender is told.
-fn deliver(config: &Config, bytes: &[u8]) -> Result<Underlay, Refusal>
+fn deliver(config: &Config, bytes: &[u8], payload: &[u8]) -> Result<Underlay, Refusal>
     requires addresses { front_end bytes.now ≤ length bytes.now }
     ensures { (s : PacketState) (p : Packet) → network config.now ≡ s.network → header_of bytes.now ≡ s.header → p.header ≡ s.header
-        → MatchResult result (λ to. delivered s.network p ≡ row.Sent 0 (Some to) p) (λ r. delivered s.network p ≡ refused r) }
+        → payload.now ≡ p.payload → MatchResult result (λ to. delivered s.network p ≡ row.Sent 0 (Some to) p) (λ r. delivered s.network p ≡ refused r) }
 {
-    match host_at(config, bytes) {
+    match host_at(config, bytes, payload) {
         Some(to) => Ok(to),
         None => Err(unreachable(bytes)),
     }
@@ -83,16 +86,17 @@ impl PacketView {
         &self,
         config: &Config,
         bytes: &[u8],
+        payload: &[u8],
     ) -> Result<Option<Underlay>, Refusal>
         requires addresses { front_end bytes.now ≤ length bytes.now }
-        ensures { (s : PacketState) → Shows self.now s → network config.now ≡ s.network → header_of bytes.now ≡ s.header
+        ensures { (s : PacketState) → Shows self.now s → network config.now ≡ s.network → header_of bytes.now ≡ s.header → payload.now ≡ s.payload
             → MatchResult result (λ o. MatchOption o (row.delivery s ≡ row.GoesOn s) (λ to. row.delivery s ≡ row.Ends (row.Sent 0 (Some to) (packet s))))
             (λ r. row.delivery s ≡ row.Ends (refused r)) }
     {
         if !self.is_for_here(config, bytes) {
             return Ok(None);
         }
-        match deliver(config, bytes) {
+        match deliver(config, bytes, payload) {
             Ok(to) => Ok(Some(to)),
             Err(refusal) => Err(refusal),
         }

@@ -1,11 +1,14 @@
 //! What the decision table says as a whole: nothing here runs.
 
+ghost use Rattle.process_packet.specs.Answerable.{AnswersAreSound};
 ghost use Rattle.process_packet.specs.Chaining.{NoHopIsSplicedIn};
 ghost use Rattle.process_packet.specs.Hosts.{DeliveredToItsHost, HostsAreReached};
-ghost use Rattle.process_packet.specs.Laws.{AnswersAreSound, NextPlaceIsNext, NothingElseChanges, OnlyAuthorised, OnlyLawfulWays};
+ghost use Rattle.process_packet.specs.Laws.{NextPlaceIsNext, NothingElseChanges, OnlyAuthorised, OnlyLawfulWays};
+ghost use Rattle.process_packet.specs.OneHopAnswers.{ControlIsAnswered};
 ghost use Rattle.process_packet.specs.OneHopLaws.{DecidedByKind, OneHopsDifferInPlace, OneHopsEnter, OneHopsKeepTheRest, OneHopsLeave};
 ghost use Rattle.process_packet.specs.OneHopRefusals.{OneHopsAreRefusedSo};
 ghost use Rattle.process_packet.specs.Pointers.{PointersAreRight};
+ghost use Rattle.process_packet.specs.PortLaws.{HostsListenSo};
 ghost use Rattle.process_packet.specs.Problems.{ProblemsAreLawful};
 ghost use Rattle.process_packet.specs.Refusals.{RefusedAreTold};
 ghost use Rattle.process_packet.specs.Shown.{AllAuthorisedAreSent};
@@ -13,6 +16,8 @@ ghost use Rattle.process_packet.specs.StateWords.{WordsSayFields};
 ghost use Rattle.process_packet.specs.ValleyFree.{WaysAreValleyFree};
 ghost use Rattle.process_packet.specs.Ways.{SentByThreeWays};
 ghost use Rattle.process_packet.specs.WhatLeaves.{WhatLeavesIsLawful};
+
+use host_ports::udp_gives_its_destination;
 
 /// A packet is sent only if it has no fault, no more bytes than any link carries and the payload length that
 /// it tells; the hop field at its cursor was within its time, named the link by which the packet came from
@@ -43,7 +48,9 @@ pub fn next_place_is_next()
     ensures { NextPlaceIsNext }
 {}
 
-/// Only a datagram without a fault of its header and its path is answered.
+/// Only a datagram without a fault of its header and its path is answered: one on a SCION path by SCMP; and one on a path
+/// of one hop by BFD (kind 203), if it came by a link to a neighbour over which the configuration has BFD answered, is no
+/// answer itself, and passes the tests on reception.
 pub fn answers_are_sound()
     ensures { AnswersAreSound }
 {}
@@ -72,12 +79,12 @@ pub fn sent_by_three_ways()
 {}
 
 /// What comes from outside, is for this AS and is sent goes to its own destination: on link 0, to the host's
-/// address and the port where hosts listen, or to the address of the service.
+/// address and the port where the host listens for it, or to the address of the service.
 pub fn delivers_to_its_host()
     ensures { DeliveredToItsHost }
 {}
 
-/// A packet that is delivered goes to its destination's host, at the port where hosts listen, or to the
+/// A packet that is delivered goes to its destination's host, at the port where the host listens for it, or to the
 /// address of the service.
 pub fn hosts_are_reached()
     ensures { HostsAreReached }
@@ -166,3 +173,20 @@ pub fn one_hops_keep_the_rest()
 pub fn one_hops_are_refused_so()
     ensures { OneHopsAreRefusedSo }
 {}
+
+/// A BFD control packet that came from the router at the other end of its link is answered, if the configuration has that,
+/// the packet is no answer itself and it passes the tests on reception; and no other packet on a path of one hop is
+/// answered, nor any other datagram by BFD.
+pub fn control_is_answered()
+    ensures { ControlIsAnswered }
+{}
+
+/// The port at which a packet for an IPv4 or IPv6 host of this AS is delivered: the one of the application for which it is
+/// (`host_ports::destination_port`), if the configuration has a range of such ports and this one lies in it, both ends
+/// included; else that of the dispatcher. So UDP for a port in the range goes to that port (RFC 768), and where the
+/// configuration has no range, every packet to the dispatcher.
+pub fn hosts_listen_so()
+    ensures { HostsListenSo }
+{
+    udp_gives_its_destination();
+}

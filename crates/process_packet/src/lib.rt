@@ -13,8 +13,10 @@ mod delivery;
 mod departure;
 mod dispatch;
 mod exit;
+mod host_port;
 mod laws;
 mod leaving;
+mod link_control;
 mod lookup;
 mod neighbours;
 mod one_hop;
@@ -36,14 +38,16 @@ pub use cause::{CAUSES, Cause};
 pub use config::Config;
 pub use decision::{Decision, Problem};
 pub use dispatch::{is_one_hop, route_in_place};
+pub use host_port::host_port_of;
 pub use laws::{
-    answers_are_sound, authorised_is_sent, decided_by_kind, delivers_to_its_host,
-    hosts_are_reached, next_place_is_next, no_hop_is_spliced_in, nothing_else_changes,
-    one_hops_are_refused_so, one_hops_differ_in_place, one_hops_enter, one_hops_keep_the_rest,
-    one_hops_leave, only_authorised, only_lawful_ways, pointers_are_right, problems_are_lawful,
-    refused_are_told, sent_by_three_ways, ways_are_valley_free, what_leaves_is_lawful,
-    words_say_fields,
+    answers_are_sound, authorised_is_sent, control_is_answered, decided_by_kind,
+    delivers_to_its_host, hosts_are_reached, hosts_listen_so, next_place_is_next,
+    no_hop_is_spliced_in, nothing_else_changes, one_hops_are_refused_so, one_hops_differ_in_place,
+    one_hops_enter, one_hops_keep_the_rest, one_hops_leave, only_authorised, only_lawful_ways,
+    pointers_are_right, problems_are_lawful, refused_are_told, sent_by_three_ways,
+    ways_are_valley_free, what_leaves_is_lawful, words_say_fields,
 };
+pub use link_control::{BFD, BFD_ANSWER_FLOW};
 pub use neighbours::{Bands, Link, Service, Sibling};
 pub use parsed_headers::LONGEST_DATAGRAM;
 pub use port_range::PortRange;

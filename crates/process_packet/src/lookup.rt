@@ -4,6 +4,7 @@ ghost use Rattle.std.specs.Prelude.{◌≡◌, ◌==◌, ◌&&◌, ◌||◌, Non
 ghost use Rattle.std.specs.List.{list_any};
 ghost use Rattle.process_packet.specs.Neighbours.{are_two, is_banded, is_neighbored, link_bands, link_kind, service_at};
 ghost use Rattle.process_packet.specs.Exit.{exit_of};
+ghost use Rattle.process_packet.specs.LinkControl.{answers_bfd};
 ghost use Rattle.process_packet.specs.Network.{has_link, is_local, is_neighbor, is_owner, is_remote, neighbor, network, own_link, service, sibling, takes_one_hop};
 ghost use Rattle.scion_packet.specs.Header.{HostAddress, front_end, header_of};
 
@@ -123,6 +124,16 @@ impl Config {
         match self.own_link(link) {
             Some(link) => link.neighbor,
             None => None,
+        }
+    }
+
+    /// Whether BFD control packets that come by this router's link are answered.
+    pub(crate) fn answers_bfd(&self, link: u16) -> bool
+        ensures { result ≡ answers_bfd (own_link (network self.now) link) }
+    {
+        match self.own_link(link) {
+            Some(link) => link.bfd,
+            None => false,
         }
     }
 

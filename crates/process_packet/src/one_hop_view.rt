@@ -7,42 +7,40 @@ ghost use Rattle.path_fields.specs.Fields.{hop_field, info_field};
 ghost use Rattle.scion_packet.specs.Header.{front_end, header_end, header_fault_as, one_hop_path};
 ghost use Rattle.process_packet.specs.Network.{Network, network};
 ghost use Rattle.process_packet.specs.OneHopRows as row;
-ghost use Rattle.process_packet.specs.OneHopRows.{are_ends_lawful, begins_here};
+ghost use Rattle.process_packet.specs.OneHopRows.{are_ends_lawful, begins_here, controlled};
 ghost use Rattle.process_packet.specs.OneHopState.{OneHopState, hop_from, is_ahead, is_external, one_hop_arrives};
 ghost use Rattle.process_packet.specs.OneHopTable.{tried};
-ghost use Rattle.process_packet.specs.OneHopView.{AreOneHopEnds, ShowsOneHop, TellsOneHop, TellsOneHopDeparture};
+ghost use Rattle.process_packet.specs.OneHopView.{AreOneHopEnds, ShowsOneHop, TellsOneHop, TellsOneHopDeparture, one_hop_refused};
 ghost use Rattle.process_packet.specs.declared.underlay.Underlay.{Underlay as AnUnderlay};
 
 use crate::cause::Cause;
 use crate::config::Config;
 use crate::delivery::host_at;
 use crate::dispatch::ONE_HOP_PATH;
+use crate::link_control::{BFD, is_answered};
 use crate::one_hop_departure::OneHopDeparture;
 use crate::parsed_headers::LONGEST_DATAGRAM;
-use crate::refusal::{header_cause, path_cause};
+use crate::refusal::{Refusal, control_answer, header_cause, path_cause};
 use crate::underlay::Underlay;
 use hop_check::{chain, expired, hop_mac, verify};
 use path_fields::{Hop, Info, check_one_hop, one_hop_first, one_hop_info};
-use scion_header::{HeaderEnds, check_header_as, next_header, payload_length};
-
-/// The protocol number of BFD messages (RFC 5880) behind a SCION header.
-const BFD: u8 = 203;
+use scion_header::{HeaderEnds, check_header_as, flow_id, next_header, payload_length};
 
 /// The most seconds by which the timestamp of a segment may be ahead of the moment.
 const MOST_AHEAD: u128 = 300;
 
 /// It has more bytes than a datagram may have.
-pub(crate) fn too_long(bytes: &[u8]) -> Result<(), Cause>
+pub(crate) fn too_long(bytes: &[u8]) -> Result<(), Refusal>
     ensures { (s : OneHopState) → bytes.now ≡ s.bytes → TellsOneHop (row.too_long s) result }
 {
     if bytes.len() > LONGEST_DATAGRAM {
-        return Err(Cause::TooLong);
+        return Err(Refusal::Drop(Cause::TooLong));
     }
     Ok(())
 }
 
 /// Its header has a fault; else where the addresses and the header end.
-pub(crate) fn faulty_header(bytes: &[u8]) -> Result<HeaderEnds, Cause>
+pub(crate) fn faulty_header(bytes: &[u8]) -> Result<HeaderEnds, Refusal>
     ensures addresses { IfOk result (λ ends. ends.addresses ≡ front_end bytes.now) }
     ensures header { IfOk result (λ ends. ends.header ≡ header_end bytes.now) }
     ensures covers { IfOk result (λ ends. ends.addresses ≤ ends.header) }
@@ -53,12 +51,12 @@ pub(crate) fn faulty_header(bytes: &[u8]) -> Result<HeaderEnds, Cause>
 {
     match check_header_as(ONE_HOP_PATH, bytes) {
         Ok(ends) => Ok(ends),
-        Err(fault) => Err(header_cause(fault)),
+        Err(fault) => Err(Refusal::Drop(header_cause(fault))),
     }
 }
 
 /// Its path, after a sound header, has a fault.
-pub(crate) fn faulty_path(ends: HeaderEnds, bytes: &[u8]) -> Result<HeaderEnds, Cause>
+pub(crate) fn faulty_path(ends: HeaderEnds, bytes: &[u8]) -> Result<HeaderEnds, Refusal>
     requires addresses { ends.addresses ≡ front_end bytes.now }
     requires header { ends.header ≡ header_end bytes.now }
     requires covers { ends.addresses ≤ ends.header }
@@ -70,7 +68,7 @@ pub(crate) fn faulty_path(ends: HeaderEnds, bytes: &[u8]) -> Result<HeaderEnds, 
 {
     match check_one_hop(&bytes[ends.addresses..ends.header]) {
         Ok(()) => Ok(ends),
-        Err(fault) => Err(path_cause(fault)),
+        Err(fault) => Err(Refusal::Drop(path_cause(fault))),
     }
 }
 
@@ -133,12 +131,12 @@ impl OneHopView {
     }
 
     /// It has more or fewer bytes than its header says.
-    pub(crate) fn wrong_payload_length(&self, bytes: &[u8]) -> Result<(), Cause>
+    pub(crate) fn wrong_payload_length(&self, bytes: &[u8]) -> Result<(), Refusal>
         requires addresses { front_end bytes.now ≤ length bytes.now }
         ensures { (s : OneHopState) → ShowsOneHop self.now bytes.now s → TellsOneHop (row.wrong_payload_length s) result }
     {
         if usize::from(payload_length(bytes)) != self.payload {
-            return Err(Cause::Header);
+            return Err(Refusal::Drop(Cause::Header));
         }
         Ok(())
     }
@@ -148,12 +146,12 @@ impl OneHopView {
         &self,
         config: &Config,
         source: &Underlay,
-    ) -> Result<(), Cause>
+    ) -> Result<(), Refusal>
         ensures { (bytes : List ℕ) (s : OneHopState) → ShowsOneHop self.now bytes s → network config.now ≡ s.network → source.now ≡ s.source
             → TellsOneHop (row.wrong_underlay_source s) result }
     {
         if self.is_external() && !config.is_remote(self.link, source) {
-            return Err(Cause::UnderlaySource);
+            return Err(Refusal::Drop(Cause::UnderlaySource));
         }
         Ok(())
     }
@@ -172,23 +170,42 @@ impl OneHopView {
 
     /// It came from outside for another AS, or from another one than the AS at the link's other end; or from inside
     /// with a source in another AS.
-    pub(crate) fn wrong_ends(&self, config: &Config, bytes: &[u8]) -> Result<(), Cause>
+    pub(crate) fn wrong_ends(&self, config: &Config, bytes: &[u8]) -> Result<(), Refusal>
         requires addresses { front_end bytes.now ≤ length bytes.now }
         ensures { (s : OneHopState) → ShowsOneHop self.now bytes.now s → network config.now ≡ s.network → TellsOneHop (row.wrong_ends s) result }
     {
         if !self.are_ends_lawful(config, bytes) {
-            return Err(Cause::OneHopEnds);
+            return Err(Refusal::Drop(Cause::OneHopEnds));
         }
         Ok(())
     }
 
-    /// It came from outside, and is of the link's own liveness protocol.
-    pub(crate) fn link_control(&self, bytes: &[u8]) -> Result<(), Cause>
+    /// What becomes of a control packet of BFD: it is answered, or has no host here.
+    fn controlled(&self, config: &Config, bytes: &[u8], payload: &[u8]) -> Refusal
         requires addresses { front_end bytes.now ≤ length bytes.now }
-        ensures { (s : OneHopState) → ShowsOneHop self.now bytes.now s → TellsOneHop (row.link_control s) result }
+        ensures { (s : OneHopState) → ShowsOneHop self.now bytes.now s → network config.now ≡ s.network → payload.now ≡ s.packet.payload
+            → one_hop_refused result ≡ controlled s }
+    {
+        if is_answered(config, self.link, flow_id(bytes), payload) {
+            control_answer(self.link)
+        } else {
+            Refusal::Drop(Cause::OneHopHost)
+        }
+    }
+
+    /// It came from outside, and is of BFD, the link's own protocol.
+    pub(crate) fn link_control(
+        &self,
+        config: &Config,
+        bytes: &[u8],
+        payload: &[u8],
+    ) -> Result<(), Refusal>
+        requires addresses { front_end bytes.now ≤ length bytes.now }
+        ensures { (s : OneHopState) → ShowsOneHop self.now bytes.now s → network config.now ≡ s.network → payload.now ≡ s.packet.payload
+            → TellsOneHop (row.link_control s) result }
     {
         if self.is_external() && next_header(bytes) == BFD {
-            return Err(Cause::OneHopHost);
+            return Err(self.controlled(config, bytes, payload));
         }
         Ok(())
     }
@@ -203,24 +220,24 @@ impl OneHopView {
     }
 
     /// It came from inside, and doesn't begin here.
-    pub(crate) fn wrong_exit(&self, config: &Config) -> Result<(), Cause>
+    pub(crate) fn wrong_exit(&self, config: &Config) -> Result<(), Refusal>
         ensures { (bytes : List ℕ) (s : OneHopState) → ShowsOneHop self.now bytes s → network config.now ≡ s.network → TellsOneHop (row.wrong_exit s) result }
     {
         if !self.is_external() && !self.begins_here(config) {
-            return Err(Cause::OneHopField);
+            return Err(Refusal::Drop(Cause::OneHopField));
         }
         Ok(())
     }
 
     /// It came from inside, and isn't for the AS at the other end of the link by which it leaves.
-    pub(crate) fn wrong_far_end(&self, config: &Config, bytes: &[u8]) -> Result<(), Cause>
+    pub(crate) fn wrong_far_end(&self, config: &Config, bytes: &[u8]) -> Result<(), Refusal>
         requires addresses { front_end bytes.now ≤ length bytes.now }
         ensures { (s : OneHopState) → ShowsOneHop self.now bytes.now s → network config.now ≡ s.network → TellsOneHop (row.wrong_far_end s) result }
     {
         if !self.is_external()
             && !config.is_destination_neighbor(self.first.construction_egress, bytes)
         {
-            return Err(Cause::OneHopEnds);
+            return Err(Refusal::Drop(Cause::OneHopEnds));
         }
         Ok(())
     }
@@ -234,30 +251,35 @@ impl OneHopView {
     }
 
     /// Its time is over, or hasn't come.
-    pub(crate) fn wrong_time(&self) -> Result<(), Cause>
+    pub(crate) fn wrong_time(&self) -> Result<(), Refusal>
         ensures { (bytes : List ℕ) (s : OneHopState) → ShowsOneHop self.now bytes s → TellsOneHop (row.wrong_time s) result }
     {
         if expired(&self.info, &self.first, self.moment) || self.is_ahead() {
-            return Err(Cause::OneHopField);
+            return Err(Refusal::Drop(Cause::OneHopField));
         }
         Ok(())
     }
 
     /// It came from inside without the MAC that the AS's key gives for its first hop field.
-    pub(crate) fn wrong_mac(&self, config: &Config) -> Result<(), Cause>
+    pub(crate) fn wrong_mac(&self, config: &Config) -> Result<(), Refusal>
         ensures { (bytes : List ℕ) (s : OneHopState) → ShowsOneHop self.now bytes s → network config.now ≡ s.network → TellsOneHop (row.wrong_mac s) result }
     {
         if !self.is_external() && !verify(&config.key, &self.info, &self.first) {
-            return Err(Cause::OneHopField);
+            return Err(Refusal::Drop(Cause::OneHopField));
         }
         Ok(())
     }
 
     /// How it leaves: from inside by its link, with the identifier chained; from outside to its host or service, if
     /// that is there, with the second hop field made.
-    pub(crate) fn leave(&self, config: &Config, bytes: &[u8]) -> Result<OneHopDeparture, Cause>
+    pub(crate) fn leave(
+        &self,
+        config: &Config,
+        bytes: &[u8],
+        payload: &[u8],
+    ) -> Result<OneHopDeparture, Refusal>
         requires addresses { front_end bytes.now ≤ length bytes.now }
-        ensures { (s : OneHopState) → ShowsOneHop self.now bytes.now s → network config.now ≡ s.network
+        ensures { (s : OneHopState) → ShowsOneHop self.now bytes.now s → network config.now ≡ s.network → payload.now ≡ s.packet.payload
             → TellsOneHopDeparture (tried s (row.leave ∷ row.complete ∷ [])) s.packet result }
     {
         if !self.is_external() {
@@ -266,12 +288,12 @@ impl OneHopView {
                 segment_id: chain(self.info.segment_id, &self.first.mac),
             });
         }
-        match host_at(config, bytes) {
+        match host_at(config, bytes, payload) {
             Some(to) => Ok(OneHopDeparture::Enters {
                 to,
                 second: second_hop(config, &self.info, self.link, self.first.expiry),
             }),
-            None => Err(Cause::OneHopHost),
+            None => Err(Refusal::Drop(Cause::OneHopHost)),
         }
     }
 }

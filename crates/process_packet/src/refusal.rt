@@ -7,6 +7,7 @@ ghost use Rattle.scion_header.specs.Fault as header;
 
 use crate::cause::Cause;
 use crate::decision::{Decision, Problem};
+use crate::link_control::BFD;
 use crate::scmp::{PARAMETER_PROBLEM, TRACEROUTE_REPLY};
 use path_fields::PathFault;
 use scion_header::HeaderFault;
@@ -14,7 +15,7 @@ use scion_header::HeaderFault;
 /// How a row ends the decision if the packet isn't sent.
 #[derive(Clone, Copy)]
 pub(crate) enum Refusal {
-    /// The sender is told.
+    /// The packet is answered.
     Answer(Problem),
     /// The packet is dropped.
     Drop(Cause),
@@ -23,11 +24,14 @@ pub(crate) enum Refusal {
 impl Refusal {
     ghost use Rattle.std.specs.Prelude.{◌≡◌};
     ghost use Rattle.process_packet.specs.Decide.{decision_of};
+    ghost use Rattle.process_packet.specs.OneHopTable.{one_hop_decision_of};
+    ghost use Rattle.process_packet.specs.OneHopView.{one_hop_refused};
     ghost use Rattle.process_packet.specs.PacketView.{refused};
 
-    /// The decision that it is.
+    /// The decision that it is, on a SCION path or on a path of one hop.
     pub(crate) fn decision(self) -> Decision
-        ensures { result ≡ decision_of (refused self) }
+        ensures scion { result ≡ decision_of (refused self) }
+        ensures one_hop { result ≡ one_hop_decision_of (one_hop_refused self) }
     {
         match self {
             Refusal::Answer(problem) => Decision::Answer(problem),
@@ -80,5 +84,16 @@ pub(crate) fn traceroute_reply(interface: u16) -> Refusal
         kind: TRACEROUTE_REPLY,
         code: 0,
         pointer: interface,
+    })
+}
+
+/// The answer to a BFD control packet that came by the link.
+pub(crate) fn control_answer(link: u16) -> Refusal
+    ensures { result ≡ Refusal.Answer (record { kind = 203; code = 0; pointer = link }) }
+{
+    Refusal::Answer(Problem {
+        kind: BFD,
+        code: 0,
+        pointer: link,
     })
 }

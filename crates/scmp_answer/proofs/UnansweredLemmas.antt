@@ -14,7 +14,7 @@ use Rattle.process_packet.specs.declared.cause.Cause.TheVariants.{NoAnswer, NoWa
 use Rattle.process_packet.specs.declared.decision.Decision.TheVariants as decision
 use Rattle.process_packet.specs.declared.decision.Problem.{Problem}
 use Rattle.process_packet.specs.declared.underlay.Underlay.{Underlay}
-use Rattle.process_packet.proofs.KindLemmas.{answered_as_scion}
+use Rattle.process_packet.proofs.ControlLemmas.{answered_as_scion}
 use Rattle.process_packet.specs.Decide.{decide, decision_of, verdict}
 use Rattle.process_packet.specs.Network.{Network}
 use Rattle.process_packet.specs.PacketState.{PacketState}
@@ -99,8 +99,10 @@ asked_for q (IsProblem.reply_at_exit u kind code asked) reply = asked.request
 no_reply_by : (b : Bool) (n : Network) (link : ℕ) (source : Underlay) (moment : ℕ) (bytes : List ℕ) (q : Problem) → decide n link source moment bytes ≡ decision.Answer q
     → is_request (packet_of bytes).header.next_header (packet_of bytes).payload ≡ false → (q.kind == 131) ≡ b → b ≡ false
 no_reply_by true n link source moment bytes q says quiet is =
-    let lawful = problems_lawful n link source moment bytes q (told (verdict n link source moment bytes) q (answered_as_scion n link source moment bytes q says)) in
-    let asked : is_request (packet_of bytes).header.next_header (packet_of bytes).payload ≡ true = asked_for q lawful (eqb-true q.kind 131 is) in
+    let kind : q.kind ≡ 131 = eqb-true q.kind 131 is in
+    let as-scion = answered_as_scion n link source moment bytes q says (λ bfd. absurd (omega (arith, kind, bfd))) in
+    let lawful = problems_lawful n link source moment bytes q (told (verdict n link source moment bytes) q as-scion) in
+    let asked : is_request (packet_of bytes).header.next_header (packet_of bytes).payload ≡ true = asked_for q lawful kind in
     let never : true ≡ false = sym asked ∙ quiet in never
 no_reply_by false n link source moment bytes q says quiet is = refl
 

@@ -10,7 +10,7 @@ pub returns-in-Err-clause-decision : goal.returns-in-Err-clause-decision
 returns-in-Err-clause-decision c =
     let n = network c.args.config.now in
     let verdict = datagram_refused n c.args.link c.args.source.now c.args.now c.args.bytes.now _ (c.in-Err.ensures.says (arrives n c.args.link c.args.source.now c.args.now c.args.bytes.now) refl) in
-    c.decision.ensures ∙ sym (ap decision_of verdict)
+    c.decision.ensures.scion ∙ sym (ap decision_of verdict)
 
 pub returns-in-Err-clause-bytes : goal.returns-in-Err-clause-bytes
 returns-in-Err-clause-bytes c =
@@ -50,7 +50,7 @@ returns-in-Err-depart-clause-decision c =
     let n = network c.args.config.now in
     let s = arrives n c.args.link c.args.source.now c.args.now c.args.bytes.now in
     let verdict = datagram_passed n c.args.link c.args.source.now c.args.now c.args.bytes.now (c.in-Ok.ensures.says s refl) in
-    c.decision-in-Err-depart.ensures ∙ sym (ap decision_of (verdict ∙ c.in-Err-depart.ensures))
+    c.decision-in-Err-depart.ensures.scion ∙ sym (ap decision_of (verdict ∙ c.in-Err-depart.ensures))
 
 pub returns-in-Err-depart-clause-bytes : goal.returns-in-Err-depart-clause-bytes
 returns-in-Err-depart-clause-bytes c =

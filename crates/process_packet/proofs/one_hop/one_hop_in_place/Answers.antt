@@ -4,20 +4,22 @@ use Rattle.process_packet.specs.Network.{network}
 use Rattle.process_packet.specs.OneHopRows.{OneHopVerdict}
 use Rattle.process_packet.specs.OneHopState.{one_hop_arrives}
 use Rattle.process_packet.specs.OneHopTable.{one_hop_decision_of, one_hop_moved_by}
-use Rattle.process_packet.proofs.OneHopLemmas.{leaves_so, path_is_32, read_passed, read_refused}
+use Rattle.process_packet.proofs.OneHopLemmas.{leaves_so, path_is_32, read_passed, read_refused, refused_keeps}
 use Rattle.process_packet.proofs.one_hop.one_hop_in_place.Goals as goal
 
 pub returns-in-Err-clause-decision : goal.returns-in-Err-clause-decision
 returns-in-Err-clause-decision c =
     let n = network c.args.config.now in
     let bytes = c.args.bytes.now in
-    sym (ap one_hop_decision_of (read_refused n c.args.link c.args.source.now c.args.now bytes _ (c.in-Err.ensures.says (one_hop_arrives n c.args.link c.args.source.now c.args.now bytes) refl)))
+    c.decision.ensures.one_hop
+    ∙ sym (ap one_hop_decision_of (read_refused n c.args.link c.args.source.now c.args.now bytes _ (c.in-Err.ensures.says (one_hop_arrives n c.args.link c.args.source.now c.args.now bytes) refl)))
 
 pub returns-in-Err-clause-bytes : goal.returns-in-Err-clause-bytes
 returns-in-Err-clause-bytes c =
     let n = network c.args.config.now in
     let bytes = c.args.bytes.now in
-    sym (ap (λ (v : OneHopVerdict). one_hop_moved_by v bytes) (read_refused n c.args.link c.args.source.now c.args.now bytes _ (c.in-Err.ensures.says (one_hop_arrives n c.args.link c.args.source.now c.args.now bytes) refl)))
+    refused_keeps c.in-Err.refusal bytes
+    ∙ sym (ap (λ (v : OneHopVerdict). one_hop_moved_by v bytes) (read_refused n c.args.link c.args.source.now c.args.now bytes _ (c.in-Err.ensures.says (one_hop_arrives n c.args.link c.args.source.now c.args.now bytes) refl)))
 
 pub write-requires : goal.write-requires
 write-requires c =
@@ -28,7 +30,7 @@ returns-in-Ok-depart-clause-decision c =
     let n = network c.args.config.now in
     let bytes = c.args.bytes.now in
     let s = one_hop_arrives n c.args.link c.args.source.now c.args.now bytes in
-    c.decision.ensures (one_hop_packet_of bytes)
+    c.decision-in-Ok-depart.ensures (one_hop_packet_of bytes)
     ∙ sym (ap one_hop_decision_of (read_passed n c.args.link c.args.source.now c.args.now bytes _ (c.in-Ok.ensures.says s refl) c.in-Ok-depart.ensures))
 
 pub returns-in-Ok-depart-clause-bytes : goal.returns-in-Ok-depart-clause-bytes
@@ -45,11 +47,13 @@ returns-in-Err-depart-clause-decision c =
     let n = network c.args.config.now in
     let bytes = c.args.bytes.now in
     let s = one_hop_arrives n c.args.link c.args.source.now c.args.now bytes in
-    sym (ap one_hop_decision_of (read_passed n c.args.link c.args.source.now c.args.now bytes _ (c.in-Ok.ensures.says s refl) c.in-Err-depart.ensures))
+    c.decision-in-Err-depart.ensures.one_hop
+    ∙ sym (ap one_hop_decision_of (read_passed n c.args.link c.args.source.now c.args.now bytes _ (c.in-Ok.ensures.says s refl) c.in-Err-depart.ensures))
 
 pub returns-in-Err-depart-clause-bytes : goal.returns-in-Err-depart-clause-bytes
 returns-in-Err-depart-clause-bytes c =
     let n = network c.args.config.now in
     let bytes = c.args.bytes.now in
     let s = one_hop_arrives n c.args.link c.args.source.now c.args.now bytes in
-    sym (ap (λ (v : OneHopVerdict). one_hop_moved_by v bytes) (read_passed n c.args.link c.args.source.now c.args.now bytes _ (c.in-Ok.ensures.says s refl) c.in-Err-depart.ensures))
+    refused_keeps c.in-Err-depart.refusal bytes
+    ∙ sym (ap (λ (v : OneHopVerdict). one_hop_moved_by v bytes) (read_passed n c.args.link c.args.source.now c.args.now bytes _ (c.in-Ok.ensures.says s refl) c.in-Err-depart.ensures))

@@ -1,16 +1,16 @@
 use Rattle.std.proofs.Common.{Option, [], ◌∷◌, sym, subst, ◌∙◌}
 use Rattle.process_packet.specs.OneHopRows.{OneHopVerdict, faulty_header, faulty_path, too_long}
 use Rattle.process_packet.specs.OneHopView.{TellsOneHop}
-use Rattle.process_packet.proofs.OneHopLemmas.{drop_told, last_one, one_ends, one_passed}
+use Rattle.process_packet.proofs.OneHopLemmas.{row_refused, last_one, one_ends, one_passed}
 use Rattle.process_packet.proofs.one_hop.read.Goals as goal
 
 pub returns-in_err-too_long-clause-says : goal.returns-in_err-too_long-clause-says
 returns-in_err-too_long-clause-says c s same =
-    drop_told _ _ _ c.from_residual.ensures.1 (one_ends s too_long (faulty_header ∷ faulty_path ∷ []) _ (c.in_err-too_long.ensures s same))
+    row_refused _ _ _ c.from_residual.ensures.1 (one_ends s too_long (faulty_header ∷ faulty_path ∷ []) _ (c.in_err-too_long.ensures s same))
 
 pub returns-in_err-ends-clause-says : goal.returns-in_err-ends-clause-says
 returns-in_err-ends-clause-says c s same =
-    drop_told _ _ _ c.from_residual-in_err-ends.ensures.1
+    row_refused _ _ _ c.from_residual-in_err-ends.ensures.1
     (one_passed s too_long (faulty_header ∷ faulty_path ∷ []) (c.in_ok-too_long.ensures s same) ∙ one_ends s faulty_header (faulty_path ∷ []) _ (c.in_err-ends.ensures.says s same))
 
 pub returns-clause-says : goal.returns-clause-says

@@ -29,22 +29,22 @@ leave-requires c =
 
 pub returns-in_err-to : goal.returns-in_err-to
 returns-in_err-to c s p shows same header bytes keeps alike =
-    refusal_told _ p _ _ c.from_residual.ensures.1 (ended s _ delivery after_delivery (c.in_err-to.ensures s shows same header))
+    refusal_told _ p _ _ c.from_residual.ensures.1 (ended s _ delivery after_delivery (c.in_err-to.ensures s shows same header bytes))
 
 pub returns-in-Some : goal.returns-in-Some
 returns-in-Some c s p shows same header bytes keeps alike =
-    subst (λ (v : Verdict). Departs c.unchanged.result v p) (sym (ended s _ delivery after_delivery (rw c.in-Some.is at (c.in_ok-to.ensures s shows same header)))) (c.unchanged.ensures s p shows keeps)
+    subst (λ (v : Verdict). Departs c.unchanged.result v p) (sym (ended s _ delivery after_delivery (rw c.in-Some.is at (c.in_ok-to.ensures s shows same header bytes)))) (c.unchanged.ensures s p shows keeps)
 
 pub returns-in_err-switch : goal.returns-in_err-switch
 returns-in_err-switch c s p shows same header bytes keeps alike =
     refusal_told _ p _ _ c.from_residual-in_err-switch.ensures.1
-    (went_on s s delivery after_delivery (rw c.in_default.is at (c.in_ok-to.ensures s shows same header)) ∙ ended s _ switch after_switch (c.in_err-switch.ensures.says s shows same alike))
+    (went_on s s delivery after_delivery (rw c.in_default.is at (c.in_ok-to.ensures s shows same header bytes)) ∙ ended s _ switch after_switch (c.in_err-switch.ensures.says s shows same alike))
 
 pub returns-in_err-exit : goal.returns-in_err-exit
 returns-in_err-exit c s p shows same header bytes keeps alike =
     let u = past_switch s in
     let there = same_past_switch s in
-    let past = went_on s s delivery after_delivery (rw c.in_default.is at (c.in_ok-to.ensures s shows same header))
+    let past = went_on s s delivery after_delivery (rw c.in_default.is at (c.in_ok-to.ensures s shows same header bytes))
     ∙ went_on s u switch after_switch (c.in_ok-switch.ensures.says s shows same alike) in
     refusal_told _ p _ _ c.from_residual-in_err-exit.ensures.1
     (past ∙ ended u _ unknown_egress after_egress (c.in_err-exit.ensures.says u (c.in_ok-switch.ensures.shows s shows alike) (same ∙ there.network)))
@@ -54,7 +54,7 @@ returns-in_err-wrong_pair c s p shows same header bytes keeps alike =
     let u = past_switch s in
     let network = same ∙ (same_past_switch s).network in
     let seen = c.in_ok-switch.ensures.shows s shows alike in
-    let past = went_on s s delivery after_delivery (rw c.in_default.is at (c.in_ok-to.ensures s shows same header))
+    let past = went_on s s delivery after_delivery (rw c.in_default.is at (c.in_ok-to.ensures s shows same header bytes))
     ∙ went_on s u switch after_switch (c.in_ok-switch.ensures.says s shows same alike)
     ∙ went_on u u unknown_egress after_egress (c.in_ok-exit.ensures.says u seen network) in
     refusal_told _ p _ _ c.from_residual-in_err-wrong_pair.ensures.1
@@ -67,7 +67,7 @@ returns-in_err-egress_request c s p shows same header bytes keeps alike =
     let network = same ∙ there.network in
     let seen = c.in_ok-switch.ensures.shows s shows alike in
     let exit = c.in_ok-exit.ensures.exit u seen network in
-    let past = went_on s s delivery after_delivery (rw c.in_default.is at (c.in_ok-to.ensures s shows same header))
+    let past = went_on s s delivery after_delivery (rw c.in_default.is at (c.in_ok-to.ensures s shows same header bytes))
     ∙ went_on s u switch after_switch (c.in_ok-switch.ensures.says s shows same alike)
     ∙ went_on u u unknown_egress after_egress (c.in_ok-exit.ensures.says u seen network)
     ∙ went_on u u wrong_pair after_pair (c.in_ok-wrong_pair.ensures u seen network exit) in
@@ -81,7 +81,7 @@ returns c s p shows same header bytes keeps alike =
     let network = same ∙ there.network in
     let seen = c.in_ok-switch.ensures.shows s shows alike in
     let exit = c.in_ok-exit.ensures.exit u seen network in
-    let past = went_on s s delivery after_delivery (rw c.in_default.is at (c.in_ok-to.ensures s shows same header))
+    let past = went_on s s delivery after_delivery (rw c.in_default.is at (c.in_ok-to.ensures s shows same header bytes))
     ∙ went_on s u switch after_switch (c.in_ok-switch.ensures.says s shows same alike)
     ∙ went_on u u unknown_egress after_egress (c.in_ok-exit.ensures.says u seen network)
     ∙ went_on u u wrong_pair after_pair (c.in_ok-wrong_pair.ensures u seen network exit)

@@ -8,9 +8,9 @@ delivered_here : (s : PacketState) → (is_external s && is_local s.network s.he
 delivered_here s here = ap (λ (b : Bool). ends_where b (delivered s.network (packet s)) s) here
 
 pub returns-in-Ok : goal.returns-in-Ok
-returns-in-Ok c s shows same header =
-    delivered_here s (sym (c.is_for_here.ensures s shows same header) ∙ c.if-not-is_for_here.false) ∙ ap Ends (c.in-Ok.ensures s (packet s) same header refl)
+returns-in-Ok c s shows same header payload =
+    delivered_here s (sym (c.is_for_here.ensures s shows same header) ∙ c.if-not-is_for_here.false) ∙ ap Ends (c.in-Ok.ensures s (packet s) same header refl payload)
 
 pub returns-in-Err : goal.returns-in-Err
-returns-in-Err c s shows same header =
-    delivered_here s (sym (c.is_for_here.ensures s shows same header) ∙ c.if-not-is_for_here.false) ∙ ap Ends (c.in-Err.ensures s (packet s) same header refl)
+returns-in-Err c s shows same header payload =
+    delivered_here s (sym (c.is_for_here.ensures s shows same header) ∙ c.if-not-is_for_here.false) ∙ ap Ends (c.in-Err.ensures s (packet s) same header refl payload)
