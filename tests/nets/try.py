@@ -593,7 +593,7 @@ def foretold(program, net, configs, packets, now):
                     end = next(it for it in router["links"] if it["id"] == out)
                     if to != "-":
                         sys.exit(f"a link's packet goes to {to}")
-                    if end in net.speakers:
+                    if any(end is it for it in net.speakers):
                         arrivals[at] = (end["remote"], data)
                     else:
                         flown.append((at, end["far"]["router"], end["far"]["id"], end["local"], data))
