@@ -10,12 +10,12 @@ abbrev pub is_of_top : List ℕ → Bool
 is_of_top key = bytes_eq key (codes "version") || bytes_eq key (codes "isd_as") || bytes_eq key (codes "key") || bytes_eq key (codes "internal")
     || bytes_eq key (codes "host_port") || bytes_eq key (codes "processors") || bytes_eq key (codes "capacity") || bytes_eq key (codes "seed")
     || bytes_eq key (codes "buffers") || bytes_eq key (codes "link") || bytes_eq key (codes "sibling") || bytes_eq key (codes "service")
-    || bytes_eq key (codes "internal_bands")
+    || bytes_eq key (codes "internal_bands") || bytes_eq key (codes "dispatched_ports")
 
 abbrev pub is_of_link : List ℕ → Bool
 is_of_link key =
     bytes_eq key (codes "id") || bytes_eq key (codes "kind") || bytes_eq key (codes "local") || bytes_eq key (codes "remote") || bytes_eq key (codes "bands")
-    || bytes_eq key (codes "neighbor")
+    || bytes_eq key (codes "neighbor") || bytes_eq key (codes "bfd")
 
 abbrev pub is_of_sibling : List ℕ → Bool
 is_of_sibling key = bytes_eq key (codes "id") || bytes_eq key (codes "kind") || bytes_eq key (codes "at")

@@ -44,7 +44,7 @@ fn is_of_top(key: &str) -> bool
     match key {
         "version" | "isd_as" | "key" | "internal" | "host_port" | "processors" => true,
         "capacity" | "seed" | "buffers" | "link" | "sibling" | "service" => true,
-        "internal_bands" => true,
+        "internal_bands" | "dispatched_ports" => true,
         _ => false,
     }
 }
@@ -54,7 +54,7 @@ fn is_of_link(key: &str) -> bool
     ensures { result ≡ is_of_link key.now }
 {
     match key {
-        "id" | "kind" | "local" | "remote" | "bands" | "neighbor" => true,
+        "id" | "kind" | "local" | "remote" | "bands" | "neighbor" | "bfd" => true,
         _ => false,
     }
 }

@@ -1,14 +1,16 @@
 -- A configuration, part by part.
-use Rattle.std.proofs.Common.{◌≡◌, ℕ, List, map, Ok, Err, ℤ, pos, refl, inl, inr}
+use Rattle.std.proofs.Common.{◌≡◌, ℕ, List, map, Option, Ok, Err, ℤ, pos, refl, inl, inr}
 use Rattle.std.specs.Prelude.{◌⊎◌, ◌≢◌, codes}
 use Rattle.toml.specs.Data.{Members, as_integer}
 use Rattle.process_packet.specs.Neighbours.{link_id}
 use Rattle.process_packet.specs.declared.neighbours.Link.{Link}
 use Rattle.process_packet.specs.declared.neighbours.Sibling.{Sibling}
 use Rattle.process_packet.specs.declared.neighbours.Service.{Service}
+use Rattle.process_packet.specs.declared.port_range.PortRange.{PortRange}
 use Rattle.router_config.specs.Config.{AroundValues, InternalValues, LocalValues, SizeValues, Values, around_at, buffers_at, internal_at, local_at, sizes_at, values_at}
 use Rattle.router_config.specs.Entry.{in_range, value_at, version_at}
 use Rattle.router_config.specs.Neighbours.{link_values, links_at, services_at, siblings_at}
+use Rattle.router_config.specs.Ports.{dispatched_ports_at}
 use Rattle.router_config.specs.declared.entry.Version.{Version}
 use Rattle.router_config.specs.declared.fault.ConfigFault.{ConfigFault}
 use Rattle.router_config.specs.declared.fault.ConfigFault.TheVariants.{Memory, Missing}
@@ -74,19 +76,25 @@ pub bad_sizes : (t : Members) (version : Version) (near : LocalValues) (internal
 unfolding values_at
 bad_sizes t version near internal fault first second third there = rw (← first, ← second, ← third, ← there) refl
 
-pub bad_around : (t : Members) (version : Version) (near : LocalValues) (internal : InternalValues) (sizes : SizeValues) (fault : ConfigFault) → Ok version ≡ version_at t → Ok near ≡ local_at t
-    → Ok internal ≡ internal_at version t → Ok sizes ≡ sizes_at t → (fault ≡ Memory) ⊎ (around_at version near.isd_as t ≡ Err fault) → (fault ≡ Memory) ⊎ (values_at t ≡ Err fault)
+pub bad_ports : (t : Members) (version : Version) (near : LocalValues) (internal : InternalValues) (sizes : SizeValues) (fault : ConfigFault) → Ok version ≡ version_at t → Ok near ≡ local_at t
+    → Ok internal ≡ internal_at version t → Ok sizes ≡ sizes_at t → Err fault ≡ dispatched_ports_at t → values_at t ≡ Err fault
 unfolding values_at
-bad_around t version near internal sizes fault first second third fourth (inl memory) = inl memory
-bad_around t version near internal sizes fault first second third fourth (inr there) = inr (rw (← first, ← second, ← third, ← fourth, there) refl)
+bad_ports t version near internal sizes fault first second third fourth there = rw (← first, ← second, ← third, ← fourth, ← there) refl
 
-pub all_there : (t : Members) (version : Version) (near : LocalValues) (internal : InternalValues) (sizes : SizeValues) (around : AroundValues) → Ok version ≡ version_at t → Ok near ≡ local_at t
-    → Ok internal ≡ internal_at version t → Ok sizes ≡ sizes_at t → around_at version near.isd_as t ≡ Ok around
-    → values_at t ≡ Ok (record { near = near; internal = internal; sizes = sizes; around = around })
+pub bad_around : (t : Members) (version : Version) (near : LocalValues) (internal : InternalValues) (sizes : SizeValues) (ports : Option PortRange) (fault : ConfigFault) → Ok version ≡ version_at t → Ok near ≡ local_at t
+    → Ok internal ≡ internal_at version t → Ok sizes ≡ sizes_at t → Ok ports ≡ dispatched_ports_at t → (fault ≡ Memory) ⊎ (around_at version near.isd_as t ≡ Err fault) → (fault ≡ Memory) ⊎ (values_at t ≡ Err fault)
 unfolding values_at
-all_there t version near internal sizes around first second third fourth fifth = rw (← first, ← second, ← third, ← fourth, fifth) refl
+bad_around t version near internal sizes ports fault first second third fourth fifth (inl memory) = inl memory
+bad_around t version near internal sizes ports fault first second third fourth fifth (inr there) = inr (rw (← first, ← second, ← third, ← fourth, ← fifth, there) refl)
+
+pub all_there : (t : Members) (version : Version) (near : LocalValues) (internal : InternalValues) (sizes : SizeValues) (ports : Option PortRange) (around : AroundValues) → Ok version ≡ version_at t → Ok near ≡ local_at t
+    → Ok internal ≡ internal_at version t → Ok sizes ≡ sizes_at t → Ok ports ≡ dispatched_ports_at t → around_at version near.isd_as t ≡ Ok around
+    → values_at t ≡ Ok (record { near = near; internal = internal; sizes = sizes; dispatched_ports = ports; around = around })
+unfolding values_at
+all_there t version near internal sizes ports around first second third fourth fifth sixth = rw (← first, ← second, ← third, ← fourth, ← fifth, sixth) refl
 
 -- values whose parts are these
-pub joined : (v : Values) (near : LocalValues) (internal : InternalValues) (sizes : SizeValues) (around : AroundValues) → v.near ≡ near → v.internal ≡ internal → v.sizes ≡ sizes → v.around ≡ around
-    → record { near = near; internal = internal; sizes = sizes; around = around } ≡ v
-joined v near internal sizes around a b c d = rw (← a, ← b, ← c, ← d) refl
+pub joined : (v : Values) (near : LocalValues) (internal : InternalValues) (sizes : SizeValues) (ports : Option PortRange) (around : AroundValues)
+    → v.near ≡ near → v.internal ≡ internal → v.sizes ≡ sizes → v.dispatched_ports ≡ ports → v.around ≡ around
+    → record { near = near; internal = internal; sizes = sizes; dispatched_ports = ports; around = around } ≡ v
+joined v near internal sizes ports around a b c d e = rw (← a, ← b, ← c, ← d, ← e) refl

@@ -8,10 +8,12 @@ use Rattle.process_packet.specs.declared.config.Config.{Config}
 use Rattle.process_packet.specs.declared.neighbours.Bands.{Bands}
 use Rattle.process_packet.specs.declared.neighbours.Sibling.{Sibling}
 use Rattle.process_packet.specs.declared.neighbours.Service.{Service}
+use Rattle.process_packet.specs.declared.port_range.PortRange.{PortRange}
 use Rattle.process_packet.specs.declared.underlay.Underlay.{Underlay}
 use Rattle.router_config.specs.Entry.{address_at, bands_at, in_range, isd_as_at, number_at, value_at, version_at}
 use Rattle.router_config.specs.Fault.{or_fault, or_when_missing, ◌>>=◌}
 use Rattle.router_config.specs.Neighbours.{LinkValues, link_values, links_at, services_at, siblings_at, told_id}
+use Rattle.router_config.specs.Ports.{dispatched_ports_at}
 use Rattle.router_config.specs.declared.entry.Version.{Version}
 use Rattle.router_config.specs.declared.fault.ConfigFault.{ConfigFault}
 use Rattle.router_config.specs.declared.fault.ConfigFault.TheVariants.{NotToml, Key}
@@ -91,6 +93,7 @@ pub record Values : Type 0 where
   pub near : LocalValues
   pub internal : InternalValues
   pub sizes : SizeValues
+  pub dispatched_ports : Option PortRange
   pub around : AroundValues
 
 unfoldable pub values_at : Members → Result Values ConfigFault
@@ -99,8 +102,9 @@ values_at table = do
   near ← local_at table
   internal ← internal_at version table
   sizes ← sizes_at table
+  dispatched_ports ← dispatched_ports_at table
   around ← around_at version near.isd_as table
-  Ok (record { near = near; internal = internal; sizes = sizes; around = around })
+  Ok (record { near = near; internal = internal; sizes = sizes; dispatched_ports = dispatched_ports; around = around })
 
 -- the values of a text
 abbrev pub values_of : List ℕ → Result Values ConfigFault
@@ -112,5 +116,6 @@ values c = record {
   near = record { isd_as = (c.isd, c.autonomous_system); key = c.key };
   internal = record { router = c.internal; bands = c.internal_bands; host_port = c.host_port };
   sizes = record { processors = c.processors; capacity = c.capacity; seed = c.seed; buffers = c.buffers };
+  dispatched_ports = c.dispatched_ports;
   around = record { links = map link_values c.links.items; siblings = c.siblings.items; services = c.services.items };
 }

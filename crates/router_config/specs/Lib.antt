@@ -2,6 +2,7 @@ pub mod IsdAs
 pub mod Fault
 pub mod Entry
 pub mod Neighbours
+pub mod Ports
 pub mod Config
 pub mod Parts
 pub mod Location

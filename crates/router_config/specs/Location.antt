@@ -7,7 +7,8 @@ use Rattle.process_packet.specs.declared.neighbours.Sibling.{Sibling}
 use Rattle.process_packet.specs.declared.neighbours.Service.{Service}
 use Rattle.router_config.specs.Config.{buffers_at, key_at}
 use Rattle.router_config.specs.Entry.{address_at, bands_at, isd_as_at, kind_at, number_at}
-use Rattle.router_config.specs.Neighbours.{id_at, neighbor_at, number_at as service_number_at, taken}
+use Rattle.router_config.specs.Fault.{◌>>=◌}
+use Rattle.router_config.specs.Neighbours.{bfd_at, id_at, neighbor_at, number_at as service_number_at, taken}
 use Rattle.router_config.specs.declared.entry.Version.{Version}
 use Rattle.router_config.specs.declared.location.Key.{Key}
 use Rattle.router_config.specs.declared.location.Key.TheVariants as key
@@ -53,6 +54,7 @@ key_of_link v own given t =
     ∷ (key.Remote, is_err (address_at (codes "remote") t))
     ∷ (key.Bands, is_err (bands_at v (codes "bands") t))
     ∷ (key.Neighbor, is_err (neighbor_at own t))
+    ∷ (key.Bfd, is_err (neighbor_at own t >>= (λ neighbor. bfd_at neighbor t)))
     ∷ [])
 
 abbrev pub key_of_sibling : List Link → List Sibling → Members → Option Key

@@ -1,7 +1,7 @@
 -- The lists of a configuration: links, siblings' interfaces and services, one member after the other.
-use Rattle.std.specs.Prelude.{ℕ, suc, ℤ, pos, negsuc, ◌==◌, ◌&&◌, nat_lt, if◌then◌else◌, List, [], ◌∷◌, ◌++◌, map, Option, Some, None, option_map, Result, Ok, Err, codes}
+use Rattle.std.specs.Prelude.{ℕ, suc, ℤ, pos, negsuc, Bool, true, false, ◌==◌, ◌&&◌, nat_lt, if◌then◌else◌, List, [], ◌∷◌, ◌++◌, map, Option, Some, None, option_map, Result, Ok, Err, codes}
 use Rattle.std.specs.List.{list_any}
-use Rattle.toml.specs.Data.{Data, Items, no_items, item, Members, as_array, as_integer, as_table}
+use Rattle.toml.specs.Data.{Data, Items, no_items, item, Members, as_array, as_bool, as_integer, as_table}
 use Rattle.process_packet.specs.Neighbours.{link_id, service_number, sibling_id}
 use Rattle.process_packet.specs.declared.neighbours.Bands.{Bands}
 use Rattle.process_packet.specs.declared.neighbours.Link.{Link}
@@ -14,7 +14,7 @@ use Rattle.router_config.specs.Entry.{address_at, bands_at, isd_as_at, kind_at, 
 use Rattle.router_config.specs.Fault.{or_fault, or_when_missing, ◌>>=◌}
 use Rattle.router_config.specs.declared.entry.Version.{Version}
 use Rattle.router_config.specs.declared.fault.ConfigFault.{ConfigFault}
-use Rattle.router_config.specs.declared.fault.ConfigFault.TheVariants.{WrongType, Interface, Limit}
+use Rattle.router_config.specs.declared.fault.ConfigFault.TheVariants.{Missing, WrongType, Interface, Limit}
 
 -- ---- numbers
 
@@ -60,6 +60,16 @@ neighbor_at own table = or_when_missing None (isd_as_at (codes "neighbor") table
 abbrev pub domain_numbers : Domain → ℕ × ℕ
 domain_numbers d = (d.isd, d.autonomous_system)
 
+-- BFD is answered on a link whose other end is named, and on no other
+abbrev pub bfd_of : Option (ℕ × ℕ) → Bool → Result Bool ConfigFault
+bfd_of named false = Ok false
+bfd_of None true = Err Missing
+bfd_of (Some neighbor) true = Ok true
+
+-- whether BFD is answered on a link with this AS at its other end; there may be no such key
+unfoldable pub bfd_at : Option (ℕ × ℕ) → Members → Result Bool ConfigFault
+bfd_at neighbor table = or_when_missing false (value_at as_bool (codes "bfd") table) >>= bfd_of neighbor
+
 -- ---- members
 
 -- what is told of a link
@@ -70,13 +80,14 @@ pub record LinkValues : Type 0 where
   pub remote : Underlay
   pub bands : Bands
   pub neighbor : Option (ℕ × ℕ)
+  pub bfd : Bool
 
 abbrev pub told_id : LinkValues → ℕ
 told_id l = l.id
 
 -- the values that a link has
 abbrev pub link_values : Link → LinkValues
-link_values l = record { id = l.id; kind = l.kind; local = l.local; remote = l.remote; bands = l.bands; neighbor = option_map domain_numbers l.neighbor }
+link_values l = record { id = l.id; kind = l.kind; local = l.local; remote = l.remote; bands = l.bands; neighbor = option_map domain_numbers l.neighbor; bfd = l.bfd }
 
 -- a link of this AS, where these numbers have been given to others
 unfoldable pub link_of : Version → ℕ × ℕ → List ℕ → Data → Result LinkValues ConfigFault
@@ -88,7 +99,8 @@ link_of version own ids member = do
   remote ← address_at (codes "remote") table
   bands ← bands_at version (codes "bands") table
   neighbor ← neighbor_at own table
-  Ok (record { id = id; kind = kind; local = near; remote = remote; bands = bands; neighbor = neighbor })
+  bfd ← bfd_at neighbor table
+  Ok (record { id = id; kind = kind; local = near; remote = remote; bands = bands; neighbor = neighbor; bfd = bfd })
 
 -- a link beside those that have been read
 abbrev pub link_after : Version → ℕ × ℕ → List LinkValues → Data → Result LinkValues ConfigFault

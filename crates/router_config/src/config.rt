@@ -1,6 +1,7 @@
 //! A configuration, key by key.
-ghost use Rattle.std.specs.Prelude.{◌≡◌, ◌≤◌, IfOk};
+ghost use Rattle.std.specs.Prelude.{◌≡◌, ◌≤◌, IfOk, IsTrue};
 ghost use Rattle.toml.specs.View.{table_view};
+ghost use Rattle.process_packet.specs.Neighbours.{is_range_if_there};
 ghost use Rattle.router_config.specs.Config.{around_at, buffers_at, internal_at, key_at, local_at, sizes_at, values, values_at, values_of};
 ghost use Rattle.router_config.specs.Fault.{Answers, on_ok};
 ghost use Rattle.router_config.specs.Parts.{AreSizes, IsAround, IsInternal, IsLocal, around_values, internal_values, local_values, size_values};
@@ -10,9 +11,10 @@ use crate::entry::{
 };
 use crate::fault::ConfigFault;
 use crate::lists::{links_at, services_at, siblings_at};
+use crate::ports::dispatched_ports_at;
 use cmac_core::Cmac;
 use hex::FromHex;
-use process_packet::{Bands, Config, Link, Service, Sibling, Underlay};
+use process_packet::{Bands, Config, Link, PortRange, Service, Sibling, Underlay};
 use std::alloc::Global;
 use toml::Table;
 
@@ -161,14 +163,22 @@ fn around_at(
 }
 
 /// The configuration of these parts.
-fn config_of(local: Local, internal: Internal, sizes: Sizes, around: Around) -> Config
+fn config_of(
+    local: Local,
+    internal: Internal,
+    sizes: Sizes,
+    ports: Option<PortRange>,
+    around: Around,
+) -> Config
     requires near { IsLocal local }
     requires inside { IsInternal internal }
     requires sizes { AreSizes sizes }
+    requires ports { IsTrue (is_range_if_there ports) }
     requires around { IsAround around }
     ensures near { (values result).near ≡ local_values local }
     ensures internal { (values result).internal ≡ internal_values internal }
     ensures sizes { (values result).sizes ≡ size_values sizes }
+    ensures ports { (values result).dispatched_ports ≡ ports }
     ensures around { (values result).around ≡ around_values around }
 {
     Config {
@@ -178,7 +188,7 @@ fn config_of(local: Local, internal: Internal, sizes: Sizes, around: Around) -> 
         internal: internal.router,
         internal_bands: internal.bands,
         host_port: internal.host_port,
-        dispatched_ports: None,
+        dispatched_ports: ports,
         processors: sizes.processors,
         capacity: sizes.capacity,
         seed: sizes.seed,
@@ -209,24 +219,29 @@ pub(crate) fn config_at(alloc: Global, table: &Table) -> Result<Config, ConfigFa
         Ok(sizes) => sizes,
         Err(fault) => return Err(fault),
     };
+    let ports = match dispatched_ports_at(table) {
+        Ok(ports) => ports,
+        Err(fault) => return Err(fault),
+    };
     let own = (local.isd, local.autonomous_system);
     let around = match around_at(alloc, version, own, table) {
         Ok(around) => around,
         Err(fault) => return Err(fault),
     };
-    Ok(config_of(local, internal, sizes, around))
+    Ok(config_of(local, internal, sizes, ports, around))
 }
 
 /// The configuration of a border router that a TOML text tells, or the first fault of the text.
 ///
 /// The keys are read in the order `version`, `isd_as`, `key`, `internal`, `internal_bands` (in
 /// version 2), `host_port`, `processors`, `capacity`, `seed`, `buffers` (64 where there is none),
-/// `link`, `sibling` and `service` (none where there is no such list); other keys are left alone. A
-/// list is tested for its type and its length before its members, which are read one after the
-/// other: of a link `id`, `kind`, `local`, `remote`, in version 2 `bands`, and `neighbor` (none
-/// where there is no such key); of a sibling `id`, `kind` and `at`; of a service `number` and `at`.
-/// A value is tested for its type, then its form, then for 0, for a number that is given twice or
-/// the AS's own number, then its range. The first fault is answered, and want of memory as
+/// `dispatched_ports` (none where there is no such key), `link`, `sibling` and `service` (none where
+/// there is no such list); other keys are left alone. A list is tested for its type and its length
+/// before its members, which are read one after the other: of a link `id`, `kind`, `local`,
+/// `remote`, in version 2 `bands`, `neighbor` (none where there is no such key) and `bfd` (`false`
+/// where there is none); of a sibling `id`, `kind` and `at`; of a service `number` and `at`. A value
+/// is tested for its type, then its form, then for 0, for a number that is given twice or the AS's
+/// own number, then its range. The first fault is answered, and want of memory as
 /// `ConfigFault::Memory` wherever it is met.
 pub fn read_config(alloc: Global, text: &str) -> Result<Config, ConfigFault>
     ensures { Answers values (values_of text.now) result }

@@ -1,6 +1,6 @@
 //! The value at a key of a table: it is tested for its type, then its form, then its range.
 ghost use Rattle.std.specs.Prelude.{◌≡◌, ◌<◌, ◌≤◌, ◌^◌, IfOk, IsTrue, codes};
-ghost use Rattle.toml.specs.Data.{as_array, as_integer, as_str};
+ghost use Rattle.toml.specs.Data.{as_array, as_bool, as_integer, as_str};
 ghost use Rattle.toml.specs.View.{array_view, table_view};
 ghost use Rattle.process_packet.specs.Neighbours.{has_port};
 ghost use Rattle.router_config.specs.Entry.{address_at, bands_at, in_range, isd_as_at, kind_at, kind_of, number_at, value_at, version_at};
@@ -40,6 +40,16 @@ pub(crate) fn integer_at(table: &Table, key: &str) -> Result<i64, ConfigFault>
 {
     match table.get(key) {
         Some(value) => value.as_integer().ok_or(ConfigFault::WrongType),
+        None => Err(ConfigFault::Missing),
+    }
+}
+
+/// The boolean at a key.
+pub(crate) fn bool_at(table: &Table, key: &str) -> Result<bool, ConfigFault>
+    ensures { result ≡ value_at as_bool key.now (table_view table.now) }
+{
+    match table.get(key) {
+        Some(value) => value.as_bool().ok_or(ConfigFault::WrongType),
         None => Err(ConfigFault::Missing),
     }
 }

@@ -10,6 +10,7 @@ mod isd_as;
 mod lists;
 mod location;
 mod neighbours;
+mod ports;
 mod words;
 
 pub use config::read_config;

@@ -13,8 +13,10 @@ use crate::entry::{
 use crate::fault::ConfigFault;
 use crate::lists::{MOST_LINKS, MOST_SERVICES, MOST_SIBLINGS, links_at, services_at, siblings_at};
 use crate::neighbours::{
-    id_at, neighbor_at, number_at as service_number_at, read_link, read_service, read_sibling,
+    bfd_at, id_at, neighbor_at, number_at as service_number_at, read_link, read_service,
+    read_sibling,
 };
+use crate::ports::dispatched_ports_at;
 use process_packet::{Link, Service, Sibling};
 use std::alloc::{AllocError, Global};
 use toml::value::Array;
@@ -33,6 +35,7 @@ pub(crate) enum Key {
     Capacity,
     Seed,
     Buffers,
+    DispatchedPorts,
     Link,
     Sibling,
     Service,
@@ -42,6 +45,7 @@ pub(crate) enum Key {
     Remote,
     Bands,
     Neighbor,
+    Bfd,
     At,
     Number,
 }
@@ -71,6 +75,7 @@ impl Key {
             Key::Capacity => "capacity",
             Key::Seed => "seed",
             Key::Buffers => "buffers",
+            Key::DispatchedPorts => "dispatched_ports",
             Key::Link => "link",
             Key::Sibling => "sibling",
             Key::Service => "service",
@@ -80,6 +85,7 @@ impl Key {
             Key::Remote => "remote",
             Key::Bands => "bands",
             Key::Neighbor => "neighbor",
+            Key::Bfd => "bfd",
             Key::At => "at",
             Key::Number => "number",
         }
@@ -99,6 +105,9 @@ impl Key {
             Key::Capacity => "1 to 65536",
             Key::Seed => "0 to 4294967295",
             Key::Buffers => "2 to 65536",
+            Key::DispatchedPorts => {
+                "a list of the first and the last port, 1 to 65535, as [31000, 32767]"
+            }
             Key::Link => "a list of 1 to 32 tables",
             Key::Sibling => "a list of at most 256 tables",
             Key::Service => "a list of at most 64 tables",
@@ -107,6 +116,7 @@ impl Key {
             Key::Neighbor => {
                 "an ISD-AS number other than `isd_as`, as \"1-ff00:0:111\" or \"1-64513\""
             }
+            Key::Bfd => "true or false, and true beside `neighbor` alone",
             Key::Number => "0 to 32767, once among the services",
         }
     }
@@ -197,9 +207,13 @@ fn location_of_link(
     if let Err(_) = bands_at(version, table, "bands") {
         return Some(Location::MemberValue(Key::Link, number, Key::Bands));
     }
-    match neighbor_at(own, table) {
+    let neighbor = match neighbor_at(own, table) {
+        Ok(neighbor) => neighbor,
+        Err(_) => return Some(Location::MemberValue(Key::Link, number, Key::Neighbor)),
+    };
+    match bfd_at(neighbor, table) {
         Ok(_) => None,
-        Err(_) => Some(Location::MemberValue(Key::Link, number, Key::Neighbor)),
+        Err(_) => Some(Location::MemberValue(Key::Link, number, Key::Bfd)),
     }
 }
 
@@ -386,6 +400,9 @@ pub(crate) fn location_in(alloc: Global, table: &Table) -> Result<Location, Allo
     }
     if let Some(key) = key_of_sizes(table) {
         return Ok(Location::Value(key));
+    }
+    if let Err(_) = dispatched_ports_at(table) {
+        return Ok(Location::Value(Key::DispatchedPorts));
     }
     location_around(alloc, version, own, table)
 }

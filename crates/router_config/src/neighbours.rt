@@ -4,9 +4,9 @@ ghost use Rattle.std.specs.List.{list_any};
 ghost use Rattle.toml.specs.View.{table_view, view};
 ghost use Rattle.process_packet.specs.Neighbours.{is_link, is_service, is_sibling, link_id, service_number, sibling_id};
 ghost use Rattle.router_config.specs.Fault.{on_ok};
-ghost use Rattle.router_config.specs.Neighbours.{domain_numbers, id_at, id_of, link_of, link_values, neighbor_at, number_at, service_of, service_of_number, sibling_of, taken};
+ghost use Rattle.router_config.specs.Neighbours.{bfd_at, bfd_of, domain_numbers, id_at, id_of, link_of, link_values, neighbor_at, number_at, service_of, service_of_number, sibling_of, taken};
 
-use crate::entry::{Version, address_at, bands_at, integer_at, isd_as_at, kind_at};
+use crate::entry::{Version, address_at, bands_at, bool_at, integer_at, isd_as_at, kind_at};
 use crate::fault::ConfigFault;
 use process_packet::{Link, Service, Sibling};
 use scion_header::Domain;
@@ -139,6 +139,33 @@ pub(crate) fn neighbor_at(own: (u16, u64), table: &Table) -> Result<Option<Domai
     }
 }
 
+/// Whether BFD is answered on a link with this AS at its other end, where that is asked for or not. At
+/// `Missing` it is asked for, and no AS is named.
+fn read_bfd(neighbor: Option<Domain>, asked: bool) -> Result<bool, ConfigFault>
+    ensures { result ≡ bfd_of (option_map domain_numbers neighbor) asked }
+{
+    if !asked {
+        return Ok(false);
+    }
+    match neighbor {
+        Some(_) => Ok(true),
+        None => Err(ConfigFault::Missing),
+    }
+}
+
+/// Whether a table asks that BFD be answered on a link with this AS at its other end.
+pub(crate) fn bfd_at(neighbor: Option<Domain>, table: &Table) -> Result<bool, ConfigFault>
+    ensures { result ≡ bfd_at (option_map domain_numbers neighbor) (table_view table.now) }
+{
+    match bool_at(table, "bfd") {
+        Ok(asked) => read_bfd(neighbor, asked),
+        Err(fault) => match fault {
+            ConfigFault::Missing => Ok(false),
+            _ => Err(fault),
+        },
+    }
+}
+
 /// The link of this AS that a member tells, beside the links that have been given.
 #[tactic(auto, unfolding(crate::specs::Neighbours::link_of))]
 pub(crate) fn read_link(
@@ -160,6 +187,7 @@ pub(crate) fn read_link(
     let remote = address_at(table, "remote")?;
     let bands = bands_at(version, table, "bands")?;
     let neighbor = neighbor_at(own, table)?;
+    let bfd = bfd_at(neighbor, table)?;
     Ok(Link {
         id,
         kind,
@@ -167,7 +195,7 @@ pub(crate) fn read_link(
         remote,
         bands,
         neighbor,
-        bfd: false,
+        bfd,
     })
 }
 
