@@ -3,15 +3,15 @@
 
 use crate::array_queue::ArrayQueue;
 use crate::cipher::BlockCmac;
-use crate::plain::{Cause, Config, Decision, Underlay, decide};
+use crate::plain::{
+    Cause, Config, Decision, ONE_HOP_PATH, SCION_PATH, Underlay, decide, header_ends,
+};
 use std::sync::atomic::{AtomicBool, AtomicU64, Ordering, fence};
 use std::sync::{Arc, OnceLock};
 use std::thread::{self, Thread};
 
 /// A buffer is one byte longer than the longest datagram, so that a longer one is seen.
 pub const ROOM: usize = 9217;
-const LONGEST: usize = 9216;
-
 /// What all workers share.
 pub struct Router {
     pub config: Config<BlockCmac>,
@@ -32,34 +32,19 @@ impl Router {
     }
 
     /// The processor of a datagram's flow, or why it is dropped.
-    fn processor_of(&self, bytes: &[u8]) -> Result<usize, Cause> {
-        if bytes.len() > LONGEST {
-            return Err(Cause::TooLong);
-        }
-        if bytes.len() < 12 {
-            return Err(Cause::Short);
-        }
-        if bytes[0] >> 4 != 0 {
-            return Err(Cause::Version);
-        }
-        if bytes[8] != 1 {
-            return Err(Cause::PathType);
-        }
-        let kinds = bytes[9];
-        let path_at = 36 + 4 * usize::from(kinds >> 4 & 3) + 4 * usize::from(kinds & 3);
-        let end = 4 * usize::from(bytes[5]);
-        if end < path_at {
-            return Err(Cause::Header);
-        }
-        if bytes.len() < end {
-            return Err(Cause::Short);
-        }
+    fn processor_of(&self, interface: u16, bytes: &[u8]) -> Result<usize, Cause> {
+        let path_type = if self.config.is_one_hop(interface, bytes) {
+            ONE_HOP_PATH
+        } else {
+            SCION_PATH
+        };
+        let (path_at, _) = header_ends(path_type, bytes)?;
         let mut hash = 2166136261 ^ self.seed;
         let mut add = |byte: u8| hash = (hash ^ u32::from(byte)).wrapping_mul(16777619);
         add(bytes[1] & 15);
         add(bytes[2]);
         add(bytes[3]);
-        add(kinds);
+        add(bytes[9]);
         for byte in &bytes[12..path_at] {
             add(*byte);
         }
@@ -277,7 +262,8 @@ impl<S: Source> Work for Receiver<S> {
         };
         self.number += 1;
         self.counts.received += 1;
-        let at = match self.router.processor_of(&self.room[..len]) {
+        let interface = self.router.interfaces[self.link];
+        let at = match self.router.processor_of(interface, &self.room[..len]) {
             Ok(at) => at,
             Err(cause) => {
                 self.counts.drop_for(cause as usize);
@@ -297,7 +283,7 @@ impl<S: Source> Work for Receiver<S> {
         let bytes = std::mem::replace(&mut self.room, other);
         let packet = Packet {
             link: self.link,
-            interface: self.router.interfaces[self.link],
+            interface,
             number: self.number,
             source,
             moment,

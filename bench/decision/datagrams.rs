@@ -12,9 +12,13 @@ pub const KEY: [u8; 16] = [
 const MADE: u32 = 1694498816;
 const NOW: u64 = 1694499816;
 
+/// This AS, and those at the other ends of links 1 and 2.
 const LOCAL: u64 = 0x0001_ff00_0000_0110;
-const SENDER: u64 = 0x0001_ff00_0000_0111;
-const RECEIVER: u64 = 0x0001_ff00_0000_0112;
+pub const SENDER: u64 = 0x0001_ff00_0000_0111;
+pub const RECEIVER: u64 = 0x0001_ff00_0000_0112;
+
+/// The identifier of the first segment.
+const FIRST_ID: u16 = 0x1234;
 
 /// The address 10.NET.0.HOST with a port.
 pub fn at(net: u8, host: u8, port: u16) -> Underlay {
@@ -32,7 +36,7 @@ pub struct Datagram {
     pub source: Underlay,
     pub now: u64,
     pub wanted: Decision,
-    /// Where the five bytes stand that a decision may change.
+    /// Where the five bytes stand that a decision on a SCION path may change.
     pub places: [u16; 5],
 }
 
@@ -90,6 +94,35 @@ fn parts(link: u16, segments: &[Segment], current: usize) -> Parts {
     }
 }
 
+/// The MAC of a hop field under this AS's key, for an identifier of its segment.
+fn mac(id: u16, hop: &[u8; 12]) -> [u8; 6] {
+    let mut block = [0; 16];
+    block[2..4].copy_from_slice(&id.to_be_bytes());
+    block[4..8].copy_from_slice(&MADE.to_be_bytes());
+    block[9..14].copy_from_slice(&hop[1..6]);
+    BlockCmac::new(&KEY).mac(&block)
+}
+
+/// A hop field from one interface to another, with its MAC.
+fn hop_field(id: u16, ingress: u16, egress: u16) -> [u8; 12] {
+    let mut hop = [0; 12];
+    hop[1] = 63;
+    hop[2..4].copy_from_slice(&ingress.to_be_bytes());
+    hop[4..6].copy_from_slice(&egress.to_be_bytes());
+    let mac = mac(id, &hop);
+    hop[6..].copy_from_slice(&mac);
+    hop
+}
+
+/// An info field.
+fn info_field(along: bool, id: u16) -> [u8; 8] {
+    let mut info = [0; 8];
+    info[0] = u8::from(along);
+    info[2..4].copy_from_slice(&id.to_be_bytes());
+    info[4..].copy_from_slice(&MADE.to_be_bytes());
+    info
+}
+
 impl Parts {
     fn to(self, destination: u64) -> Parts {
         Parts {
@@ -126,20 +159,50 @@ impl Parts {
         }
     }
 
-    fn make(self, name: &'static str, wanted: Decision) -> Datagram {
-        let key = BlockCmac::new(&KEY);
-        let hops: usize = self.segments.iter().map(|segment| segment.len).sum();
-        let path_at = 28 + self.host.len() + 4;
-        let end = path_at + 4 + 8 * self.segments.len() + 12 * hops;
-        assert!(end <= 1020, "the header of {name} is too long");
+    /// Where the path begins.
+    fn path_at(&self) -> usize {
+        28 + self.host.len() + 4
+    }
 
+    /// The two headers before a path of a type and a length.
+    fn headers(&self, path_type: u8, path_len: usize) -> Vec<u8> {
+        let end = self.path_at() + path_len;
+        assert!(end <= 1020, "the header is too long");
         let mut bytes = vec![0, 0, 0, 1, self.next_header, (end / 4) as u8];
         bytes.extend((self.payload.len() as u16).to_be_bytes());
-        bytes.extend([1, self.kinds, 0, 0]);
+        bytes.extend([path_type, self.kinds, 0, 0]);
         bytes.extend(self.destination.to_be_bytes());
         bytes.extend(self.source.to_be_bytes());
         bytes.extend(&self.host);
         bytes.extend([10, 1, 0, 5]);
+        bytes
+    }
+
+    /// The datagram on a path of one hop, from an interface of the AS where it begins. The second hop field is the one
+    /// that is made where it comes in by its link.
+    fn make_one_hop(self, name: &'static str, egress: u16, wanted: Decision) -> Datagram {
+        let id_at = (self.path_at() + 2) as u16;
+        let mut bytes = self.headers(2, 32);
+        bytes.extend(info_field(true, FIRST_ID));
+        bytes.extend(hop_field(FIRST_ID, 0, egress));
+        bytes.extend(hop_field(FIRST_ID, self.link, 0));
+        bytes.extend(&self.payload);
+        Datagram {
+            name,
+            bytes,
+            link: self.link,
+            source: self.from,
+            now: NOW,
+            wanted,
+            places: [id_at, id_at + 1, id_at, id_at + 1, id_at],
+        }
+    }
+
+    /// The datagram on its SCION path.
+    fn make(self, name: &'static str, wanted: Decision) -> Datagram {
+        let hops: usize = self.segments.iter().map(|segment| segment.len).sum();
+        let path_at = self.path_at();
+        let mut bytes = self.headers(1, 4 + 8 * self.segments.len() + 12 * hops);
 
         let mut infos = Vec::new();
         let mut fields = Vec::new();
@@ -148,7 +211,7 @@ impl Parts {
         let mut meta = (self.current as u32) << 24;
         for (j, segment) in self.segments.iter().enumerate() {
             meta |= (segment.len as u32) << (12 - 6 * j);
-            let mut id = 0x1234 + j as u16;
+            let mut id = FIRST_ID + j as u16;
             for position in 0..segment.len {
                 let mut hop = [0; 12];
                 hop[1] = 63;
@@ -156,13 +219,7 @@ impl Parts {
                 hop[4] = 0xa0;
                 hop[6..].copy_from_slice(&[0xa0, 0xa1, 0xa2, number as u8, 0xa4, 0xa5]);
                 if let Some((_, ingress, egress)) = segment.own.iter().find(|o| o.0 == position) {
-                    hop[2..4].copy_from_slice(&ingress.to_be_bytes());
-                    hop[4..6].copy_from_slice(&egress.to_be_bytes());
-                    let mut block = [0; 16];
-                    block[2..4].copy_from_slice(&id.to_be_bytes());
-                    block[4..8].copy_from_slice(&MADE.to_be_bytes());
-                    block[9..14].copy_from_slice(&hop[1..6]);
-                    hop[6..].copy_from_slice(&key.mac(&block));
+                    hop = hop_field(id, *ingress, *egress);
                     if number == self.current {
                         hop[0] = self.flags;
                         if self.link != 0 && !segment.along {
@@ -182,9 +239,7 @@ impl Parts {
                 fields.extend(hop);
                 number += 1;
             }
-            infos.extend([u8::from(segment.along), 0]);
-            infos.extend(id.to_be_bytes());
-            infos.extend(MADE.to_be_bytes());
+            infos.extend(info_field(segment.along, id));
         }
         bytes.extend(meta.to_be_bytes());
         bytes.extend(infos);
@@ -298,6 +353,139 @@ pub fn timed() -> Vec<Datagram> {
             "drop: underlay source",
             Decision::Drop(Cause::UnderlaySource),
         ),
+        parts(0, &[], 0)
+            .coming_from(LOCAL)
+            .make_one_hop("one hop, leaving", 2, sent(2)),
+        parts(1, &[], 0).for_host(0, &[10, 0, 0, 77]).make_one_hop(
+            "one hop, entering",
+            17,
+            sent_inside([10, 0, 0, 77], 30041),
+        ),
+    ]
+}
+
+/// One or more for each row of the table of one-hop paths.
+fn one_hops() -> Vec<Datagram> {
+    let dropped = Decision::Drop;
+    let out = |egress: u16, name, wanted| {
+        parts(0, &[], 0)
+            .coming_from(LOCAL)
+            .make_one_hop(name, egress, wanted)
+    };
+    let into = |name, kinds, host: &[u8], wanted| {
+        parts(1, &[], 0)
+            .for_host(kinds, host)
+            .make_one_hop(name, 17, wanted)
+    };
+    let leaving = out(2, "one hop, out", sent(2));
+    let to_host = sent_inside([10, 0, 0, 77], 30041);
+    let entering = into("one hop, in", 0, &[10, 0, 0, 77], to_host);
+    let from_inside =
+        |name, place, bytes: &[u8], cause| leaving.with(name, place, bytes, dropped(cause));
+    let from_outside =
+        |name, place, bytes: &[u8], cause| entering.with(name, place, bytes, dropped(cause));
+    let six = [0xfd, 0, 0, 0, 0, 0, 0, 0, 0, 0, 0, 0, 0, 0, 0, 0x77];
+    let mut long = leaving.clone();
+    long.name = "one hop, too long";
+    long.bytes.resize(9217, 0);
+    long.wanted = dropped(Cause::TooLong);
+    vec![
+        leaving.clone(),
+        entering.clone(),
+        entering.with("second hop field to be made", 56, &[0; 12], to_host),
+        leaving.with("another second hop field", 56, &[0xff; 12], sent(2)),
+        leaving.with("reserved bits", 36, &[0xfd, 0xff], sent(2)),
+        entering.with("reserved bits, in", 44, &[0xfc], to_host),
+        into("one hop, IPv6", 0x30, &six, sent_inside(six, 30041)),
+        into(
+            "one hop, service",
+            0x40,
+            &[0, 2, 0, 0],
+            sent_inside([10, 0, 0, 9], 30252),
+        ),
+        into(
+            "one hop, no such service",
+            0x40,
+            &[0, 9, 0, 0],
+            dropped(Cause::OneHopHost),
+        ),
+        into(
+            "one hop, no such kind of host",
+            0x80,
+            &[0, 2, 0, 0],
+            dropped(Cause::OneHopHost),
+        ),
+        long,
+        leaving.cut("one hop, 11 bytes", 11, dropped(Cause::Short)),
+        leaving.cut("one hop, cut", 67, dropped(Cause::Short)),
+        from_inside("one hop, version", 0, &[16], Cause::Version),
+        from_inside("one hop, header length", 5, &[8], Cause::Header),
+        from_inside("one hop, path length", 5, &[16], Cause::Header),
+        from_inside("one hop, peering", 36, &[3], Cause::Peering),
+        from_inside("one hop, peering and against", 36, &[2], Cause::Peering),
+        from_inside("one hop, against", 36, &[0], Cause::Path),
+        from_inside("one hop, payload length", 7, &[9], Cause::Header),
+        Datagram {
+            name: "one hop, no neighbour",
+            link: 3,
+            wanted: dropped(Cause::PathType),
+            ..entering.clone()
+        },
+        Datagram {
+            name: "one hop, by another router",
+            source: at(1, 3, 40000),
+            wanted: dropped(Cause::UnderlaySource),
+            ..entering.clone()
+        },
+        from_outside(
+            "one hop, for another AS",
+            12,
+            &SENDER.to_be_bytes(),
+            Cause::OneHopEnds,
+        ),
+        from_outside(
+            "one hop, from another AS",
+            20,
+            &RECEIVER.to_be_bytes(),
+            Cause::OneHopEnds,
+        ),
+        from_inside(
+            "one hop, from elsewhere",
+            20,
+            &SENDER.to_be_bytes(),
+            Cause::OneHopEnds,
+        ),
+        from_outside("BFD", 4, &[203], Cause::OneHopHost),
+        leaving.with("BFD from inside", 4, &[203], sent(2)),
+        out(3, "out by no neighbour", dropped(Cause::OneHopField)),
+        out(4, "out by a sibling", dropped(Cause::OneHopField)),
+        out(9, "out by no link", dropped(Cause::OneHopField)),
+        from_inside("comes from elsewhere", 47, &[1], Cause::OneHopField),
+        out(1, "for the other neighbour", dropped(Cause::OneHopEnds)),
+        leaving.moment("one hop, last second", 1694520416, sent(2)),
+        leaving.moment("one hop, expired", 1694520417, dropped(Cause::OneHopField)),
+        leaving.moment(
+            "one hop, far too late",
+            u64::MAX,
+            dropped(Cause::OneHopField),
+        ),
+        leaving.moment("300 seconds ahead", u64::from(MADE) - 300, sent(2)),
+        leaving.moment(
+            "301 seconds ahead",
+            u64::from(MADE) - 301,
+            dropped(Cause::OneHopField),
+        ),
+        entering.moment(
+            "expired on entering",
+            1694520417,
+            dropped(Cause::OneHopField),
+        ),
+        entering.moment(
+            "ahead on entering",
+            u64::from(MADE) - 301,
+            dropped(Cause::OneHopField),
+        ),
+        from_inside("one hop, wrong MAC", 55, &[0], Cause::OneHopField),
     ]
 }
 
@@ -443,5 +631,6 @@ pub fn compared() -> Vec<Datagram> {
     long.bytes.resize(9217, 0);
     long.wanted = dropped(Cause::TooLong);
     all.push(long);
+    all.extend(one_hops());
     all
 }

@@ -8,7 +8,7 @@ mod plain;
 mod proved;
 
 use cipher::{BlockCmac, HopMac};
-use datagrams::{Datagram, KEY, at, compared, timed};
+use datagrams::{Datagram, KEY, RECEIVER, SENDER, at, compared, timed};
 use plain::{Config, Decision, Link, LinkKind, Service, Sibling, decide};
 use proved::{Arrived, Told};
 use std::hint::black_box;
@@ -21,10 +21,11 @@ const DECISIONS: usize = 9600;
 const TRIES: usize = 150;
 
 fn config<M: HopMac>() -> Config<M> {
-    let link = |id, kind| Link {
+    let link = |id, kind, neighbor| Link {
         id,
         kind,
         remote: at(id as u8, 2, 40000),
+        neighbor,
     };
     Config {
         isd: 1,
@@ -32,9 +33,9 @@ fn config<M: HopMac>() -> Config<M> {
         key: M::new(&KEY),
         host_port: 30041,
         links: vec![
-            link(1, LinkKind::Parent),
-            link(2, LinkKind::Child),
-            link(3, LinkKind::Core),
+            link(1, LinkKind::Parent, Some(SENDER)),
+            link(2, LinkKind::Child, Some(RECEIVER)),
+            link(3, LinkKind::Core, None),
         ],
         siblings: vec![Sibling {
             id: 4,
@@ -187,8 +188,6 @@ fn compare(datagram: &Datagram) {
         let other = decide(&config, datagram.link, source, datagram.now, &mut bytes);
         assert_eq!(other, decision, "OpenSSL, {name}");
     }
-    arrivals[0].restore(&mut proved_bytes);
-    assert_eq!(proved_bytes, datagram.bytes, "restored bytes, {name}");
 }
 
 type Rounds = fn(u64, &[Arrived], &mut [u8]) -> u64;

@@ -5,6 +5,16 @@ use std::net::IpAddr;
 
 const LONGEST: usize = 9216;
 
+/// The path types of SCION paths and of paths of one hop.
+pub const SCION_PATH: u8 = 1;
+pub const ONE_HOP_PATH: u8 = 2;
+
+/// The protocol number of BFD messages.
+const BFD: u8 = 203;
+
+/// The most seconds by which the timestamp of a path of one hop may be ahead of the moment.
+const MOST_AHEAD: u64 = 300;
+
 #[derive(Clone, Copy, Debug, PartialEq, Eq)]
 pub struct Underlay {
     pub ip: IpAddr,
@@ -22,6 +32,8 @@ pub struct Link {
     pub id: u16,
     pub kind: LinkKind,
     pub remote: Underlay,
+    /// The AS at its other end, the ISD in the upper 16 bits, if one-hop paths are carried over it.
+    pub neighbor: Option<u64>,
 }
 
 pub struct Sibling {
@@ -57,6 +69,9 @@ pub enum Cause {
     UnderlaySource,
     PathEnd,
     TooLong = 11,
+    OneHopEnds = 19,
+    OneHopField,
+    OneHopHost,
 }
 
 #[derive(Clone, Copy, Debug, PartialEq, Eq)]
@@ -72,6 +87,11 @@ fn u16_at(bytes: &[u8], at: usize) -> u16 {
 
 fn u32_at(bytes: &[u8], at: usize) -> u32 {
     u32::from_be_bytes(bytes[at..at + 4].try_into().unwrap())
+}
+
+/// An AS, the ISD in the upper 16 bits.
+fn domain_at(bytes: &[u8], at: usize) -> u64 {
+    u64::from_be_bytes(bytes[at..at + 8].try_into().unwrap())
 }
 
 fn problem(code: u8, pointer: usize) -> Decision {
@@ -149,14 +169,32 @@ impl Hop {
         self.segment_id ^ u16::from_be_bytes([self.mac[0], self.mac[1]])
     }
 
-    fn is_authentic<M: HopMac>(&self, key: &M) -> bool {
+    fn mac_by<M: HopMac>(&self, key: &M) -> [u8; 6] {
         let mut block = [0; 16];
         block[2..4].copy_from_slice(&self.segment_id.to_be_bytes());
         block[4..8].copy_from_slice(&self.timestamp.to_be_bytes());
         block[9] = self.expiry;
         block[10..12].copy_from_slice(&self.construction_ingress.to_be_bytes());
         block[12..14].copy_from_slice(&self.construction_egress.to_be_bytes());
-        key.mac(&block) == self.mac
+        key.mac(&block)
+    }
+
+    fn is_authentic<M: HopMac>(&self, key: &M) -> bool {
+        self.mac_by(key) == self.mac
+    }
+
+    /// The next hop field of a path of one hop, made where the packet comes in by a link.
+    fn second<M: HopMac>(&self, link: u16, key: &M) -> [u8; 12] {
+        let made = Hop {
+            construction_ingress: link,
+            construction_egress: 0,
+            ..*self
+        };
+        let mut bytes = [0; 12];
+        bytes[1] = made.expiry;
+        bytes[2..4].copy_from_slice(&link.to_be_bytes());
+        bytes[6..].copy_from_slice(&made.mac_by(key));
+        bytes
     }
 }
 
@@ -200,47 +238,93 @@ impl<M> Config<M> {
     }
 
     fn is_local(&self, bytes: &[u8], at: usize) -> bool {
-        let address = u64::from_be_bytes(bytes[at..at + 8].try_into().unwrap());
-        address == u64::from(self.isd) << 48 | self.autonomous_system
+        domain_at(bytes, at) == u64::from(self.isd) << 48 | self.autonomous_system
     }
 
-    fn delivered(&self, bytes: &[u8]) -> Decision {
-        let host = |ip| {
-            Some(Underlay {
-                ip,
-                port: self.host_port,
-            })
-        };
-        let to = match bytes[9] >> 4 {
+    /// The AS at the other end of a link over which one-hop paths are carried.
+    fn neighbor(&self, link: u16) -> Option<u64> {
+        self.link(link).and_then(|own| own.neighbor)
+    }
+
+    /// Whether one-hop paths are taken from a link; 0 is the internal network.
+    fn takes_one_hop(&self, link: u16) -> bool {
+        if link == 0 {
+            self.links.iter().any(|own| own.neighbor.is_some())
+        } else {
+            self.neighbor(link).is_some()
+        }
+    }
+
+    /// Whether a datagram is decided as one on a path of one hop.
+    pub fn is_one_hop(&self, link: u16, bytes: &[u8]) -> bool {
+        bytes.len() > 8 && bytes[8] == ONE_HOP_PATH && self.takes_one_hop(link)
+    }
+
+    /// Where the destination is reached in this AS.
+    fn host_at(&self, bytes: &[u8]) -> Option<Underlay> {
+        let ip: IpAddr = match bytes[9] >> 4 {
             0b0000 => {
                 let four: [u8; 4] = bytes[28..32].try_into().unwrap();
-                host(four.into())
+                four.into()
             }
             0b0011 => {
                 let sixteen: [u8; 16] = bytes[28..44].try_into().unwrap();
-                host(sixteen.into())
+                sixteen.into()
             }
             0b0100 => {
                 let number = u16_at(bytes, 28);
-                match self
+                return self
                     .services
                     .iter()
                     .find(|service| service.number == number)
-                {
-                    Some(service) => Some(service.at),
-                    None => {
-                        return Decision::Answer {
-                            kind: 1,
-                            code: 0,
-                            pointer: 0,
-                        };
-                    }
-                }
+                    .map(|service| service.at);
             }
-            _ => return problem(21, 9),
+            _ => return None,
         };
-        Decision::Send { link: 0, to }
+        Some(Underlay {
+            ip,
+            port: self.host_port,
+        })
     }
+
+    fn delivered(&self, bytes: &[u8]) -> Decision {
+        match self.host_at(bytes) {
+            to @ Some(_) => Decision::Send { link: 0, to },
+            None if bytes[9] >> 4 == 0b0100 => Decision::Answer {
+                kind: 1,
+                code: 0,
+                pointer: 0,
+            },
+            None => problem(21, 9),
+        }
+    }
+}
+
+/// Where the addresses and the header of a datagram end, whose path is to be of this type.
+#[inline(always)]
+pub fn header_ends(path_type: u8, bytes: &[u8]) -> Result<(usize, usize), Cause> {
+    if bytes.len() > LONGEST {
+        return Err(Cause::TooLong);
+    }
+    if bytes.len() < 12 {
+        return Err(Cause::Short);
+    }
+    if bytes[0] >> 4 != 0 {
+        return Err(Cause::Version);
+    }
+    if bytes[8] != path_type {
+        return Err(Cause::PathType);
+    }
+    let kinds = bytes[9];
+    let path_at = 36 + 4 * usize::from(kinds >> 4 & 3) + 4 * usize::from(kinds & 3);
+    let end = 4 * usize::from(bytes[5]);
+    if end < path_at {
+        return Err(Cause::Header);
+    }
+    if bytes.len() < end {
+        return Err(Cause::Short);
+    }
+    Ok((path_at, end))
 }
 
 /// What is done with a datagram; where it is sent, its bytes are those that leave.
@@ -251,28 +335,94 @@ pub fn decide<M: HopMac>(
     now: u64,
     bytes: &mut [u8],
 ) -> Decision {
-    if bytes.len() > LONGEST {
-        return Decision::Drop(Cause::TooLong);
+    if config.is_one_hop(link, bytes) {
+        return decide_one_hop(config, link, source, now, bytes).unwrap_or_else(Decision::Drop);
     }
-    if bytes.len() < 12 {
-        return Decision::Drop(Cause::Short);
+    decide_scion(config, link, source, now, bytes)
+}
+
+/// The same on a path of one hop. It is never answered.
+fn decide_one_hop<M: HopMac>(
+    config: &Config<M>,
+    link: u16,
+    source: Underlay,
+    now: u64,
+    bytes: &mut [u8],
+) -> Result<Decision, Cause> {
+    let (path_at, end) = header_ends(ONE_HOP_PATH, bytes)?;
+    if end - path_at != 32 {
+        return Err(Cause::Header);
     }
-    if bytes[0] >> 4 != 0 {
-        return Decision::Drop(Cause::Version);
+    let flags = bytes[path_at];
+    if flags & 2 != 0 {
+        return Err(Cause::Peering);
     }
-    if bytes[8] != 1 {
-        return Decision::Drop(Cause::PathType);
+    if flags & 1 == 0 {
+        return Err(Cause::Path);
     }
-    let kinds = bytes[9];
-    let path_at = 36 + 4 * usize::from(kinds >> 4 & 3) + 4 * usize::from(kinds & 3);
-    let end = 4 * usize::from(bytes[5]);
-    if end < path_at {
-        return Decision::Drop(Cause::Header);
-    }
-    if bytes.len() < end {
-        return Decision::Drop(Cause::Short);
+    if usize::from(u16_at(bytes, 6)) != bytes.len() - end {
+        return Err(Cause::Header);
     }
 
+    let external = link != 0;
+    let hop = Hop::read(bytes, path_at, path_at + 8);
+    if external {
+        let own = config.link(link);
+        if !own.is_some_and(|own| own.remote == source) {
+            return Err(Cause::UnderlaySource);
+        }
+        if !config.is_local(bytes, 12) || config.neighbor(link) != Some(domain_at(bytes, 20)) {
+            return Err(Cause::OneHopEnds);
+        }
+        if bytes[4] == BFD {
+            return Err(Cause::OneHopHost);
+        }
+    } else {
+        if !config.is_local(bytes, 20) {
+            return Err(Cause::OneHopEnds);
+        }
+        let there = config.neighbor(hop.construction_egress);
+        if there.is_none() || hop.construction_ingress != 0 {
+            return Err(Cause::OneHopField);
+        }
+        if there != Some(domain_at(bytes, 12)) {
+            return Err(Cause::OneHopEnds);
+        }
+    }
+    if hop.is_expired(now) || u64::from(hop.timestamp) > now.saturating_add(MOST_AHEAD) {
+        return Err(Cause::OneHopField);
+    }
+
+    if external {
+        let to = config.host_at(bytes);
+        if to.is_none() {
+            return Err(Cause::OneHopHost);
+        }
+        bytes[end - 12..end].copy_from_slice(&hop.second(link, &config.key));
+        return Ok(Decision::Send { link: 0, to });
+    }
+    if !hop.is_authentic(&config.key) {
+        return Err(Cause::OneHopField);
+    }
+    bytes[path_at + 2..path_at + 4].copy_from_slice(&hop.chained().to_be_bytes());
+    Ok(Decision::Send {
+        link: hop.construction_egress,
+        to: None,
+    })
+}
+
+/// The same on a SCION path.
+fn decide_scion<M: HopMac>(
+    config: &Config<M>,
+    link: u16,
+    source: Underlay,
+    now: u64,
+    bytes: &mut [u8],
+) -> Decision {
+    let (path_at, end) = match header_ends(SCION_PATH, bytes) {
+        Ok(ends) => ends,
+        Err(cause) => return Decision::Drop(cause),
+    };
     if end - path_at < 4 {
         return Decision::Drop(Cause::Header);
     }

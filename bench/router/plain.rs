@@ -87,6 +87,7 @@ fn router(links: u16, processors: u32) -> Router {
             ip: HERE,
             port: 42000 + id,
         },
+        neighbor: None,
     };
     let config = Config {
         isd: 1,

@@ -51,6 +51,7 @@ fn router() -> Router {
         id,
         kind,
         remote: at(id as u8, 2, 40000),
+        neighbor: None,
     };
     let config = Config {
         isd: 1,

@@ -1,10 +1,11 @@
-//! The border router that decides: three links, one other router, one service.
+//! The border router that decides: three links, two of which carry one-hop paths, one other router, one service.
 
 ghost use Rattle.std.specs.Prelude.{◌≡◌};
 
 use cmac_core::Cmac;
 use process_packet::{Bands, Config, Ip, Link, Service, Sibling, Underlay};
 use sample_packets::KEY;
+use scion_header::Domain;
 use segment_switch::LinkKind;
 use std::alloc::{AllocError, Global};
 
@@ -18,8 +19,16 @@ fn at(net: u8, host: u8, port: u16) -> Underlay
     }
 }
 
+/// The AS 1-ff00:0:110, and those after it.
+fn domain(after: u8) -> Domain {
+    Domain {
+        isd: 1,
+        autonomous_system: 0xff00_0000_0110 + u64::from(after),
+    }
+}
+
 /// The link with this number, whose two ends are in the network of that number.
-fn link(id: u8, kind: LinkKind) -> Link
+fn link(id: u8, kind: LinkKind, neighbor: Option<Domain>) -> Link
     ensures id { result.id ≡ id }
     ensures local { result.local.port ≡ 40000 }
     ensures remote { result.remote.port ≡ 40000 }
@@ -30,7 +39,7 @@ fn link(id: u8, kind: LinkKind) -> Link
         local: at(id, 1, 40000),
         remote: at(id, 2, 40000),
         bands: Bands::One,
-        neighbor: None,
+        neighbor,
         bfd: false,
     }
 }
@@ -38,9 +47,9 @@ fn link(id: u8, kind: LinkKind) -> Link
 /// The configuration of 1-ff00:0:110.
 pub(crate) fn border(alloc: Global) -> Result<Config, AllocError> {
     let links = vec![in alloc;
-        link(1, LinkKind::Parent),
-        link(2, LinkKind::Child),
-        link(3, LinkKind::Core),
+        link(1, LinkKind::Parent, Some(domain(1))),
+        link(2, LinkKind::Child, Some(domain(2))),
+        link(3, LinkKind::Core, None),
     ]?;
     let siblings = vec![in alloc;
         Sibling {
