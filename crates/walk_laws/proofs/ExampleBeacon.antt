@@ -109,7 +109,7 @@ short : length (one_hop_spelling beacon) ≤ 9216
 short = let n = size in omega arith
 
 known : IsKnown child_router beacon.header.destination
-known = record { at = record { ip = V4 (10 ∷ 2 ∷ 0 ∷ 7 ∷ []); port = 30041 }; reached = IsReachedAt.ip_4 refl refl }
+known = record { at = λ port. record { ip = V4 (10 ∷ 2 ∷ 0 ∷ 7 ∷ []); port = port }; reached = λ port. IsReachedAt.ip_4 refl refl }
 
 starts : LawfulOneHopStart both moment start
 starts = record {

@@ -73,7 +73,7 @@ ids (suc zero) there = refl
 ids (suc (suc k)) there = absurd (omega arith)
 
 known : (x : Router) → IsKnown x descent_packet.header.destination
-known x = record { at = record { ip = V4 (10 ∷ 2 ∷ 0 ∷ 7 ∷ []); port = x.network.host_port }; reached = IsReachedAt.ip_4 refl refl }
+known x = record { at = λ port. record { ip = V4 (10 ∷ 2 ∷ 0 ∷ 7 ∷ []); port = port }; reached = λ port. IsReachedAt.ip_4 refl refl }
 
 size : length (spelling descent_packet) ≡ 112
 unfolding tag_from first_blocks cipher

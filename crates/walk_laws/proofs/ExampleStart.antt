@@ -76,7 +76,7 @@ ids zero there = refl
 ids (suc k) there = absurd (omega arith)
 
 known : (x : Router) → IsKnown x example_packet.header.destination
-known x = record { at = record { ip = V4 (10 ∷ 2 ∷ 0 ∷ 7 ∷ []); port = x.network.host_port }; reached = IsReachedAt.ip_4 refl refl }
+known x = record { at = λ port. record { ip = V4 (10 ∷ 2 ∷ 0 ∷ 7 ∷ []); port = port }; reached = λ port. IsReachedAt.ip_4 refl refl }
 
 size : length (spelling example_packet) ≡ 92
 unfolding tag_from first_blocks cipher

@@ -9,6 +9,7 @@ use Rattle.process_packet.specs.Underlay.{longest_datagram}
 use Rattle.process_packet.specs.Rows.{Sent}
 use Rattle.walk_laws.specs.Stretch.{beta_met}
 use Rattle.walk_laws.specs.PathSegments.{AreUnexpired, HaveByteMacs, PathSegment, IsMet, IsPathOver, met, part, route_over, segments_of, stretch_of}
+use Rattle.process_packet.specs.HostPort.{host_port_of}
 use Rattle.process_packet.specs.Hosts.{IsReachedAt}
 use Rattle.walk_laws.specs.Net.{Agrees, Net, Router, router_at}
 use Rattle.walk_laws.specs.Configured.{AreNumbered}
@@ -28,10 +29,11 @@ pub data IsIpHost : HostAddress → Type 0 where
   ip_4 : {a : HostAddress} → a.kind ≡ 0 → host_code a ≡ 0 → IsIpHost a
   ip_6 : {a : HostAddress} → a.kind ≡ 0 → host_code a ≡ 3 → IsIpHost a
 
--- The router knows where the host is reached: an IPv4 or IPv6 host at its own address, a service at the one that the AS configures.
+-- The router knows where the host is reached, by the port at which it listens: an IPv4 or IPv6 host at its own address and this port,
+-- a service at the address that the AS configures.
 pub record IsKnown (x : Router) (a : HostAddress) : Type 0 where
-  pub at : Underlay
-  pub reached : IsReachedAt x.network a at
+  pub at : ℕ → Underlay
+  pub reached : (port : ℕ) → IsReachedAt x.network port a (at port)
 
 -- ---- the start
 
@@ -71,7 +73,7 @@ pub record LawfulStart (net : Net) (ss : List PathSegment) (moment : ℕ) (a : P
 -- ---- what becomes of it
 
 -- The walk ends in delivery: the packet comes from outside to a router of the host's AS, which sends it, on link 0, to the
--- host's address, with the header and the payload that it had.
+-- host's address and the port of the application that it is for, with the header and the payload that it had.
 pub record ReachesHost (net : Net) (moment n : ℕ) (a : PacketAt) (host : HostAddress) : Type 0 where
   pub end : PacketAt
   pub walk : Walks net moment n a end
@@ -81,7 +83,7 @@ pub record ReachesHost (net : Net) (moment n : ℕ) (a : PacketAt) (host : HostA
   pub lawful : IsPacket end.packet
   pub for_us : is_for_us (packet_state here.network end moment (spelling end.packet)) ≡ true
   pub to : Underlay
-  pub address : IsReachedAt here.network host to
+  pub address : IsReachedAt here.network (host_port_of here.network a.packet.header.next_header a.packet.payload) host to
   pub sent : Packet
   pub delivery : verdict_at here end moment ≡ Sent 0 (Some to) sent
   pub header : sent.header ≡ a.packet.header
