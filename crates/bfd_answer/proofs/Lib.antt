@@ -1,0 +1,3 @@
+pub mod PacketLemmas
+pub mod CrossingLemmas
+pub mod Example
