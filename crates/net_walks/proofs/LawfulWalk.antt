@@ -16,7 +16,10 @@ use Rattle.scmp_answer.specs.Reply.{answer_packet, is_left_unanswered, local_add
 use Rattle.scmp_answer.specs.Reply as answers
 use Rattle.scmp_answer.specs.WayBack.{has_no_way_back, is_external, is_first_of_segment, way_back}
 use Rattle.walk_laws.specs.PathSegments.{PathSegment, route_over}
-use Rattle.process_packet.specs.Hosts.{IsReachedAt}
+use Rattle.process_packet.specs.HostPort.{host_port_of}
+use Rattle.process_packet.specs.Hosts.{IsDeliveredAt as IsDeliveredTo, IsReachedAt}
+use Rattle.process_packet.specs.Network.{Network}
+use Rattle.process_packet.specs.declared.underlay.Underlay.{Underlay}
 use Rattle.walk_laws.specs.Configured.{AreNumbered}
 use Rattle.walk_laws.specs.LawfulStart.{IsIpHost, IsKnown, ReachesHost, SetsOutOn, WalksBy}
 use Rattle.net_walks.specs.Walked.{IsAnswerable, IsLawfulStop, IsAnswered, IsAskedOnTheWay, IsCarriedBack, IsWalked}
@@ -104,13 +107,22 @@ for_its_as b x moment outside home =
 
 -- an IPv4 or IPv6 host is known everywhere
 host_known : (x : Router) (a : HostAddress) → IsIpHost a → IsKnown x a
-host_known x a (IsIpHost.ip_4 kind code) = record { at = record { ip = V4 a.host; port = x.network.host_port }; reached = IsReachedAt.ip_4 kind code }
-host_known x a (IsIpHost.ip_6 kind code) = record { at = record { ip = V6 a.host; port = x.network.host_port }; reached = IsReachedAt.ip_6 kind code }
+host_known x a (IsIpHost.ip_4 kind code) = record { at = λ port. record { ip = V4 a.host; port = port }; reached = λ port. IsReachedAt.ip_4 kind code }
+host_known x a (IsIpHost.ip_6 kind code) = record { at = λ port. record { ip = V6 a.host; port = port }; reached = λ port. IsReachedAt.ip_6 kind code }
+
+-- the host and the port are those of the header and the payload with which it set out
+reached_as : (n : Network) (p q : Packet) (host : HostAddress) (to : Underlay) → p.header ≡ q.header → p.payload ≡ q.payload → p.header.destination ≡ host
+    → IsReachedAt n (host_port_of n q.header.next_header q.payload) host to → IsDeliveredTo n p.header p.payload to
+reached_as n p q host to header payload there is =
+    subst (λ (a : HostAddress). IsReachedAt n (host_port_of n p.header.next_header p.payload) a to) (sym there)
+    (subst (λ (h : HeaderFields). IsReachedAt n (host_port_of n h.next_header p.payload) host to) (sym header)
+    (subst (λ (t : List ℕ). IsReachedAt n (host_port_of n q.header.next_header t) host to) (sym payload) is))
 
 reaches : (net : Net) (w : Route) (from : Place) (moment n : ℕ) (a : PacketAt) (host : HostAddress) (d : IsDelivered net w from moment n a) → a.packet.header.destination ≡ host
     → IsKnown d.here host → ReachesHost net moment n a host
 reaches net w from moment n a host d same known =
     let p : Packet = packet (turned (packet_state d.here.network d.end moment (spelling d.end.packet))) in
+    let port = host_port_of d.here.network a.packet.header.next_header a.packet.payload in
     record {
       end = d.end;
       walk = d.walk;
@@ -120,10 +132,11 @@ reaches net w from moment n a host d same known =
       lawful = d.stands.way.lawful;
       for_us = for_its_as d.end d.here moment (from_outside net w from d.end d.stands d.last)
           (at_home net w from d.end d.here d.end.packet.header.destination d.stands d.here_is d.last refl);
-      to = known.at;
-      address = known.reached;
+      to = known.at port;
+      address = known.reached port;
       sent = p;
-      delivery = d.delivery ∙ is_reached d.here.network p host known.at (ap (λ (h : HeaderFields). h.destination) d.header ∙ same) known.reached;
+      delivery = d.delivery ∙ is_reached d.here.network p (known.at port)
+          (reached_as d.here.network p a.packet host (known.at port) d.header d.payload (ap (λ (h : HeaderFields). h.destination) d.header ∙ same) (known.reached port));
       header = d.header;
       payload = d.payload;
     }
@@ -326,6 +339,7 @@ module _ (net : Net) (ss : List PathSegment) (moment : ℕ) (a : PacketAt) (agre
   ended e delivery last home =
       let known : IsKnown e.here a.packet.header.destination = s.to_host e.end.router e.here e.here_is (subst (λ (p : Place). IsOf e.here (w.home p)) (end_is net ss moment a agrees numbered are s) home) in
       let p : Packet = packet (turned (packet_state e.here.network e.end moment (spelling e.end.packet))) in
+      let port = host_port_of e.here.network a.packet.header.next_header a.packet.payload in
       let reached : ReachesHost net moment 127 a a.packet.header.destination = record {
         end = e.end;
         walk = plain e.walk;
@@ -335,10 +349,11 @@ module _ (net : Net) (ss : List PathSegment) (moment : ℕ) (a : PacketAt) (agre
         lawful = e.passed.stands.way.lawful;
         for_us = for_its_as e.end e.here moment (from_outside net w outset e.end e.passed.stands last)
             (at_home net w outset e.end e.here e.end.packet.header.destination e.passed.stands e.here_is last refl);
-        to = known.at;
-        address = known.reached;
+        to = known.at port;
+        address = known.reached port;
         sent = p;
-        delivery = delivery ∙ is_reached e.here.network p a.packet.header.destination known.at (ap (λ (h : HeaderFields). h.destination) e.passed.header) known.reached;
+        delivery = delivery ∙ is_reached e.here.network p (known.at port)
+            (reached_as e.here.network p a.packet a.packet.header.destination (known.at port) e.passed.header e.passed.payload (ap (λ (h : HeaderFields). h.destination) e.passed.header) (known.reached port));
         header = e.passed.header;
         payload = e.passed.payload;
       } in

@@ -23,6 +23,7 @@ use Rattle.process_packet.specs.declared.neighbours.Link.{Link}
 use Rattle.process_packet.specs.declared.underlay.Underlay.{Underlay}
 use Rattle.process_packet.specs.Conditions.{IsInTime}
 use Rattle.process_packet.specs.Decide.{decide, moved}
+use Rattle.process_packet.specs.HostPort.{host_port_of}
 use Rattle.process_packet.specs.Hosts.{IsReachedAt}
 use Rattle.process_packet.specs.Network.{Network, is_local, own_link}
 use Rattle.process_packet.specs.OneHopLaws.{IsChained, LeavesAs, MayEnterTo, MayLeaveBy}
@@ -184,7 +185,13 @@ module _ (net : Net) (moment : ℕ) (a : OneHopAt)
   as_long : length left ≡ length bytes
   as_long = (differ_in_place near.network a.link a.source moment bytes out None are type_there leaves).count
 
-  may_enter : MayEnterTo (one_hop_arrives far.network s.entry.link source moment left) s.known.at
+  abbrev port : ℕ
+  port = host_port_of far.network a.packet.header.next_header a.packet.payload
+
+  abbrev reached_at : Underlay
+  reached_at = s.known.at port
+
+  may_enter : MayEnterTo (one_hop_arrives far.network s.entry.link source moment left) reached_at
   may_enter =
       let same : middle.header ≡ a.packet.header = on_wire.same.header in
       let payload : middle.payload ≡ a.packet.payload = on_wire.same.payload in
@@ -212,13 +219,15 @@ module _ (net : Net) (moment : ℕ) (a : OneHopAt)
           ap (λ (h : HeaderFields). h.destination.autonomous_system) same ∙ s.destination.autonomous_system,
         );
         other = λ bfd. s.other (sym (ap (λ (h : HeaderFields). h.next_header) same) ∙ bfd);
-        reached = subst (λ (h : HeaderFields). IsReachedAt far.network h.destination s.known.at) (sym same) s.known.reached;
+        reached = subst (λ (h : HeaderFields). IsReachedAt far.network (host_port_of far.network h.next_header middle.payload) h.destination reached_at) (sym same)
+            (subst (λ (t : List ℕ). IsReachedAt far.network (host_port_of far.network a.packet.header.next_header t) a.packet.header.destination reached_at) (sym payload)
+            (s.known.reached port));
       }
 
-  enters_left : decide far.network s.entry.link source moment left ≡ decision.Send 0 (Some s.known.at)
-  enters_left = all_enter.every far.network s.entry.link source moment left s.known.at may_enter
+  enters_left : decide far.network s.entry.link source moment left ≡ decision.Send 0 (Some reached_at)
+  enters_left = all_enter.every far.network s.entry.link source moment left reached_at may_enter
 
-  enters : decide far.network s.entry.link source moment (one_hop_spelling middle) ≡ decision.Send 0 (Some s.known.at)
+  enters : decide far.network s.entry.link source moment (one_hop_spelling middle) ≡ decision.Send 0 (Some reached_at)
   enters = ap (decide far.network s.entry.link source moment) (sym left_text.text) ∙ enters_left
 
   abbrev there : OneHopState
@@ -236,8 +245,8 @@ module _ (net : Net) (moment : ℕ) (a : OneHopAt)
   -- what the table sends is this packet
   entered_is : entered ≡ one_hop_spelling delivered
   entered_is =
-      let sends = table_sends far.network s.entry.link source moment left 0 (Some s.known.at) type_left enters_left in
-      let is = sent_in far.network s.entry.link source moment left 0 (Some s.known.at) sends.packet outside sends.verdict in
+      let sends = table_sends far.network s.entry.link source moment left 0 (Some reached_at) type_left enters_left in
+      let is = sent_in far.network s.entry.link source moment left 0 (Some reached_at) sends.packet outside sends.verdict in
       sends.left ∙ ap one_hop_spelling (sym is.packet)
 
   -- the stops
@@ -257,7 +266,7 @@ module _ (net : Net) (moment : ℕ) (a : OneHopAt)
       let t = one_hop_spelling middle in
       ap (next_from net moment (one_hop_came_of crossing)) s.far.there
       ∙ ap (λ (e : Decision). carried_on net (one_hop_came_of crossing) e (moved far.network s.entry.link source moment t) (Some far)) enters
-      ∙ within_host net.routers far (one_hop_came_of crossing) s.known.at (moved far.network s.entry.link source moment t)
+      ∙ within_host net.routers far (one_hop_came_of crossing) reached_at (moved far.network s.entry.link source moment t)
       (ap (is_for_host far.network s.entry.link) (sym left_text.text) ∙ for_host far.network s.entry.link left middle refl left_as.sound outside may_enter.destination.0 may_enter.destination.1)
 
   pub stops_are : stops_from net moment 128 (Some (one_hop_came_of a)) ≡ one_hop_came_of a ∷ one_hop_came_of crossing ∷ []
@@ -331,8 +340,8 @@ module _ (net : Net) (moment : ℕ) (a : OneHopAt)
       far = far;
       far_is = s.far.there;
       home = record { isd = s.destination.isd; autonomous_system = s.destination.autonomous_system };
-      to = s.known.at;
-      address = s.known.reached;
+      to = reached_at;
+      address = s.known.reached port;
       enters = enters;
       delivered = delivered;
       entered = ap (moved far.network s.entry.link source moment) (sym left_text.text) ∙ entered_is;

@@ -11,6 +11,7 @@ use Rattle.process_packet.specs.declared.decision.Decision.TheVariants as decisi
 use Rattle.process_packet.specs.declared.neighbours.Link.{Link}
 use Rattle.process_packet.specs.declared.underlay.Underlay.{Underlay}
 use Rattle.process_packet.specs.Decide.{decide, moved}
+use Rattle.process_packet.specs.HostPort.{host_port_of}
 use Rattle.process_packet.specs.Hosts.{IsReachedAt}
 use Rattle.process_packet.specs.Network.{own_link}
 use Rattle.process_packet.specs.Underlay.{longest_datagram}
@@ -35,7 +36,8 @@ one_hop_starts_at router a p = record { router = router; link = a.link; source =
 -- ---- beacons cross
 
 -- In two stops. At the first one the packet leaves by the link that its first hop field names, and comes over its wire to a router
--- of another AS. That one sends it, on link 0, to its host or service, with the header and the payload with which it set out. Both
+-- of another AS. That one sends it, on link 0, to its service or host, at the port of the application that it is for, with the
+-- header and the payload with which it set out. Both
 -- hop fields are beaconed then, with the keys of both ASes, from the identifier on with which it set out. And over a core link or
 -- one from parent to child they are a path back between two ASes, for as long as the first one is good.
 pub record Crosses (net : Net) (moment : ℕ) (start : OneHopAt) (stops : List Came) : Type 0 where
@@ -52,7 +54,7 @@ pub record Crosses (net : Net) (moment : ℕ) (start : OneHopAt) (stops : List C
   pub far_is : router_at net crossing.router ≡ Some far
   pub home : IsHostOf start.packet.header.destination (domain_of far)
   pub to : Underlay
-  pub address : IsReachedAt far.network start.packet.header.destination to
+  pub address : IsReachedAt far.network (host_port_of far.network start.packet.header.next_header start.packet.payload) start.packet.header.destination to
   pub enters : decide far.network crossing.link crossing.source moment (one_hop_spelling crossing.packet) ≡ decision.Send 0 (Some to)
   pub delivered : OneHopPacket
   pub entered : moved far.network crossing.link crossing.source moment (one_hop_spelling crossing.packet) ≡ one_hop_spelling delivered

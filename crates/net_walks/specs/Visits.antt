@@ -8,6 +8,7 @@ use Rattle.process_packet.specs.declared.arrival.Arrival.{Arrival}
 use Rattle.process_packet.specs.declared.decision.Decision.TheVariants as decision
 use Rattle.process_packet.specs.declared.underlay.Underlay.{Underlay}
 use Rattle.walk_laws.specs.Domain.{domain_of}
+use Rattle.process_packet.specs.HostPort.{host_port_of}
 use Rattle.process_packet.specs.Hosts.{IsReachedAt}
 use Rattle.walk_laws.specs.Stands.{IsHostOf, PacketAt}
 use Rattle.net_walks.specs.Stops.{Came}
@@ -25,14 +26,14 @@ pub data Visits (such : PacketAt → Type 0) : List Came → PacketAt → Type 0
   last : {a : PacketAt} → such a → Visits such (came_of a ∷ []) a
   more : {a z : PacketAt} {cs : List Came} → such a → Visits such cs z → Visits such (came_of a ∷ cs) z
 
--- A router of the host's AS sends the packet, on link 0, to the host's address, with the header and the payload with which it
--- set out.
+-- A router of the host's AS sends the packet, on link 0, to the host's address and the port of the application that it is for, with
+-- the header and the payload with which it set out.
 pub record IsDeliveredAt (net : Net) (moment : ℕ) (start end : PacketAt) (host : HostAddress) : Type 0 where
   pub here : Router
   pub here_is : router_at net end.router ≡ Some here
   pub home : IsHostOf host (domain_of here)
   pub to : Underlay
-  pub address : IsReachedAt here.network host to
+  pub address : IsReachedAt here.network (host_port_of here.network start.packet.header.next_header start.packet.payload) host to
   pub decision : decide here.network end.link end.source moment (spelling end.packet) ≡ decision.Send 0 (Some to)
   pub sent : Packet
   pub bytes : moved here.network end.link end.source moment (spelling end.packet) ≡ spelling sent
