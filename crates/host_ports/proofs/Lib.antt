@@ -1,3 +1,4 @@
+mod FoundLemmas
 pub mod ExtensionLemmas
 pub mod QuoteLemmas
 pub mod GivenLemmas
