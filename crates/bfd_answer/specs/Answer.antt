@@ -10,6 +10,7 @@ use Rattle.scion_packet.specs.Path.{HopField, InfoField}
 use Rattle.process_packet.specs.declared.neighbours.Link.{Link}
 use Rattle.process_packet.specs.declared.underlay.Ip.{Ip}
 use Rattle.process_packet.specs.declared.underlay.Ip.TheVariants.{V4, V6}
+use Rattle.process_packet.specs.LinkControl.{bfd_answer_flow, bfd_protocol}
 use Rattle.process_packet.specs.Network.{Network, own_link}
 
 -- ---- from this end of the link to the other
@@ -24,15 +25,7 @@ far_end l there = record { isd = there.isd; autonomous_system = there.autonomous
 abbrev pub near_end : Network → Link → HostAddress
 near_end n l = record { isd = n.isd; autonomous_system = n.autonomous_system; kind = 0; host = ip_bytes l.local.ip }
 
--- the protocol number of BFD behind a SCION header
-abbrev pub bfd_protocol : ℕ
-bfd_protocol = 203
-
--- the flow of answers: no router answers what comes in it
-abbrev pub bfd_answer_flow : ℕ
-bfd_answer_flow = 0xbfda0
-
--- expedited forwarding, and a header of these addresses and of a path of one hop
+-- expedited forwarding in the flow of answers, and a header of these addresses and of a path of one hop
 abbrev pub header_between : HostAddress → HostAddress → HeaderFields
 header_between destination source = record {
   traffic_class = 0xb8;

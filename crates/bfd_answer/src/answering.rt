@@ -1,7 +1,6 @@
 //! The answer to a control packet.
 
 ghost use Rattle.std.specs.Prelude.{◌≡◌, ◌≤◌, ◌+◌, None, length, drop, MatchOption, option_map, take};
-ghost use Rattle.field_rows.specs.Place.{IsBytes};
 ghost use Rattle.scion_packet.specs.Header.{header_end};
 ghost use Rattle.scion_packet.specs.OneHop.{one_hop_fault, one_hop_spelling};
 ghost use Rattle.process_packet.specs.Network.{network};

@@ -9,15 +9,8 @@ ghost use Rattle.process_packet.specs.Network.{network};
 ghost use Rattle.bfd_answer.specs.Answer.{answer_header, far_end, ip_bytes, near_end};
 
 use bfd_control::CONTROL_PACKET_LEN;
-use process_packet::{Config, Ip, Link};
+use process_packet::{BFD, BFD_ANSWER_FLOW, Config, Ip, Link};
 use scion_header::{Address, Domain, Header, Host};
-
-/// The protocol number of BFD behind a SCION header.
-const BFD: u8 = 203;
-
-/// The flow of answers (FlowID). What comes in it isn't answered, so two routers that answer don't keep each other
-/// at it.
-const ANSWER_FLOW: u32 = 0xbfda0;
 
 /// The traffic class of answers: expedited forwarding.
 const TRAFFIC_CLASS: u8 = 0xb8;
@@ -72,7 +65,7 @@ pub(crate) fn header_over(config: &Config, link: &Link, there: Domain) -> Header
     let len = 28 + destination.host.as_slice().len() + source.host.as_slice().len() + ONE_HOP_LEN;
     Header {
         traffic_class: TRAFFIC_CLASS,
-        flow_id: ANSWER_FLOW,
+        flow_id: BFD_ANSWER_FLOW,
         next_header: BFD,
         header_length: (len / 4) as u8,
         payload_length: CONTROL_PACKET_LEN as u16,
