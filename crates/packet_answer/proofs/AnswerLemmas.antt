@@ -1,0 +1,33 @@
+-- Which of both answers it is.
+use Rattle.std.proofs.Common.{◌≡◌, ◌≢◌, ℕ, true, List, Option, refl, ap, ◌∙◌}
+use Rattle.std.proofs.lemmas.Bool.{cond-false, cond-true, eq-eqb, ne_eqb}
+use Rattle.bfd_answer.specs.Answer.{bfd_reply}
+use Rattle.bfd_answer.proofs.CrossingLemmas as crossing
+use Rattle.process_packet.specs.declared.config.Config.{Config}
+use Rattle.process_packet.specs.declared.decision.Problem.{Problem}
+use Rattle.process_packet.specs.declared.underlay.Underlay.{Underlay}
+use Rattle.process_packet.specs.LinkControl.{bfd_protocol}
+use Rattle.process_packet.specs.Network.{network}
+use Rattle.scmp_answer.specs.Outcome.{Leaves, Outcome, Stays, outcome}
+use Rattle.scmp_answer.specs.Reply.{local_address, reply}
+use Rattle.packet_answer.specs.Answer.{ControlPacketsAreAnswered, answered, bfd_outcome, leaves}
+
+pub by_bfd : (c : Config) (link : ℕ) (source : Underlay) (moment : ℕ) (bytes : List ℕ) (q : Problem) → q.kind ≡ bfd_protocol
+    → answered c link source moment bytes q ≡ bfd_outcome link (bfd_reply (network c) link moment bytes)
+unfolding answered
+by_bfd c link source moment bytes q is = cond-true _ _ _ (eq-eqb q.kind bfd_protocol is)
+
+pub by_scmp : (c : Config) (link : ℕ) (source : Underlay) (moment : ℕ) (bytes : List ℕ) (q : Problem) → q.kind ≢ bfd_protocol
+    → answered c link source moment bytes q ≡ outcome (reply (local_address c) link source bytes q)
+unfolding answered
+by_scmp c link source moment bytes q other = cond-false _ _ _ (ne_eqb q.kind bfd_protocol other)
+
+pub are_answered : ControlPacketsAreAnswered
+are_answered c link source moment bytes q asked is =
+    let control = asked.by_bfd is in
+    by_bfd c link source moment bytes q is ∙ ap (bfd_outcome link) (crossing.answered (network c) link moment bytes control.asks.own control.there control.asks.listed control.named)
+
+-- what leaves was to leave
+pub was_left : (o : Outcome) (link : ℕ) (to : Option Underlay) (bytes : List ℕ) → Leaves link to bytes ≡ o → leaves o ≡ true
+was_left (Leaves l t b) link to bytes is = refl
+was_left (Stays cause) link to bytes is = absurd cc
