@@ -87,7 +87,7 @@ class Speaker:
         self.sock = bound(link.remote)
         self.outstanding = collections.deque(maxlen=1000)
         self.next_at, self.heard, self.gaps, self.changes = 0.0, 0, [], []
-        self.sent, self.lost, self.strangers, self.last = 0, 0, [], None
+        self.sent, self.strangers, self.last = 0, [], None
 
     def datagram(self, control, flow=1):
         """A control packet as this end sends it. Its own AS's key makes the hop field's MAC."""
@@ -113,16 +113,14 @@ class Speaker:
         self.sock.sendto(self.datagram(control, flow), address_of(self.link.local))
 
     def answered(self, data):
-        """The control packet of an answer, which must be the model's to a packet that was sent and isn't answered yet;
-        what was sent before that one is lost. None for anything else."""
+        """The control packet of an answer, which must be the model's to a packet that was sent and isn't answered yet.
+        None for anything else."""
         at = scion.path_at(data)
         timestamp = int.from_bytes(data[at + 4 : at + 8], "big") if at is not None and len(data) >= at + 8 else 0
         if abs(timestamp - time.time()) <= 2:
             for place, control in enumerate(self.outstanding):
                 if scion.bfd_answer(self.router, self.link, timestamp, control) == data:
-                    for _ in range(place + 1):
-                        self.outstanding.popleft()
-                    self.lost += place
+                    del self.outstanding[place]
                     return data[4 * data[5] :]
         self.strangers.append(data)
         return None

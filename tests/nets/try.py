@@ -705,7 +705,7 @@ def try_net(program, seed, number, count):
         running = [started(program, configs[id(it)], room, at) for at, it in enumerate(net.routers)]
         try:
             for process, report, fault in running:
-                for _ in range(200):
+                for _ in range(1000):
                     report.seek(0)
                     if report.read().startswith("ready\n"):
                         break
