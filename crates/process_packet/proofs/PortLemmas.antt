@@ -1,22 +1,15 @@
 -- The port at which a host listens.
-use Rattle.std.proofs.Common.{◌≡◌, ◌≤◌, ◌<◌, ◌⊎◌, ◌&&◌, ◌++◌, ℕ, Bool, true, false, List, Option, Some, None, refl, ap, ap₂, ◌∙◌, inl, inr, arith, if◌then◌else◌}
+use Rattle.std.proofs.Common.{◌≡◌, ◌≤◌, ◌<◌, ◌⊎◌, ◌&&◌, ℕ, Bool, true, false, List, Option, Some, None, refl, ap, ap₂, ◌∙◌, inl, inr, if◌then◌else◌}
 use Rattle.std.specs.Prelude.{nat_le}
 use Rattle.std.proofs.lemmas.Bool.{le-leb, lt-leb}
-use Rattle.field_rows.specs.Row.{rows}
 use Rattle.host_ports.specs.Laws.{UdpGivesItsDestination}
-use Rattle.host_ports.specs.Messages.{UdpHeader, udp_table}
+use Rattle.host_ports.specs.Messages.{UdpHeader}
 use Rattle.host_ports.specs.Port.{destination_port}
-use Rattle.scion_packet.specs.Header.{host_code}
-use Rattle.scion_packet.specs.Packet.{Packet}
+use Rattle.scion_packet.specs.Header.{HeaderFields}
 use Rattle.process_packet.specs.declared.port_range.PortRange.{PortRange}
-use Rattle.process_packet.specs.declared.underlay.Ip.TheVariants.{V4}
-use Rattle.process_packet.specs.declared.underlay.Underlay.{Underlay}
-use Rattle.process_packet.specs.HostPort.{has_in_range, host_port_of, port_among, port_or}
-use Rattle.process_packet.specs.Hosts.{IsReachedAt}
+use Rattle.process_packet.specs.HostPort.{delivered_at, host_port_of, port_among, port_or}
 use Rattle.process_packet.specs.Network.{Network, reached_at}
 use Rattle.process_packet.specs.PortLaws.{CarriesUdp, HostsListenSo}
-use Rattle.process_packet.specs.Rows.{Sent, delivered, sent_to}
-use Rattle.process_packet.proofs.HostLemmas.{is_reached}
 
 module _ (n : Network) (next_header : ℕ) (payload : List ℕ) where
   ranged : (range : PortRange) (o : Option ℕ) → n.dispatched_ports ≡ Some range → destination_port next_header payload ≡ o
@@ -25,11 +18,11 @@ module _ (n : Network) (next_header : ℕ) (payload : List ℕ) where
   ranged range o there is =
       ap (λ (r : Option PortRange). port_among r n.host_port next_header payload) there ∙ ap (λ (p : Option ℕ). port_or range n.host_port p) is
 
-  without_range : n.dispatched_ports ≡ None → host_port_of n next_header payload ≡ n.host_port
+  pub without_range : n.dispatched_ports ≡ None → host_port_of n next_header payload ≡ n.host_port
   unfolding host_port_of
   without_range none = ap (λ (r : Option PortRange). port_among r n.host_port next_header payload) none
 
-  at_its_own : (range : PortRange) (port : ℕ) → n.dispatched_ports ≡ Some range → destination_port next_header payload ≡ Some port → range.first ≤ port → port ≤ range.last
+  pub at_its_own : (range : PortRange) (port : ℕ) → n.dispatched_ports ≡ Some range → destination_port next_header payload ≡ Some port → range.first ≤ port → port ≤ range.last
       → host_port_of n next_header payload ≡ port
   at_its_own range port there is from to =
       ranged range (Some port) there is ∙ ap (λ (b : Bool). if b then port else n.host_port) (ap₂ (λ (a b : Bool). a && b) (le-leb range.first port from) (le-leb port range.last to))
@@ -39,7 +32,7 @@ module _ (n : Network) (next_header : ℕ) (payload : List ℕ) where
   out_by true b (inr out) = out
   out_by false b out = refl
 
-  out_of_range : (range : PortRange) (port : ℕ) → n.dispatched_ports ≡ Some range → destination_port next_header payload ≡ Some port → (port < range.first) ⊎ (range.last < port)
+  pub out_of_range : (range : PortRange) (port : ℕ) → n.dispatched_ports ≡ Some range → destination_port next_header payload ≡ Some port → (port < range.first) ⊎ (range.last < port)
       → host_port_of n next_header payload ≡ n.host_port
   out_of_range range port there is out =
       let test = out_by (nat_le range.first port) (nat_le port range.last) (elim out [ inl below ↦ inl (lt-leb range.first port below) | inr above ↦ inr (lt-leb port range.last above) ]) in
@@ -49,27 +42,23 @@ module _ (n : Network) (next_header : ℕ) (payload : List ℕ) where
   without_port_by None there none = without_range there
   without_port_by (Some range) there none = ranged range None there none
 
-  without_port : destination_port next_header payload ≡ None → host_port_of n next_header payload ≡ n.host_port
+  pub without_port : destination_port next_header payload ≡ None → host_port_of n next_header payload ≡ n.host_port
   without_port none = without_port_by n.dispatched_ports refl none
 
 -- UDP for a port in the range
-udp_in_range : UdpGivesItsDestination → (n : Network) (p : Packet) (u : UdpHeader) (range : PortRange) → n.dispatched_ports ≡ Some range → CarriesUdp p u
-    → range.first ≤ u.destination → u.destination ≤ range.last → p.header.destination.kind ≡ 0 → host_code p.header.destination ≡ 0
-    → delivered n p ≡ Sent 0 (Some (record { ip = V4 p.header.destination.host; port = u.destination })) p
-udp_in_range law n p u range there carries from to kind code =
-    let named : destination_port p.header.next_header p.payload ≡ Some u.destination =
+udp_in_range : UdpGivesItsDestination → (n : Network) (h : HeaderFields) (payload : List ℕ) (u : UdpHeader) (range : PortRange) → n.dispatched_ports ≡ Some range
+    → CarriesUdp h.next_header payload u → range.first ≤ u.destination → u.destination ≤ range.last → delivered_at n h payload ≡ reached_at n u.destination h.destination
+udp_in_range law n h payload u range there carries from to =
+    let named : destination_port h.next_header payload ≡ Some u.destination =
     ap₂ destination_port carries.next carries.bytes ∙ law carries.extensions u carries.rest carries.lawful carries.fits in
-    let port = at_its_own n p.header.next_header p.payload range u.destination there named from to in
-    let q = host_port_of n p.header.next_header p.payload in
-    is_reached n p (record { ip = V4 p.header.destination.host; port = q }) (IsReachedAt.ip_4 kind code)
-    ∙ ap (λ (x : ℕ). Sent 0 (Some (record { ip = V4 p.header.destination.host; port = x })) p) port
+    ap (λ (port : ℕ). reached_at n port h.destination) (at_its_own n h.next_header payload range u.destination there named from to)
 
 pub listen_so : UdpGivesItsDestination → HostsListenSo
 listen_so law = record {
-  at_its_own = λ n next_header payload range port. at_its_own n next_header payload range port;
-  out_of_range = λ n next_header payload range port. out_of_range n next_header payload range port;
+  at_its_own = at_its_own;
+  out_of_range = out_of_range;
   without_port = without_port;
   without_range = without_range;
-  dispatched = λ n p none. ap (λ (port : ℕ). sent_to p (reached_at n port p.header.destination)) (without_range n p.header.next_header p.payload none);
+  dispatched = λ n h payload none. ap (λ (port : ℕ). reached_at n port h.destination) (without_range n h.next_header payload none);
   udp = udp_in_range law;
 }

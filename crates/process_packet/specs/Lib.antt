@@ -37,3 +37,4 @@ pub mod Pointers
 pub mod OneHopLaws
 pub mod OneHopRefusals
 pub mod OneHopAnswers
+pub mod Example
