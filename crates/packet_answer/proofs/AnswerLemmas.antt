@@ -1,5 +1,5 @@
 -- Which of both answers it is.
-use Rattle.std.proofs.Common.{◌≡◌, ◌≢◌, ℕ, true, List, Option, refl, ap, ◌∙◌}
+use Rattle.std.proofs.Common.{◌≡◌, ◌≢◌, ◌==◌, ℕ, Bool, true, List, Option, None, refl, ap, ◌∙◌}
 use Rattle.std.proofs.lemmas.Bool.{cond-false, cond-true, eq-eqb, ne_eqb}
 use Rattle.bfd_answer.specs.Answer.{bfd_reply}
 use Rattle.bfd_answer.proofs.CrossingLemmas as crossing
@@ -23,9 +23,8 @@ unfolding answered
 by_scmp c link source moment bytes q other = cond-false _ _ _ (ne_eqb q.kind bfd_protocol other)
 
 pub are_answered : ControlPacketsAreAnswered
-are_answered c link source moment bytes q asked is =
-    let control = asked.by_bfd is in
-    by_bfd c link source moment bytes q is ∙ ap (bfd_outcome link) (crossing.answered (network c) link moment bytes control.asks.own control.there control.asks.listed control.named)
+are_answered c link source moment bytes q own there is listed named =
+    by_bfd c link source moment bytes q is ∙ ap (bfd_outcome link) (crossing.answered (network c) link moment bytes own there listed named)
 
 -- what leaves was to leave
 pub was_left : (o : Outcome) (link : ℕ) (to : Option Underlay) (bytes : List ℕ) → Leaves link to bytes ≡ o → leaves o ≡ true

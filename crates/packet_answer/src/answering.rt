@@ -57,7 +57,7 @@ pub fn answer_into(
     problem: &Problem,
     out: &mut [u8; LONGEST_ANSWER],
 ) -> AnswerLen
-    requires { IsAnswerable config.now link bytes.now problem.now }
+    requires { IsAnswerable bytes.now problem.now }
     ensures answer { outcome_in out.new result ≡ answered config.now link source now bytes.now problem.now }
     // what holds of each answer
     ensures good { IsGood config.now link source now bytes.now problem.now }
@@ -79,7 +79,7 @@ pub fn answer(
     arrival: &Arrival,
     problem: &Problem,
 ) -> Result<Answered, NoMemory>
-    requires { let a = arrival.now in IsAnswerable config.now a.link a.bytes.items problem.now }
+    requires { IsAnswerable arrival.now.bytes.items problem.now }
     ensures answer { let a = arrival.entry.now in
         IfOk result (λ made. outcome_of made ≡ answered config.now a.link a.source a.now a.bytes.items problem.now) }
     ensures refused { let a = arrival.entry.now in OnErr result (leaves (answered config.now a.link a.source a.now a.bytes.items problem.now) ≡ true) }

@@ -2,8 +2,8 @@
 
 ghost use Rattle.packet_answer.specs.Answer.{ControlPacketsAreAnswered};
 
-/// What the decision answers by BFD is never left unanswered: the answer leaves by the link by which the packet came,
-/// to its other end.
+/// What is answered by BFD is never left unanswered where the link's configuration names a neighbour: the answer leaves
+/// by the same link, to its other end.
 pub fn control_packets_are_answered()
     ensures { ControlPacketsAreAnswered }
 {}

@@ -4,10 +4,10 @@ use Rattle.packet_answer.proofs.answering.answer_into.Goals as goal
 
 pub returns-then-problem-clause-answer : goal.returns-then-problem-clause-answer
 returns-then-problem-clause-answer c =
-    c.control_answer_into.ensures.answer
-    ∙ sym (by_bfd c.args.config.now c.args.link c.args.source c.args.now c.args.bytes.now c.args.problem.now c.if-problem.true)
+    let a = c.args in
+    c.control_answer_into.ensures.answer ∙ sym (by_bfd a.config.now a.link a.source a.now a.bytes.now a.problem.now c.if-problem.true)
 
 pub returns-else-problem-clause-answer : goal.returns-else-problem-clause-answer
 returns-else-problem-clause-answer c =
-    c.answer_into.ensures.answer
-    ∙ sym (by_scmp c.args.config.now c.args.link c.args.source c.args.now c.args.bytes.now c.args.problem.now c.if-problem.false)
+    let a = c.args in
+    c.answer_into.ensures.answer ∙ sym (by_scmp a.config.now a.link a.source a.now a.bytes.now a.problem.now c.if-problem.false)
