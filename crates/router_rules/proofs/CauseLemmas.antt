@@ -2,17 +2,20 @@
 use Rattle.std.proofs.Common.{◌≡◌, ℕ, Bool, true, false, ◌&&◌, ◌==◌, if◌then◌else◌, List, [], ◌∷◌, drop, Option, Some, None, refl}
 use Rattle.std.specs.List.{AllByRecursion}
 use Rattle.process_packet.specs.Decide.{decision_table, verdict, verdict_of}
-use Rattle.process_packet.specs.Network.{Network, reached_at}
+use Rattle.process_packet.specs.HostPort.{delivered_at}
+use Rattle.process_packet.specs.LinkControl.{bfd_protocol, control_answer, is_answered}
+use Rattle.process_packet.specs.Network.{Network}
 use Rattle.process_packet.specs.Rows.{Verdict, Sent, Answered, Dropped, RowResult, GoesOn, Ends, Row, cause_of, delivered, delivery, ends_where, expired, faulty, leave, sent_on, sent_to, switch, then_rows, wrong_mac, wrong_pair}
 use Rattle.process_packet.specs.PacketState.{PacketState, arrives, changed_over, packet}
 use Rattle.process_packet.specs.OneHopRows as one_hop
-use Rattle.process_packet.specs.OneHopRows.{OneHopRow, OneHopVerdict, dropped_where}
+use Rattle.process_packet.specs.OneHopRows.{OneHopRow, OneHopVerdict, dropped_where, ends_where as one_hop_ends_where}
 use Rattle.process_packet.specs.OneHopRows.{delivered as one_hop_delivered, faulty as one_hop_faulty}
 use Rattle.process_packet.specs.OneHopState.{OneHopState, completed, exit, is_external, one_hop_arrives}
 use Rattle.process_packet.specs.OneHopState.{chained as one_hop_chained}
 use Rattle.process_packet.specs.OneHopTable.{one_hop_ends_as, one_hop_table, one_hop_verdict, or_rows}
 use Rattle.scion_packet.specs.OneHop.{OneHopPacket}
 use Rattle.process_packet.specs.declared.cause.Cause.{Cause}
+use Rattle.process_packet.specs.declared.cause.Cause.TheVariants as cause
 use Rattle.process_packet.specs.declared.decision.Problem.{Problem}
 use Rattle.process_packet.specs.declared.underlay.Underlay.{Underlay}
 use Rattle.scion_packet.specs.Fault.{Fault, TooShort, WrongVersion, WrongPathType, WrongLength, WrongPath, PeeringSegment}
@@ -100,7 +103,7 @@ sent_to_ruled p None = either _ _ _ (answered _) (answered _)
 sent_to_ruled p (Some at) = sent _ _ _
 
 delivered_ruled : (n : Network) (p : Packet) → IsRuled (delivered n p)
-delivered_ruled n p = sent_to_ruled p (reached_at n p.header.destination)
+delivered_ruled n p = sent_to_ruled p (delivered_at n p.header p.payload)
 
 switch_ruled : (s : PacketState) → IsRuledTurn (switch s)
 switch_ruled s =
@@ -143,6 +146,7 @@ decision_ruled n link source moment bytes = verdict_ruled _ (all_ruled (GoesOn (
 
 abbrev pub has_own_drop : OneHopVerdict → Bool
 has_own_drop (one_hop.Sent out to p) = true
+has_own_drop (one_hop.Answered problem) = true
 has_own_drop (one_hop.Dropped why) = is_decided why
 
 abbrev gives_own_drop : Option OneHopVerdict → Bool
@@ -164,6 +168,13 @@ own_where false why h = refl
 own_drop : (b : OneHopState → Bool) (why : Cause) → is_decided why ≡ true → IsOwnRow (λ s. dropped_where (b s) why)
 own_drop b why h = record { is = λ s. own_where (b s) why h }
 
+-- a control packet of BFD is answered, or dropped
+own_control : (b answers : Bool) (problem : Problem)
+    → gives_own_drop (one_hop_ends_where b (if answers then one_hop.Answered problem else one_hop.Dropped cause.OneHopHost)) ≡ true
+own_control true true problem = refl
+own_control true false problem = refl
+own_control false answers problem = refl
+
 own_fault : (o : Option Fault) → gives_own_drop (one_hop_faulty o) ≡ true
 own_fault None = refl
 own_fault (Some f) = fault_ruled f
@@ -179,9 +190,15 @@ own_delivery p (Some at) = refl
 own_table : AllByRecursion IsOwnRow one_hop_table
 own_table =
     let sending : AllByRecursion IsOwnRow (drop 11 one_hop_table) =
-    (record { is = λ s. own_leave (is_external s) s }, (record { is = λ s. own_delivery (completed s) (reached_at s.network s.packet.header.destination) }, tt)) in
+    (record { is = λ s. own_leave (is_external s) s }, (record { is = λ s. own_delivery (completed s) (delivered_at s.network s.packet.header s.packet.payload) }, tt)) in
     let field : AllByRecursion IsOwnRow (drop 7 one_hop_table) = (own_drop _ _ refl, (own_drop _ _ refl, (own_drop _ _ refl, (own_drop _ _ refl, sending)))) in
-    let arriving : AllByRecursion IsOwnRow (drop 3 one_hop_table) = (own_drop _ _ refl, (own_drop _ _ refl, (own_drop _ _ refl, (own_drop _ _ refl, field)))) in
+    let control : AllByRecursion IsOwnRow (drop 6 one_hop_table) = (
+      record {
+        is = λ s. own_control (is_external s && s.packet.header.next_header == bfd_protocol) (is_answered s.network s.link s.packet.header.flow_id s.packet.payload) (control_answer s.link);
+      },
+      field,
+    ) in
+    let arriving : AllByRecursion IsOwnRow (drop 3 one_hop_table) = (own_drop _ _ refl, (own_drop _ _ refl, (own_drop _ _ refl, control))) in
     (own_drop _ _ refl, (record { is = λ s. own_fault _ }, (record { is = λ s. own_fault _ }, arriving)))
 
 own_end : (o : Option OneHopVerdict) → gives_own_drop o ≡ true → has_own_drop (one_hop_ends_as o) ≡ true

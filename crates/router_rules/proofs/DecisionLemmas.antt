@@ -55,6 +55,7 @@ ruled_drop c from bytes (Dropped other) why ruled is = let e : other ≡ why = c
 one_hop_drop : (c : Config) (from : ℕ) (bytes : List ℕ) (v : OneHopVerdict) (why : Cause) → has_own_drop v ≡ true
     → by_decision c from (one_hop_decision_of v) (one_hop_moved_by v bytes) ≡ Drops why → is_decided why ≡ true
 one_hop_drop c from bytes (one_hop.Sent out to p) why own is = absurd cc
+one_hop_drop c from bytes (one_hop.Answered problem) why own is = absurd cc
 one_hop_drop c from bytes (one_hop.Dropped other) why own is = let e : other ≡ why = cc in subst (λ (x : Cause). is_decided x ≡ true) e own
 
 drop_by_kind : (c : Config) (d : Datagram) (b : Bool) (why : Cause) → decided_by c d b ≡ Drops why → is_decided why ≡ true
@@ -207,6 +208,7 @@ record IsSentOver (c : Config) (d : Datagram) (l : ℕ) (y : Parcel) : Type 0 wh
 
 sent_over : (c : Config) (d : Datagram) (v : OneHopVerdict) (l : ℕ) (y : Parcel) → one_hop_verdict_on c d ≡ v
     → by_decision c d.interface (one_hop_decision_of v) (one_hop_moved_by v d.bytes) ≡ Sends l y → IsSentOver c d l y
+sent_over c d (one_hop.Answered problem) l y v is = absurd cc
 sent_over c d (one_hop.Dropped why) l y v is = absurd cc
 sent_over c d (one_hop.Sent out to p) l y v is =
     let link : l ≡ link_index c out = cc in

@@ -1,14 +1,21 @@
 -- What is told of the router's rules as a whole.
-use Rattle.std.specs.Prelude.{◌≡◌, ◌<◌, ℕ, Bool, true, false, Some}
-use Rattle.pipeline_laws.specs.Rules.{Drops, IsLawful, Withholds}
-use Rattle.process_packet.specs.Network.{has_link, network}
+use Rattle.std.specs.Prelude.{◌≡◌, ◌≢◌, ◌<◌, ℕ, Bool, true, false, drop, Some, None}
+use Rattle.bfd_answer.specs.Answer.{answer_packet}
+use Rattle.pipeline_laws.specs.Rules.{Drops, IsLawful, Replies, Withholds}
+use Rattle.process_packet.specs.Network.{has_link, network, own_link}
 use Rattle.process_packet.specs.declared.cause.Cause.{Cause}
 use Rattle.process_packet.specs.declared.cause.Cause.TheVariants as cause
 use Rattle.process_packet.specs.declared.config.Config.{Config}
 use Rattle.process_packet.specs.declared.decision.Problem.{Problem}
+use Rattle.process_packet.specs.declared.neighbours.Link.{Link}
+use Rattle.scion_header.specs.declared.domain.Domain.{Domain}
+use Rattle.scion_packet.specs.Header.{header_end}
+use Rattle.scion_packet.specs.OneHop.{one_hop_spelling}
+use Rattle.scmp_answer.specs.Outcome.{outcome}
+use Rattle.scmp_answer.specs.Reply.{local_address, reply}
 use Rattle.router_rules.specs.Datagram.{Datagram}
 use Rattle.router_rules.specs.Links.{interface_at, link_count, link_index}
-use Rattle.router_rules.specs.Rules.{Arrives, decided, inspected, replied, rules}
+use Rattle.router_rules.specs.Rules.{Arrives, by_outcome, decided, inspected, replied, rules}
 
 abbrev pub AreLawful : Type 0
 AreLawful = (c : Config) → IsLawful (rules c) (Arrives c)
@@ -66,3 +73,17 @@ pub record TellCauses (c : Config) : Type 0 where
 
 abbrev pub CausesAreApart : Type 0
 CausesAreApart = (c : Config) → TellCauses c
+
+-- A control packet of BFD (203) that came by a link to a neighbour is answered over this link, for the moment at which it came
+-- (RFC 5880); what else is answered, is so by SCMP.
+pub record TellAnswers (c : Config) : Type 0 where
+  pub by_bfd : (d : Datagram) (p : Problem) (own : Link) (there : Domain) → p.kind ≡ 203 → own_link (network c) d.interface ≡ Some own → own.neighbor ≡ Some there
+      → replied c d p ≡ Replies (link_index c d.interface) (record {
+        came_by = d.interface;
+        to = None;
+        bytes = one_hop_spelling (answer_packet (network c) own there d.moment (drop (header_end d.bytes) d.bytes));
+      })
+  pub by_scmp : (d : Datagram) (p : Problem) → p.kind ≢ 203 → replied c d p ≡ by_outcome c d.interface (outcome (reply (local_address c) d.interface d.source d.bytes p))
+
+abbrev pub RepliesAreAnswers : Type 0
+RepliesAreAnswers = (c : Config) → TellAnswers c

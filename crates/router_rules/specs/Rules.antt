@@ -15,8 +15,8 @@ use Rattle.process_packet.specs.declared.decision.Decision.{Decision as Decided}
 use Rattle.process_packet.specs.declared.decision.Decision.TheVariants as decision
 use Rattle.process_packet.specs.declared.decision.Problem.{Problem}
 use Rattle.scion_packet.specs.Header.{header_fault_as, header_of, one_hop_path, scion_path}
-use Rattle.scmp_answer.specs.Outcome.{Leaves, Outcome, Stays, outcome}
-use Rattle.scmp_answer.specs.Reply.{local_address, reply}
+use Rattle.packet_answer.specs.Answer.{answered}
+use Rattle.scmp_answer.specs.Outcome.{Leaves, Outcome, Stays}
 use Rattle.router_rules.specs.Datagram.{Datagram, Parcel}
 use Rattle.router_rules.specs.Links.{has_two_bands, link_count, link_index}
 
@@ -49,7 +49,7 @@ by_outcome c from (Leaves link to bytes) = Replies (link_index c link) (record {
 by_outcome c from (Stays why) = Withholds why
 
 abbrev pub replied : Config → Datagram → Problem → Reply kinds
-replied c d problem = by_outcome c d.interface (outcome (reply (local_address c) d.interface d.source d.bytes problem))
+replied c d problem = by_outcome c d.interface (answered c d.interface d.source d.moment d.bytes problem)
 
 -- ---- flows
 

@@ -2,9 +2,10 @@
 //! what it says.
 
 ghost use Rattle.router_rules.specs.Example.{RulesAreTold};
-ghost use Rattle.router_rules.specs.Laws.{AreLawful, CausesAreApart, LinksStandInOrder};
+ghost use Rattle.router_rules.specs.Laws.{AreLawful, CausesAreApart, LinksStandInOrder, RepliesAreAnswers};
 ghost use Rattle.router_rules.specs.Producers.{ProducersAreNumbered};
 
+use packet_answer::control_packets_are_answered;
 use process_packet::{
     decided_by_kind, nothing_else_changes, one_hops_enter, one_hops_keep_the_rest, one_hops_leave,
     only_lawful_ways,
@@ -34,6 +35,14 @@ pub fn links_stand_in_order()
 pub fn causes_are_apart()
     ensures { CausesAreApart }
 {}
+
+/// A control packet of BFD that came by a link to a neighbour is answered over this link, for the moment at which
+/// it came (RFC 5880); what else is answered, is so by SCMP.
+pub fn replies_are_answers()
+    ensures { RepliesAreAnswers }
+{
+    control_packets_are_answered();
+}
 
 /// The workers that feed a pipe are numbered below its count of producers, each by a number of its own.
 pub fn producers_are_numbered()

@@ -17,7 +17,8 @@ mod worker_index;
 pub use faults::inspect;
 pub use flows::{is_urgent, processor, processor_or_fault};
 pub use laws::{
-    causes_are_apart, examples, links_stand_in_order, producers_are_numbered, rules_are_lawful,
+    causes_are_apart, examples, links_stand_in_order, producers_are_numbered, replies_are_answers,
+    rules_are_lawful,
 };
 pub use links::{has_two_bands, interface_at, link_count, link_index};
 pub use outgoing::Outgoing;
