@@ -23,6 +23,7 @@ use Rattle.process_packet.specs.declared.underlay.Underlay.{Underlay}
 use Rattle.process_packet.specs.declared.refusal.Refusal.{Refusal}
 use Rattle.process_packet.specs.declared.refusal.Refusal.TheVariants as refusal
 use Rattle.process_packet.specs.HostPort.{delivered_at}
+use Rattle.process_packet.specs.LinkControl.{is_answered}
 use Rattle.process_packet.specs.Network.{Network}
 use Rattle.process_packet.specs.OneHopRows.{OneHopRow, OneHopVerdict, Dropped, Sent, complete, delivered, dropped_where, leave, faulty_header, faulty_path, too_long}
 use Rattle.process_packet.specs.OneHopState.{OneHopState, chained, completed, exit, first, hop_from, info, is_external, one_hop_arrives, second, with_second}
@@ -74,6 +75,13 @@ pub departure_refused : (given : Option OneHopVerdict) (p : OneHopPacket) (resul
     → given ≡ Some (one_hop_refused r) → TellsOneHopDeparture given p result
 departure_refused given p (Ok x) r is ends = absurd is
 departure_refused given p (Err e) r is ends = ends ∙ ap (λ (x : Refusal). Some (one_hop_refused x)) (sym is)
+
+-- ---- a control packet
+
+pub same_control : {n m : Network} {link link' flow flow' : ℕ} {payload payload' : List ℕ} → n ≡ m → link ≡ link' → flow ≡ flow' → payload ≡ payload'
+    → is_answered n link flow payload ≡ is_answered m link' flow' payload'
+same_control {n} {m} {link} {link'} {flow} {flow'} {payload} {payload'} network-is link-is flow-is payload-is =
+    ap₂ (λ (x : Network) (l : ℕ). is_answered x l flow payload) network-is link-is ∙ ap₂ (λ (f : ℕ) (p : List ℕ). is_answered m link' f p) flow-is payload-is
 
 -- what is refused stays as it came
 pub refused_keeps : (r : Refusal) (bytes : List ℕ) → bytes ≡ one_hop_moved_by (one_hop_refused r) bytes
