@@ -255,7 +255,8 @@ def goes_down(trial, speaker, router):
     router.ask_to_end()
     speaker.run(30, lambda: session.state == scion.DOWN)
     took = time.monotonic() - (session.heard_at or 0)
-    trial.see(session.state == scion.DOWN and session.diagnostic == TIME_EXPIRED, "the router ended: Down, for want of answers")
+    is_down = session.state == scion.DOWN and session.diagnostic == TIME_EXPIRED
+    trial.see(is_down, "the router ended: Down, for want of answers")
     good = detection <= took <= detection + 0.1
     trial.see(good, f"that was {took:.3f} s after the last answer, where the detection time is {detection:.1f} s")
     return router.end()
