@@ -1,11 +1,12 @@
 -- An answer is a control packet that the neighbour takes.
-use Rattle.std.proofs.Common.{◌≡◌, ◌<◌, ℕ, Bool, List, [], ◌∷◌, subst, refl, arith}
+use Rattle.std.proofs.Common.{◌≡◌, ◌≢◌, ◌≤◌, ◌<◌, ℕ, Bool, List, [], ◌∷◌, subst, refl, arith}
+use Rattle.std.proofs.Math.Nat.{le-max_right}
 use Rattle.field_rows.specs.Row.{field, rows}
 use Rattle.bfd_control.specs.declared.state.State.{State}
 use Rattle.bfd_control.specs.declared.state.State.TheVariants.{AdminDown, Down, Init, Up}
 use Rattle.bfd_control.specs.Answer.{answer, answer_text, min_tx}
 use Rattle.bfd_control.specs.ControlPacket.{ControlPacket, SpellsControlPacket, bit, control_packet_of, control_text}
-use Rattle.bfd_control.specs.Laws.{AnswersAreTaken, PassesTests}
+use Rattle.bfd_control.specs.Laws.{AnswersAreOrderly, AnswersAreTaken, PassesTests}
 use Rattle.bfd_control.specs.Session.{answered_state, number_of}
 use Rattle.bfd_control.proofs.PacketLemmas.{bit_fits, packet_only, packet_spelled, state_fits}
 use Rattle.bfd_control.proofs.ReceptionLemmas.{tests_so}
@@ -13,23 +14,24 @@ use Rattle.bfd_control.proofs.ReceptionLemmas.{tests_so}
 -- ---- its text
 
 -- by what of it changes from answer to answer
-abbrev pub answer_rows : ℕ → State → Bool → ℕ → ℕ → List ℕ
-answer_rows own state final yours tx =
+abbrev pub answer_rows : State → Bool → ℕ → ℕ → ℕ → List ℕ
+answer_rows state final mine yours tx =
     rows (
     (field 3 1 ∷ field 5 0 ∷ [])
     ∷ (field 2 (number_of state) ∷ field 1 0 ∷ field 1 (bit final) ∷ field 1 0 ∷ field 1 0 ∷ field 1 0 ∷ field 1 0 ∷ [])
     ∷ (field 8 3 ∷ [])
     ∷ (field 8 24 ∷ [])
-    ∷ (field 32 own ∷ [])
+    ∷ (field 32 mine ∷ [])
     ∷ (field 32 yours ∷ [])
     ∷ (field 32 tx ∷ [])
     ∷ (field 32 200000 ∷ [])
     ∷ (field 32 0 ∷ [])
     ∷ [])
 
-pub rows_are : (own : ℕ) (p : ControlPacket) (state : State) (final : Bool) (yours tx : ℕ) → state ≡ answered_state p.state → final ≡ p.poll → yours ≡ p.my_discriminator
-    → tx ≡ min_tx (answered_state p.state) p.desired_min_tx → answer_rows own state final yours tx ≡ control_text (answer own p)
-rows_are own p state final yours tx state-is final-is yours-is tx-is = rw (state-is, final-is, yours-is, tx-is) refl
+pub rows_are : (own : ℕ) (p : ControlPacket) (state : State) (final : Bool) (mine yours tx : ℕ) → state ≡ (answer own p).state → final ≡ (answer own p).final
+    → mine ≡ (answer own p).my_discriminator → yours ≡ (answer own p).your_discriminator → tx ≡ (answer own p).desired_min_tx
+    → answer_rows state final mine yours tx ≡ control_text (answer own p)
+rows_are own p state final mine yours tx state-is final-is mine-is yours-is tx-is = rw (state-is, final-is, mine-is, yours-is, tx-is) refl
 
 -- ---- a packet that is taken
 
@@ -39,6 +41,20 @@ min_tx_fits Down neighbors fits = grind arith
 min_tx_fits Init neighbors fits = grind arith
 min_tx_fits Up neighbors fits = grind arith
 
+seldom : (s : State) (neighbors : ℕ) → s ≢ Up → 1000000 ≤ min_tx s neighbors
+seldom AdminDown neighbors other = le-max_right neighbors 1000000
+seldom Down neighbors other = le-max_right neighbors 1000000
+seldom Init neighbors other = le-max_right neighbors 1000000
+seldom Up neighbors other = absurd (other refl)
+
+pub orderly : AnswersAreOrderly
+orderly own p = record {
+  state_is = refl;
+  ends_poll = refl;
+  begins_none = refl;
+  seldom = seldom (answered_state p.state) p.desired_min_tx;
+}
+
 -- by numbers that fit their fields
 answer_spelled : (own : ℕ) (p : ControlPacket) → own < 4294967296 → p.my_discriminator < 4294967296 → p.desired_min_tx < 4294967296
     → SpellsControlPacket (control_text (answer own p)) (answer own p)
@@ -46,10 +62,10 @@ answer_spelled own p own-fits mine-fits tx-fits = record {
   fits = (
     (omega arith, (omega arith, tt)),
     (
-      (state_fits (answered_state p.state), (omega arith, (bit_fits p.poll, (omega arith, (omega arith, (omega arith, (omega arith, tt))))))),
+      (state_fits (answered_state p.state), (omega arith, (bit_fits (answer own p).final, (omega arith, (omega arith, (omega arith, (omega arith, tt))))))),
       (
         (omega arith, tt),
-        ((omega arith, tt), ((own-fits, tt), ((mine-fits, tt), ((min_tx_fits (answered_state p.state) p.desired_min_tx tx-fits, tt), ((omega arith, tt), ((omega arith, tt), tt)))))),
+        ((omega arith, tt), ((omega arith, tt), ((omega arith, tt), ((min_tx_fits (answered_state p.state) p.desired_min_tx tx-fits, tt), ((omega arith, tt), ((omega arith, tt), tt)))))),
       ),
     ),
   );

@@ -134,6 +134,10 @@ up_to_none_is_refused = refl
 pub down_is_answered : answer_text 41 first ≡ packet (0x20 ∷ 0x80 ∷ 0x03 ∷ 0x18 ∷ []) ours theirs one_second
 down_is_answered = refl
 
+-- no more often than each second while it isn't up
+pub down_is_answered_slowly : answer_text 41 (packet (0x20 ∷ 0x40 ∷ 0x03 ∷ 0x18 ∷ []) theirs none tenth_of_a_second) ≡ packet (0x20 ∷ 0x80 ∷ 0x03 ∷ 0x18 ∷ []) ours theirs one_second
+down_is_answered_slowly = refl
+
 pub init_is_answered : answer_text 41 (packet (0x20 ∷ 0x80 ∷ 0x03 ∷ 0x18 ∷ []) theirs ours one_second) ≡ packet (0x20 ∷ 0xc0 ∷ 0x03 ∷ 0x18 ∷ []) ours theirs one_second
 init_is_answered = refl
 

@@ -60,6 +60,17 @@ pub record AnswersBringUp : Type 0 where
 
 -- ---- answers
 
+-- What the standard says of a packet that is sent after another one was heard: it tells the session's state, ends a poll and begins
+-- none (6.5), and while the session isn't up a second lies between two packets at least (6.8.3).
+pub record IsOrderly (sent heard : ControlPacket) : Type 0 where
+  pub state_is : sent.state ≡ answered_state heard.state
+  pub ends_poll : sent.final ≡ heard.poll
+  pub begins_none : sent.poll ≡ false
+  pub seldom : sent.state ≢ Up → 1000000 ≤ sent.desired_min_tx
+
+abbrev pub AnswersAreOrderly : Type 0
+AnswersAreOrderly = (own : ℕ) (received : ControlPacket) → IsOrderly (answer own received) received
+
 -- It is a packet of 24 bytes with these fields, and the sender of the packet that is answered takes it.
 pub record IsTakenBack (own : ℕ) (bytes : List ℕ) : Type 0 where
   pub spelled : SpellsControlPacket (answer_text own bytes) (answer own (control_packet_of bytes))

@@ -1,10 +1,10 @@
 //! The control packet that answers another one.
 
-ghost use Rattle.std.specs.Prelude.{◌≡◌, ◌+◌, ◌<◌, ◌≤◌, Bool, [], ◌∷◌, length};
+ghost use Rattle.std.specs.Prelude.{◌≡◌, ◌+◌, ◌≤◌, ℕ, [], ◌∷◌, length};
 ghost use Rattle.byteorder.specs.Endian.{big_bytes};
 ghost use Rattle.field_rows.specs.Place.{Puts};
 ghost use Rattle.field_rows.specs.Row.{field, row};
-ghost use Rattle.bfd_control.specs.Answer.{answer_text, min_tx};
+ghost use Rattle.bfd_control.specs.Answer.{answer, answer_text, min_tx};
 ghost use Rattle.bfd_control.specs.ControlPacket.{bit, control_packet_of};
 ghost use Rattle.bfd_control.specs.Session.{number_of};
 
@@ -42,10 +42,10 @@ fn state_byte(state: State, is_final: bool) -> u8
     state.number() * 64 + u8::from(is_final) * 16
 }
 
-/// Whether it is a poll (P), which the answer ends.
-fn is_poll(bytes: &[u8]) -> bool
+/// Whether the answer is final (F), as it is to a poll (P).
+fn is_final(bytes: &[u8]) -> bool
     requires { 24 ≤ length bytes.now }
-    ensures { result ≡ (control_packet_of bytes.now).poll }
+    ensures { (own : ℕ) → result ≡ (answer own (control_packet_of bytes.now)).final }
 {
     bytes[1] / 32 % 2 == 1
 }
@@ -61,7 +61,7 @@ pub fn write_answer(own: u32, received: &[u8], out: &mut [u8], at: usize)
 {
     let state = state_at(received).answered();
     put_u8(out, at, VERSION * 32);
-    put_u8(out, at + 1, state_byte(state, is_poll(received)));
+    put_u8(out, at + 1, state_byte(state, is_final(received)));
     put_u8(out, at + 2, DETECT_MULTIPLIER);
     put_u8(out, at + 3, CONTROL_PACKET_LEN as u8);
     put_u32(out, at + 4, own);

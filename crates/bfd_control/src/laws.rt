@@ -1,6 +1,6 @@
 //! What is promised of control packets and of their answers as a whole: nothing here runs.
 
-ghost use Rattle.bfd_control.specs.Laws.{AnswersAreTaken, AnswersBringUp, AnswersTellStates, ControlPacketLaws, ReceptionTests, SessionsGoSo};
+ghost use Rattle.bfd_control.specs.Laws.{AnswersAreOrderly, AnswersAreTaken, AnswersBringUp, AnswersTellStates, ControlPacketLaws, ReceptionTests, SessionsGoSo};
 
 /// Bytes of a control packet are those of the packet that is read from them, and of no other.
 pub fn control_packet_laws()
@@ -27,6 +27,12 @@ pub fn answers_tell_states()
 /// after one answer, or after two if the first was to an earlier packet, and stays up.
 pub fn answers_bring_up()
     ensures { AnswersBringUp }
+{}
+
+/// An answer ends a poll and begins none (RFC 5880, 6.5), and while it doesn't tell Up it tells a second or more between
+/// two packets (RFC 5880, 6.8.3).
+pub fn answers_are_orderly()
+    ensures { AnswersAreOrderly }
 {}
 
 /// An answer is a control packet of 24 bytes, and its neighbour takes it: one whose discriminator is the one that

@@ -14,7 +14,7 @@ mod state;
 
 pub use answering::write_answer;
 pub use laws::{
-    answers_are_taken, answers_bring_up, answers_tell_states, control_packet_laws, reception_tests,
-    sessions_go_so,
+    answers_are_orderly, answers_are_taken, answers_bring_up, answers_tell_states,
+    control_packet_laws, reception_tests, sessions_go_so,
 };
 pub use reception::{CONTROL_PACKET_LEN, is_taken};
