@@ -1,9 +1,12 @@
 -- An answer goes through the rows of the neighbour's table.
-use Rattle.std.proofs.Common.{◌≡◌, ◌==◌, ◌&&◌, not, ℕ, Bool, true, false, List, [], ◌∷◌, length, drop, refl, sym, ap, ◌∙◌, arith, Option, Some, None}
+use Rattle.std.proofs.Common.{◌≡◌, ◌==◌, ◌&&◌, not, ℕ, Bool, true, false, List, [], ◌∷◌, length, drop, refl, sym, subst, ap, ◌∙◌, arith, Option, Some, None}
 use Rattle.std.specs.Prelude.{nat_lt}
 use Rattle.std.specs.Option.{option_and_then}
 use Rattle.std.proofs.lemmas.Bool.{and_from, and_right, cond-true, eq-eqb, le-ltb, ne_eqb}
 use Rattle.std.proofs.lemmas.Slice.Eq.{bytes_eq-Decides}
+use Rattle.bfd_control.specs.ControlPacket.{control_packet_of}
+use Rattle.bfd_control.specs.Reception.{is_taken}
+use Rattle.bfd_control.proofs.AnswerLemmas.{taken_back}
 use Rattle.scion_header.specs.declared.domain.Domain.{Domain}
 use Rattle.scion_packet.specs.Fault.{Fault}
 use Rattle.scion_packet.specs.Header.{header_end}
@@ -88,6 +91,7 @@ crosses n link moment bytes own p m end later other listed replied good outside 
     cond-true (is_external s) _ _ external
     ∙ ap (λ (x : OneHopPacket). is_local m x.header.destination && is_neighbor (neighbor m end) x.header.source) (sym read) ∙ lawful-q in
     let between : wrong_ends s ≡ None = not_dropped (not (are_ends_lawful s)) cause.OneHopEnds (ap not lawful) in
+    let carries = ap (λ (x : OneHopPacket). x.payload) (sym read) in
     record {
       passes =
           passed s too_long (faulty_header ∷ faulty_path ∷ wrong_payload_length ∷ wrong_underlay_source ∷ wrong_ends ∷ []) short
@@ -97,5 +101,7 @@ crosses n link moment bytes own p m end later other listed replied good outside 
           (passed s wrong_underlay_source (wrong_ends ∷ []) source (passed s wrong_ends [] between refl)))));
       protocol = ap (λ (x : OneHopPacket). x.header.next_header) (sym read);
       flow = ap (λ (x : OneHopPacket). x.header.flow_id) (sym read);
-      carries = ap (λ (x : OneHopPacket). x.payload) (sym read);
+      carries = carries;
+      heard = λ are some fits taken.
+          subst (λ (t : List ℕ). is_taken (control_packet_of received).my_discriminator t ≡ true) (sym carries) (taken_back own.id received some fits are taken).taken;
     }

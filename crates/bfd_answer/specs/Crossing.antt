@@ -1,9 +1,12 @@
 -- An answer at the neighbour.
-use Rattle.std.specs.Prelude.{◌≡◌, ◌≢◌, ℕ, List, [], ◌∷◌, Some, None, drop}
+use Rattle.std.specs.Prelude.{◌≡◌, ◌≢◌, ◌≤◌, ◌<◌, ◌^◌, ℕ, true, List, [], ◌∷◌, Some, None, drop}
 use Rattle.scion_header.specs.declared.domain.Domain.{Domain}
 use Rattle.scion_packet.specs.Header.{header_end, header_of}
 use Rattle.scion_packet.specs.OneHop.{OneHopPacket, one_hop_spelling}
+use Rattle.field_rows.specs.Place.{IsBytes}
 use Rattle.bfd_control.specs.Answer.{answer_text}
+use Rattle.bfd_control.specs.ControlPacket.{control_packet_of}
+use Rattle.bfd_control.specs.Reception.{is_taken}
 use Rattle.process_packet.specs.declared.neighbours.Link.{Link}
 use Rattle.process_packet.specs.Network.{Network, own_link}
 use Rattle.process_packet.specs.OneHopRows.{faulty_header, faulty_path, too_long, wrong_ends, wrong_payload_length, wrong_underlay_source}
@@ -31,13 +34,16 @@ pub record AreEnds (n : Network) (own : Link) (m : Network) (other : Link) : Typ
   pub wire : other.remote ≡ own.local
 
 -- At the other end, and at any moment there, no row before that for BFD ends the decision; and it is a message of BFD, in the flow of
--- answers, that carries the control packet.
+-- answers, that carries the control packet. Where the packet that is answered was taken here, the session there that sent it takes
+-- the answer.
 pub record Crosses (n : Network) (own : Link) (m : Network) (end moment : ℕ) (received : List ℕ) (p : OneHopPacket) : Type 0 where
   pub passes : tried (one_hop_arrives m end own.local moment (one_hop_spelling p))
       (too_long ∷ faulty_header ∷ faulty_path ∷ wrong_payload_length ∷ wrong_underlay_source ∷ wrong_ends ∷ []) ≡ None
   pub protocol : (header_of (one_hop_spelling p)).next_header ≡ 203
   pub flow : (header_of (one_hop_spelling p)).flow_id ≡ 0xbfda0
   pub carries : drop (header_end (one_hop_spelling p)) (one_hop_spelling p) ≡ answer_text own.id received
+  pub heard : IsBytes received → 1 ≤ own.id → own.id < 2 ^ 32 → is_taken own.id received ≡ true
+      → is_taken (control_packet_of received).my_discriminator (drop (header_end (one_hop_spelling p)) (one_hop_spelling p)) ≡ true
 
 abbrev pub AnswersCross : Type 0
 AnswersCross =

@@ -8,7 +8,8 @@ pub fn control_packets_are_answered()
 {}
 
 /// An answer is let through by the neighbour's own router up to the row for BFD, if that router names this AS as its
-/// neighbour, and sends to the address from which the answer comes; there it is known by its flow as an answer.
+/// neighbour, and sends to the address from which the answer comes; there it is known by its flow as an answer. The
+/// session that sent the packet takes the answer to it.
 pub fn answers_cross()
     ensures { AnswersCross }
 {}
