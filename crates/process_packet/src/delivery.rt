@@ -59,16 +59,17 @@ fn unreachable(bytes: &[u8]) -> Refusal
     }
 }
 
-/// Where a packet is delivered, or what its sender is told.
-fn deliver(config: &Config, bytes: &[u8], payload: &[u8]) -> Result<Underlay, Refusal>
+/// Where a packet is delivered, which is always somewhere, or what its sender is told.
+fn deliver(config: &Config, bytes: &[u8], payload: &[u8]) -> Result<Option<Underlay>, Refusal>
     requires addresses { front_end bytes.now ≤ length bytes.now }
     ensures { (s : PacketState) (p : Packet) → network config.now ≡ s.network → header_of bytes.now ≡ s.header → p.header ≡ s.header
-        → payload.now ≡ p.payload → MatchResult result (λ to. delivered s.network p ≡ row.Sent 0 (Some to) p) (λ r. delivered s.network p ≡ refused r) }
+        → payload.now ≡ p.payload → MatchResult result (λ o. MatchOption o ⊥ (λ to. delivered s.network p ≡ row.Sent 0 (Some to) p)) (λ r. delivered s.network p ≡ refused r) }
 {
-    match host_at(config, bytes, payload) {
-        Some(to) => Ok(to),
-        None => Err(unreachable(bytes)),
+    let at = host_at(config, bytes, payload);
+    if at.is_none() {
+        return Err(unreachable(bytes));
     }
+    Ok(at)
 }
 
 impl PacketView {
@@ -96,9 +97,6 @@ impl PacketView {
         if !self.is_for_here(config, bytes) {
             return Ok(None);
         }
-        match deliver(config, bytes, payload) {
-            Ok(to) => Ok(Some(to)),
-            Err(refusal) => Err(refusal),
-        }
+        deliver(config, bytes, payload)
     }
 }
