@@ -1,11 +1,11 @@
 //! A datagram on its way to its processor.
 
-ghost use Rattle.std.specs.Prelude.{◌≡◌, ◌≤◌, length, take, None};
+ghost use Rattle.std.specs.Prelude.{◌≡◌, ◌≤◌, length, take};
+ghost use Rattle.packet_answer.specs.Answer.{IsAnswerable};
 ghost use Rattle.process_packet.specs.Decide.{decide, moved};
 ghost use Rattle.process_packet.specs.Network.{network};
 ghost use Rattle.process_packet.specs.declared.decision.Problem.{Problem as Told};
 ghost use Rattle.router_rules.specs.Rules.{by_decision, decided};
-ghost use Rattle.scion_packet.specs.Packet.{first_fault};
 ghost use Rattle.router_laws.specs.Heard.{arrival};
 ghost use Rattle.stage_parts.specs.Items.{StandsIn, asking, leaving, with_bytes};
 
@@ -111,7 +111,7 @@ impl<N: Router> Packet<N> {
     pub fn decide(&mut self, config: &Config) -> Decision
         ensures decided { by_decision config.now self.old.datagram.interface result self.new.datagram.bytes ≡ decided config.now self.old.datagram }
         ensures kept { self.new ≡ with_bytes self.new.datagram.bytes self.old }
-        ensures sound { (p : Told) → result ≡ Decision.Answer p → (first_fault self.new.datagram.bytes ≡ None) × (self.new.datagram.bytes ≡ self.old.datagram.bytes) }
+        ensures sound { (p : Told) → result ≡ Decision.Answer p → IsAnswerable self.new.datagram.bytes p × (self.new.datagram.bytes ≡ self.old.datagram.bytes) }
     {
         answers_are_sound();
         let storage = &mut *self.storage;
@@ -139,9 +139,9 @@ impl<N: Router> Packet<N> {
         EgressPacket { storage, of }
     }
 
-    /// The packet with what its sender is to be told.
+    /// The packet with what it is answered.
     pub fn into_request(self, problem: Problem) -> SlowPathRequest<N>
-        requires { first_fault self.datagram.bytes ≡ None }
+        requires { IsAnswerable self.datagram.bytes problem }
         ensures { result ≡ asking self problem }
     {
         SlowPathRequest {

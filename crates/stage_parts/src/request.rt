@@ -1,41 +1,38 @@
 //! A packet on its way to the slow path.
 
-ghost use Rattle.std.specs.Prelude.{◌≡◌, ◌≤◌, length, take, None, IfOk};
+ghost use Rattle.std.specs.Prelude.{◌≡◌, ◌≤◌, length, take, IfOk};
+ghost use Rattle.packet_answer.specs.Answer.{IsAnswerable, answered};
 ghost use Rattle.router_rules.specs.Rules.{replied};
-ghost use Rattle.scion_packet.specs.Packet.{first_fault};
-ghost use Rattle.scmp_answer.specs.Outcome.{outcome, outcome_in, used};
-ghost use Rattle.scmp_answer.specs.Reply.{local_address, reply};
+ghost use Rattle.scmp_answer.specs.Outcome.{outcome_in, used};
 ghost use Rattle.stage_parts.specs.Items.{StandsIn, answering};
 ghost use Rattle.stage_parts.specs.Replying.{reply_of};
 
 use crate::buffer::Buffer;
 use crate::egress_packet::EgressPacket;
 use crate::packet::Packet;
+use packet_answer::{AnswerLen, LONGEST_ANSWER, answer_into};
 use packet_ledger::Router;
 use process_packet::{Cause, Config, Problem, Underlay};
 use router_rules::Shared;
-use scmp_answer::{AnswerLen, LONGEST_ANSWER, answer_into};
 use std::marker::Model;
 
-/// A packet without a fault, on its way to the slow path, and what its sender is to be told by
-/// SCMP.
+/// A packet without a fault, on its way to the slow path, and what it is answered.
 pub struct SlowPathRequest<N: Router> {
     pub(crate) packet: Packet<N>,
     pub(crate) problem: Problem,
 }
 
 impl<N: Router> Model for SlowPathRequest<N> {
-    ghost use Rattle.std.specs.Prelude.{◌≡◌, None};
+    ghost use Rattle.packet_answer.specs.Answer.{IsAnswerable};
     ghost use Rattle.pipeline_laws.specs.Settled.{SlowPathRequest as Request};
     ghost use Rattle.router_rules.specs.Rules.{kinds};
-    ghost use Rattle.scion_packet.specs.Packet.{first_fault};
     ghost use Rattle.stage_parts.specs.Items.{asking};
 
     ghost Value = { Request kinds };
 
     ghost view = { λ q. asking q.packet q.problem };
 
-    ghost invariant = { λ q. first_fault q.packet.datagram.bytes ≡ None };
+    ghost invariant = { λ q. IsAnswerable q.packet.datagram.bytes q.problem };
 }
 
 // Not derived: a derived drop is proved again in each crate that drops one.
@@ -53,19 +50,20 @@ fn answer_over(
     config: &Config,
     link: u16,
     source: Underlay,
+    now: u64,
     problem: &Problem,
     bytes: &mut Vec<u8>,
     len: usize,
 ) -> AnswerLen
     requires long { length bytes.old.items ≡ 9217 }
     requires len { len ≤ 9217 }
-    requires sound { first_fault (take len bytes.old.items) ≡ None }
-    ensures answer { outcome_in bytes.new.items result ≡ outcome (reply (local_address config.now) link source (take len bytes.old.items) problem.now) }
+    requires sound { IsAnswerable (take len bytes.old.items) problem.now }
+    ensures answer { outcome_in bytes.new.items result ≡ answered config.now link source now (take len bytes.old.items) problem.now }
     ensures fits { used result ≤ 1232 }
     ensures same { length bytes.new.items ≡ 9217 }
 {
     let mut out = [0; LONGEST_ANSWER];
-    let answer = answer_into(config, link, source, &bytes[..len], problem, &mut out);
+    let answer = answer_into(config, link, source, now, &bytes[..len], problem, &mut out);
     let (front, _) = bytes.split_at_mut(LONGEST_ANSWER);
     front.copy_from_slice(&out);
     answer
@@ -112,16 +110,18 @@ fn answer_packet<N: Router>(
     packet: Packet<N>,
     problem: &Problem,
 ) -> Result<EgressPacket<N>, Withheld>
-    requires { first_fault packet.datagram.bytes ≡ None }
+    requires { IsAnswerable packet.datagram.bytes problem.now }
     ensures replied { reply_of result ≡ replied shared.now.config packet.datagram problem.now }
     ensures named { IfOk result (λ o. o ≡ answering packet o.link o.parcel.to o.parcel.bytes) }
 {
     let Packet { mut storage, of } = packet;
-    let (interface, source, len) = (storage.interface, storage.source, storage.len);
+    let (interface, source, now) = (storage.interface, storage.source, storage.moment);
+    let len = storage.len;
     match answer_over(
         &shared.config,
         interface,
         source,
+        now,
         problem,
         &mut storage.bytes,
         len,

@@ -1,6 +1,6 @@
 use Rattle.std.proofs.Common.{◌≡◌, ◌≤◌, ℕ, List, [], ◌∷◌, ◌++◌, length, take, drop, zero, suc, refl, sym, ap, subst, ◌∙◌, arith, append_assoc}
-use Rattle.scmp_answer.specs.Reply.{local_address, reply}
-use Rattle.scmp_answer.specs.Outcome.{outcome, outcome_in, used}
+use Rattle.packet_answer.specs.Answer.{answered}
+use Rattle.scmp_answer.specs.Outcome.{outcome_in, used}
 use Rattle.scmp_answer.specs.declared.outcome.AnswerLen.{AnswerLen}
 use Rattle.scmp_answer.specs.declared.outcome.AnswerLen.TheVariants as len
 use Rattle.stage_parts.proofs.request.answer_over.Goals as goal
@@ -36,4 +36,4 @@ returns-clause-answer c =
     let fits : used a ≤ c.args.bytes.now.len = let u = c.answer_into-answer.ensures.len in let k = c.requires.long in let o = c.args.bytes.now.ok in omega arith in
     let P : List ℕ → Type 0 = λ t. outcome_in (take c.args.bytes.now.len (t ++ c.split_at_mut-front.result.1.now ++ drop (length (t ++ c.split_at_mut-front.result.1.now)) c.args.bytes.now.items)) a ≡ outcome_in out a in
     subst P (sym after) (same_answer_in a out _ _ c.args.bytes.now.len short fits)
-    ∙ subst (λ (t : List ℕ). outcome_in out a ≡ outcome (reply (local_address c.args.config.now) c.args.link c.args.source (take c.args.len t) c.args.problem.now)) c.deref.ensures.value c.answer_into-answer.ensures.answer
+    ∙ subst (λ (t : List ℕ). outcome_in out a ≡ answered c.args.config.now c.args.link c.args.source c.args.now (take c.args.len t) c.args.problem.now) c.deref.ensures.value c.answer_into-answer.ensures.answer
