@@ -1,8 +1,8 @@
 //! A packet for a processor, and one for the slow path.
 
-ghost use Rattle.std.specs.Prelude.{◌≡◌, ◌≤◌, None, length};
+ghost use Rattle.std.specs.Prelude.{◌≡◌, ◌≤◌, length};
+ghost use Rattle.packet_answer.specs.Answer.{IsAnswerable};
 ghost use Rattle.scion_packet.specs.Header.{front_end};
-ghost use Rattle.scion_packet.specs.Packet.{first_fault};
 
 use crate::came::Came;
 use process_packet::Problem;
@@ -15,12 +15,12 @@ pub struct Packet {
     pub ghost addresses_are_there: { front_end came.bytes ≤ length came.bytes },
 }
 
-/// A packet without a fault, and what its sender is to be told.
+/// A packet without a fault, and what it is answered.
 #[derive(Drop)]
 pub struct Request {
     pub came: Came,
     pub problem: Problem,
-    pub ghost packet_is_sound: { first_fault came.bytes ≡ None },
+    pub ghost packet_is_answerable: { IsAnswerable came.bytes problem },
 }
 
 impl Packet {

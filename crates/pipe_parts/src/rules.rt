@@ -14,11 +14,11 @@ use crate::came::Came;
 use crate::cause::Cause;
 use crate::item::{Item, Out, Parcel};
 use crate::packet::{Packet, Request};
+use packet_answer::{AnswerLen, LONGEST_ANSWER, answer_into};
 use process_packet::{Config, Decision, answers_are_sound, route_in_place};
 use router_rules::{
     has_two_bands, is_urgent, link_count, link_index, link_pipe, processor, slow_seat,
 };
-use scmp_answer::{AnswerLen, LONGEST_ANSWER, answer_into};
 use std::alloc::{AllocError, Global};
 
 /// What a worker makes of an item: another item, or the end of it.
@@ -96,12 +96,14 @@ pub fn reply(alloc: Global, config: &Config, request: &Request) -> Result<Outcom
     ensures { IfOk result (λ made. outcome_in made ≡ next.replied (arrival_in request.now.came) ((rules config.now).reply (arrival_in request.now.came) request.now.problem)) }
 {
     let came = &request.came;
+    let (interface, source, now) = (came.interface, came.source, came.now);
     let mut out = [0; LONGEST_ANSWER];
     let bytes = came.bytes.as_slice();
     match answer_into(
         config,
-        came.interface,
-        came.source,
+        interface,
+        source,
+        now,
         bytes,
         &request.problem,
         &mut out,

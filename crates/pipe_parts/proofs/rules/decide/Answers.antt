@@ -1,16 +1,16 @@
-use Rattle.std.proofs.Common.{◌≡◌, ℕ, List, None, false, sym, subst, ap, ap₂, ◌∙◌}
+use Rattle.std.proofs.Common.{◌≡◌, ℕ, List, false, sym, subst, ap, ap₂, ◌∙◌}
 use Rattle.pipeline_laws.specs.Item.{Item}
 use Rattle.pipeline_laws.specs.Next as next
 use Rattle.process_packet.specs.Decide.{decide, moved}
 use Rattle.process_packet.specs.Network.{network}
-use Rattle.process_packet.specs.Routed.{IsAnswer}
 use Rattle.process_packet.specs.declared.config.Config.{Config}
 use Rattle.process_packet.specs.declared.decision.Decision.{Decision}
 use Rattle.process_packet.specs.declared.decision.Decision.TheVariants as decision
 use Rattle.process_packet.specs.declared.decision.Problem.{Problem}
 use Rattle.router_rules.specs.Rules.{by_decision, rules}
+use Rattle.router_rules.proofs.AnsweredLemmas.{answered_soundly}
 use Rattle.process_packet.proofs.KindLemmas.{answered_unchanged}
-use Rattle.scion_packet.specs.Packet.{first_fault}
+use Rattle.packet_answer.specs.Answer.{IsAnswerable}
 use Rattle.pipe_parts.specs.declared.came.Came.{Came}
 use Rattle.pipe_parts.specs.Items.{arrival_in}
 use Rattle.pipe_parts.proofs.rules.decide.Goals as goal
@@ -29,10 +29,8 @@ pub invariant_of-result : goal.invariant_of-result
 invariant_of-result c =
     let x = c.args.packet.now.came in
     let r = c.args.config.now in
-    let kept = as_they_came r x c.in_ok-decision.decision c.in-Answer.problem c.in_ok-decision.bytes c.in_ok-decision.ensures.decision c.in_ok-decision.ensures.bytes c.in-Answer.is in
-    let same : c.with-came.result.bytes ≡ x.bytes = ap (λ (y : Came). y.bytes) c.with-came.ensures ∙ kept in
-    let answered : IsAnswer (decide (network r) x.interface x.source x.now x.bytes) = subst IsAnswer (sym c.in-Answer.is ∙ c.in_ok-decision.ensures.decision) tt in
-    record { packet_is_sound = subst (λ (t : List ℕ). first_fault t ≡ None) (sym same) (c.answers_are_sound.ensures (network r) x.interface x.source x.now x.bytes answered) }
+    let told = answered_soundly c.answers_are_sound.ensures (network r) x.interface x.source x.now x.bytes c.in_ok-decision.bytes c.in_ok-decision.decision c.in_ok-decision.ensures.decision c.in_ok-decision.ensures.bytes c.in-Answer.problem c.in-Answer.is in
+    record { packet_is_answerable = subst (λ (y : Came). IsAnswerable y.bytes c.in-Answer.problem) (sym c.with-came.ensures) told.0 }
 
 pub returns-in-Send : goal.returns-in-Send
 returns-in-Send c =
