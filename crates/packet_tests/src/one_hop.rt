@@ -4,10 +4,12 @@ use cmac_core::Cmac;
 use hop_check::{chain, hop_mac, verify};
 use path_fields::{
     Hop, Info, PathFault, check_one_hop, one_hop_first, one_hop_info, set_one_hop_seg_id,
-    set_second_hop,
+    set_second_hop, write_one_hop,
 };
 use sample_packets::KEY;
-use scion_header::{HeaderFault, check_header, check_header_as};
+use scion_header::{
+    HeaderFault, NoRoom, check_header, check_header_as, read_header, write_header_as,
+};
 
 /// The path with which a beacon sets out from interface 2, until its second hop field is made.
 const SETS_OUT: [u8; 32] = *b"\x01\x00\x12\x34\x65\x00\x00\x00\
@@ -54,6 +56,34 @@ fn reads_a_one_hop_path(rt: HostRuntime) {
     assert!(rt; hop_mac(&cmac, &info, &first) == [0x90, 0x81, 0xb9, 0x9e, 0x8a, 0xc7]);
     assert!(rt; verify(&cmac, &info, &first));
     assert!(rt; chain(info.segment_id, &first.mac) == 0x82b5);
+}
+
+#[test]
+fn writes_a_one_hop_path(rt: HostRuntime) {
+    let mut out = [0xc3; 40];
+    write_one_hop(
+        &one_hop_info(&SETS_OUT),
+        &one_hop_first(&SETS_OUT),
+        &mut out,
+        4,
+    );
+    assert!(rt; out[..4] == [0xc3; 4]);
+    assert!(rt; out[4..].starts_with(&SETS_OUT));
+    assert!(rt; out[36..] == [0xc3; 4]);
+}
+
+#[test]
+fn writes_a_header_for_its_path_type(rt: HostRuntime) {
+    // Read as that of a SCION path, since a header doesn't tell its path's type.
+    let mut datagram = [0; 68];
+    datagram[..36].copy_from_slice(&HEADERS);
+    datagram[8] = 1;
+    let header = read_header(&datagram).expect(&rt, "a header");
+    let mut out = [0xc3; 40];
+    assert!(rt; write_header_as(2, &header, &mut out[..35]) == Err(NoRoom));
+    assert!(rt; write_header_as(2, &header, &mut out) == Ok(36));
+    assert!(rt; out.starts_with(&HEADERS));
+    assert!(rt; out[36..] == [0xc3; 4]);
 }
 
 #[test]
