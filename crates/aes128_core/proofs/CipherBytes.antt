@@ -10,16 +10,13 @@ use Rattle.aes128_core.specs.Field.{times}
 use Rattle.aes128_core.specs.KeyExpansion.{key_expansion, key_words, rot_word, round_constant, sub_word, word_change, x_power}
 use Rattle.aes128_core.specs.Rounds.{add_round_key, rounds, shift_rows, sub_bytes}
 use Rattle.aes128_core.specs.SBox.{s_box}
-use Rattle.aes128_core.specs.State.{bytes_of, state_from, xor_words}
+use Rattle.aes128_core.specs.State.{AreBytes, bytes_of, state_from, xor_words}
 
--- each item is below 256
-abbrev pub AreBytes : List ℕ → Type 0
-AreBytes bytes = (i : ℕ) → slice_index bytes i < 256
-
-abbrev AreWords : List (List ℕ) → Type 0
+-- each item of each word is a byte
+abbrev pub AreWords : List (List ℕ) → Type 0
 AreWords ws = (k : ℕ) → AreBytes (slice_index_or ws k [])
 
-s_box_lt : (b : ℕ) → s_box b < 256
+pub s_box_lt : (b : ℕ) → s_box b < 256
 unfolding s_box
 s_box_lt b = omega arith
 
@@ -105,7 +102,7 @@ more_are ws w all are k =
       | inr past ↦ subst AreBytes (sym (get_or-append_right ws (w ∷ []) (length ws) k [] refl past)) (one_are w are (k - length ws))
     ]
 
-words_are : (key : List ℕ) (n : ℕ) → n ≤ 40 → AreBytes key → AreWords (key_words key n)
+pub words_are : (key : List ℕ) (n : ℕ) → n ≤ 40 → AreBytes key → AreWords (key_words key n)
 unfolding key_words
 words_are key zero few are = first_are key are
 words_are key (suc n) few are =

@@ -51,7 +51,7 @@ key_words_all key w n long is e =
 -- ---- the key stands first in its words
 
 -- 16 bytes, cut into columns and joined again
-bytes_of-state_from : (key : List ℕ) → length key ≡ 16 → bytes_of (state_from key) ≡ key
+pub bytes_of-state_from : (key : List ℕ) → length key ≡ 16 → bytes_of (state_from key) ≡ key
 bytes_of-state_from key long =
     ext_get_or 0 (bytes_of (state_from key)) key (sym long)
     (λ i inside. get_or-map-range_with_len (λ (k : ℕ). get_or key k 0) 0 16 i i 0 inside (zero-add i))

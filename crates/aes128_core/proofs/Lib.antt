@@ -1,5 +1,12 @@
-pub mod ColumnLemmas
-pub mod KeyLemmas
-pub mod RoundLemmas
-pub mod TableRules
 pub mod CipherBytes
+pub mod ColumnLemmas
+pub mod InverseLemmas
+pub mod KeyLemmas
+pub mod LaneRoundLemmas
+pub mod LaneTableRules
+pub mod LookUpLemmas
+pub mod RoundKeyLemmas
+pub mod RoundLemmas
+pub mod SubstitutionLemmas
+pub mod TableRules
+pub mod XorLemmas

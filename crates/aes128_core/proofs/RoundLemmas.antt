@@ -10,7 +10,7 @@ use Rattle.aes128_core.specs.Columns.{word_bytes, state_of_words, word_from}
 use Rattle.aes128_core.proofs.ColumnLemmas.{word_bytes-xor}
 
 -- the key's word i, as bytes
-word_at : (w : List ℕ) (i j : ℕ) → i ≡ j → i < length w → get_or (map word_bytes w) j [] ≡ word_bytes (get_or w i 0)
+pub word_at : (w : List ℕ) (i j : ℕ) → i ≡ j → i < length w → get_or (map word_bytes w) j [] ≡ word_bytes (get_or w i 0)
 word_at w i j e inside = ap (λ (k : ℕ). get_or (map word_bytes w) k []) (sym e) ∙ get_or-map word_bytes w i 0 [] inside
 
 -- a column after SubBytes and ShiftRows: a byte of each of four columns

@@ -12,7 +12,7 @@ use Rattle.aes128_core.specs.Columns.{word_bytes}
 use Rattle.aes128_core.specs.declared.tables.TheConstants.{S_BOX, T0, T1, T2, T3, ROUND_CONSTANTS}
 
 -- an entry of a table that is a function of the index
-entry : {X : Type 0} (f : ℕ → X) (xs : List X) (n i : ℕ) (d : X) → xs ≡ map f (range_with_len 0 n) → i < n → get_or xs i d ≡ f i
+pub entry : {X : Type 0} (f : ℕ → X) (xs : List X) (n i : ℕ) (d : X) → xs ≡ map f (range_with_len 0 n) → i < n → get_or xs i d ≡ f i
 entry {X} f xs n i d e lt = ap (λ (t : List X). get_or t i d) e ∙ get_or-map-range_with_len f 0 n i i d lt (zero-add i)
 
 s_box_table : S_BOX ≡ map s_box (range_with_len 0 256)

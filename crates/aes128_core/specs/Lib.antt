@@ -2,6 +2,10 @@ pub mod Aes128
 pub mod Columns
 pub mod Field
 pub mod KeyExpansion
+pub mod LaneRounds
+pub mod Lanes
+pub mod RoundKeys
 pub mod Rounds
 pub mod SBox
 pub mod State
+pub mod TowerField

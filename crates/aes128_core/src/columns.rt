@@ -49,8 +49,7 @@ pub(crate) fn mixed_column(a: u8, b: u8, c: u8, d: u8, key: u32) -> u32
     T0[a as usize] ^ T1[b as usize] ^ T2[c as usize] ^ T3[d as usize] ^ key
 }
 
-// The S-box on each of four bytes, with no matrix, and a word added. The last round and the key
-// expansion are made of it.
+// The S-box on each of four bytes, with no matrix, and a word added. The last round is made of it.
 #[inline(always)]
 pub(crate) fn plain_column(a: u8, b: u8, c: u8, d: u8, added: u32) -> u32
     ensures { word_bytes result

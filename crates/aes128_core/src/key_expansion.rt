@@ -4,7 +4,8 @@ ghost use Rattle.std.specs.Prelude.{◌≡◌, ◌<◌, map};
 ghost use Rattle.aes128_core.specs.KeyExpansion.{word_change, key_expansion};
 ghost use Rattle.aes128_core.specs.Columns.{word_bytes};
 
-use crate::columns::{plain_column, word_at, word_of};
+use crate::columns::{word_at, word_of};
+use crate::lanes::substituted_word;
 use crate::tables::ROUND_CONSTANTS;
 
 // What is added to word `i - 4` to give word `i`, from the word before it. At each fourth word that
@@ -17,7 +18,7 @@ fn word_change(i: usize, before: u32) -> u32
 {
     if i % 4 == 0 {
         let [a, b, c, d] = before.to_le_bytes();
-        plain_column(b, c, d, a, word_of(ROUND_CONSTANTS[i / 4 - 1], 0, 0, 0))
+        substituted_word(b, c, d, a, word_of(ROUND_CONSTANTS[i / 4 - 1], 0, 0, 0))
     } else {
         before
     }

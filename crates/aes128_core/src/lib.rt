@@ -1,11 +1,14 @@
 //! AES-128 (FIPS 197): encryption of single blocks of 16 bytes.
 //!
-//! [`Aes128::new`] expands a key once, and [`Aes128::encrypt`] then encrypts any number of blocks
-//! under it. Nothing here allocates and nothing can fail. There is no decryption and no mode of
-//! operation.
+//! There are two types for a key, and both encrypt alike. Each expands a key once, by its `new`, and its
+//! `encrypt` then encrypts any number of blocks under it. Nothing here allocates and nothing can fail.
+//! There is no decryption and no mode of operation.
 //!
-//! The S-box and the columns of a round are looked up in tables by bytes that depend on the key, so
-//! the time of a call may tell something of the key: secrecy of timing is not claimed.
+//! - [`VectorAes128`] looks bytes up by shuffles of registers. It is written so that no address and no
+//!   branch depends on a byte of the key or of a block. That the compiler keeps it so is tried on the
+//!   built program, and no contract says it.
+//! - [`Aes128`] looks columns up in tables in memory, by bytes that depend on the key. Where others
+//!   share the machine's cache, the time of a call may tell something of the key.
 
 #![tactic(auto)]
 
@@ -17,14 +20,20 @@ ghost use Rattle.aes128_core.specs.Aes128.{cipher};
 
 mod columns;
 mod key_expansion;
+mod lane_rounds;
+mod lane_tables;
+mod lanes;
+mod round_keys;
 mod rounds;
 mod tables;
+mod vector;
 
 use crate::key_expansion::expand;
 use crate::rounds::{block_of, first_round, last_round, round};
 use std::marker::Model;
+pub use vector::VectorAes128;
 
-/// An AES-128 key, expanded and ready to encrypt blocks.
+/// An AES-128 key, expanded and ready to encrypt blocks by tables in memory.
 ///
 /// It takes 176 bytes, and contracts see it as its key, a list of 16 bytes.
 #[derive(Drop)]

@@ -1,6 +1,7 @@
 -- The tag of one whole block is 16 bytes, for a key of bytes.
 use Rattle.std.proofs.Common.{◌≡◌, ℕ, List, length, sym, ap, subst, ◌∙◌}
-use Rattle.aes128_core.proofs.CipherBytes.{AreBytes, cipher_are, cipher_len}
+use Rattle.aes128_core.specs.State.{AreBytes}
+use Rattle.aes128_core.proofs.CipherBytes.{cipher_are, cipher_len}
 use Rattle.cmac_core.specs.Block.{xor_blocks}
 use Rattle.cmac_core.specs.Cmac.{subkey_1, tag}
 use Rattle.cmac_core.proofs.Chain.{tag_block}
