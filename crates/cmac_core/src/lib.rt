@@ -5,8 +5,9 @@
 //! hop field carries. Nothing here allocates and nothing can fail. To verify a tag, compute it and
 //! compare.
 //!
-//! The cipher looks bytes up in tables, so the time of a call may tell something of the key:
-//! secrecy of timing is not claimed.
+//! The cipher looks bytes up by shuffles of registers, and what is added to its blocks takes no branch
+//! on them: only a message's length decides what is done. That the compiler keeps it so is tried on
+//! the built program, and no contract says it.
 
 #![tactic(auto)]
 
@@ -17,7 +18,7 @@ ghost use Rattle.cmac_core.specs.Cmac.{subkey_1, subkey_2, tag};
 mod block;
 
 use crate::block::{Block, doubled, filled, xor_blocks};
-use aes128_core::Aes128;
+use aes128_core::VectorAes128;
 use std::marker::Model;
 
 /// A key for AES-CMAC, with what is computed from it once.
@@ -25,7 +26,7 @@ use std::marker::Model;
 /// It takes 208 bytes, and contracts see it as its key, a list of 16 bytes.
 #[derive(Drop)]
 pub struct Cmac {
-    cipher: Aes128,
+    cipher: VectorAes128,
     // The standard's K1, which is added to a last block that is whole.
     whole_mask: Block,
     // The standard's K2, which is added to a last block that was filled up.
@@ -48,7 +49,7 @@ impl Cmac {
     pub fn new(key: &[u8; 16]) -> Cmac
         ensures { result ≡ key.now }
     {
-        let cipher = Aes128::new(key);
+        let cipher = VectorAes128::new(key);
         let whole_mask = doubled(cipher.encrypt(&[0; 16]));
         Cmac {
             cipher,
