@@ -141,6 +141,14 @@ lines: bin/router
 docs-check: bin/router
 	tests/docs/check.py
 
+.PHONY: constant-time
+
+# Tries what the time of the built router's ciphers depends on, by their machine code and by memcheck; it needs cc, python3,
+# objdump and valgrind too.
+constant-time: bin/router
+	cd crates/decision_bench && $(RT) lib
+	RT="$(RT)" tests/constant_time/run.sh
+
 MINUTES ?= 1
 .PHONY: soak
 

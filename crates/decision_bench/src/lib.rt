@@ -1,8 +1,9 @@
-//! The decision in a loop, for a program that times it.
+//! The decision in a loop, for a program that times it, and the ciphers below it.
 #![tactic(auto)]
 
 mod arrived;
 mod border;
+mod ciphers;
 #[cfg(test)]
 mod tests;
 mod told;
