@@ -6,11 +6,13 @@ mod datagrams;
 mod openssl;
 mod plain;
 mod proved;
+mod shuffles;
 
 use cipher::{BlockCmac, HopMac};
 use datagrams::{Datagram, KEY, RECEIVER, SENDER, at, compared, timed};
 use plain::{Config, Decision, Link, LinkKind, Service, Sibling, decide};
 use proved::{Arrived, Told};
+use shuffles::ShuffleCmac;
 use std::hint::black_box;
 use std::net::IpAddr;
 use std::time::{Duration, Instant};
@@ -160,6 +162,20 @@ fn laid_out(datagrams: &[&Datagram]) -> (Vec<Arrived>, Vec<u8>) {
     (arrivals, bytes)
 }
 
+/// That the decision is the same one by MACs of another kind.
+fn compare_mac<M: HopMac>(datagram: &Datagram, decision: &Decision, kind: &str) {
+    let mut bytes = datagram.bytes.clone();
+    let config = config::<M>();
+    let other = decide(
+        &config,
+        datagram.link,
+        datagram.source,
+        datagram.now,
+        &mut bytes,
+    );
+    assert_eq!(&other, decision, "{kind}, {}", datagram.name);
+}
+
 /// That both decisions are the wanted one, with the same bytes.
 fn compare(datagram: &Datagram) {
     let name = datagram.name;
@@ -181,13 +197,9 @@ fn compare(datagram: &Datagram) {
     if !matches!(decision, Decision::Send { .. }) {
         assert_eq!(bytes, datagram.bytes, "bytes of a refused one, {name}");
     }
+    compare_mac::<ShuffleCmac>(datagram, &decision, "shuffles");
     #[cfg(openssl)]
-    {
-        let mut bytes = datagram.bytes.clone();
-        let config = config::<openssl::OpensslCmac>();
-        let other = decide(&config, datagram.link, source, datagram.now, &mut bytes);
-        assert_eq!(other, decision, "OpenSSL, {name}");
-    }
+    compare_mac::<openssl::OpensslCmac>(datagram, &decision, "OpenSSL");
 }
 
 type Rounds = fn(u64, &[Arrived], &mut [u8]) -> u64;
@@ -197,6 +209,7 @@ fn columns() -> Vec<(&'static str, Rounds)> {
     vec![
         ("Rattle", proved::rounds),
         ("Rust", plain_rounds::<BlockCmac>),
+        ("Rust with shuffles", plain_rounds::<ShuffleCmac>),
         #[cfg(openssl)]
         (
             "Rust with OpenSSL's CMAC",
@@ -288,14 +301,18 @@ fn main() {
     for (name, _) in &columns {
         print!(" {name} |");
     }
-    println!(" Rattle/Rust |");
-    println!("|---|{}", "---|".repeat(columns.len() + 1));
+    println!(" Rattle/Rust | Rattle/shuffles |");
+    println!("|---|{}", "---|".repeat(columns.len() + 2));
     for set in &sets {
         print!("| {} |", set.name);
         for column in 0..columns.len() {
             print!(" {:.1} |", set.least(column));
         }
-        println!(" {:.2} |", set.least(0) / set.least(1));
+        println!(
+            " {:.2} | {:.2} |",
+            set.least(0) / set.least(1),
+            set.least(0) / set.least(2)
+        );
     }
 
     // Rattle's transit, along and against.
@@ -308,6 +325,7 @@ fn main() {
     let mixed = &sets[sets.len() - 1];
     println!();
     println!("decision/rust {:.2}", mixed.least(0) / mixed.least(1));
+    println!("decision/shuffles {:.2}", mixed.least(0) / mixed.least(2));
     println!(
         "hops64/hops3 {:.2}",
         transit(" 64 hops") / transit(" 3 hops")
