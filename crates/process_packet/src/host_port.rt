@@ -20,6 +20,8 @@ fn has_in_range(range: PortRange, port: u16) -> bool
 
 /// The application's port, by the protocol that the header names for these bytes, if it is in the range; else the
 /// dispatcher's.
+// Kept apart, so that the decision is as short as it can be where there is no range.
+#[inline(never)]
 fn port_or(range: PortRange, dispatcher: u16, next_header: u8, payload: &[u8]) -> u16
     ensures { result ≡ port_or range dispatcher (destination_port next_header payload.now) }
 {
