@@ -1,6 +1,6 @@
 //! Tests of the crates of a packet, all by their public functions: of the fields, the ciphers, the header, the
-//! path, the rules of one hop and the flow, and of nets and walks, over configurations that are read from their
-//! text. They are kept apart from these crates, each of which would be proved a second time for its tests.
+//! path, the rules of one hop, the flow, ports of end hosts, and of nets and walks, over configurations that are read
+//! from their text. They are kept apart from these crates, each of which would be proved a second time for its tests.
 #![tactic(auto)]
 
 #[cfg(test)]
@@ -26,6 +26,8 @@ mod nets;
 mod one_hop;
 #[cfg(test)]
 mod path;
+#[cfg(test)]
+mod ports;
 #[cfg(test)]
 mod samples;
 #[cfg(test)]
