@@ -7,9 +7,32 @@ use Rattle.host_ports.specs.Messages.{UdpHeader}
 use Rattle.host_ports.specs.Port.{destination_port}
 use Rattle.scion_packet.specs.Header.{HeaderFields}
 use Rattle.process_packet.specs.declared.port_range.PortRange.{PortRange}
-use Rattle.process_packet.specs.HostPort.{delivered_at, host_port_of, port_among, port_or}
+use Rattle.process_packet.specs.HostPort.{delivered_at, has_in_range, host_port_of, port_among, port_or}
 use Rattle.process_packet.specs.Network.{Network, reached_at}
 use Rattle.process_packet.specs.PortLaws.{CarriesUdp, HostsListenSo}
+
+-- ---- the range
+
+has_it : (range : PortRange) (port : ℕ) → range.first ≤ port → port ≤ range.last → has_in_range range port ≡ true
+has_it range port from to = ap₂ (λ (a b : Bool). a && b) (le-leb range.first port from) (le-leb port range.last to)
+
+out_by : (a b : Bool) → (a ≡ false) ⊎ (b ≡ false) → (a && b) ≡ false
+out_by true b (inl never) = absurd cc
+out_by true b (inr out) = out
+out_by false b out = refl
+
+lacks_it : (range : PortRange) (port : ℕ) → (port < range.first) ⊎ (range.last < port) → has_in_range range port ≡ false
+lacks_it range port out =
+    out_by (nat_le range.first port) (nat_le port range.last)
+    (elim out [ inl below ↦ inl (lt-leb range.first port below) | inr above ↦ inr (lt-leb port range.last above) ])
+
+chosen : (range : PortRange) (other port : ℕ) → has_in_range range port ≡ true → port_or range other (Some port) ≡ port
+chosen range other port has = ap (λ (b : Bool). if b then port else other) has
+
+passed_over : (range : PortRange) (other port : ℕ) → has_in_range range port ≡ false → port_or range other (Some port) ≡ other
+passed_over range other port lacks = ap (λ (b : Bool). if b then port else other) lacks
+
+-- ---- a packet
 
 module _ (n : Network) (next_header : ℕ) (payload : List ℕ) where
   ranged : (range : PortRange) (o : Option ℕ) → n.dispatched_ports ≡ Some range → destination_port next_header payload ≡ o
@@ -24,19 +47,11 @@ module _ (n : Network) (next_header : ℕ) (payload : List ℕ) where
 
   pub at_its_own : (range : PortRange) (port : ℕ) → n.dispatched_ports ≡ Some range → destination_port next_header payload ≡ Some port → range.first ≤ port → port ≤ range.last
       → host_port_of n next_header payload ≡ port
-  at_its_own range port there is from to =
-      ranged range (Some port) there is ∙ ap (λ (b : Bool). if b then port else n.host_port) (ap₂ (λ (a b : Bool). a && b) (le-leb range.first port from) (le-leb port range.last to))
+  at_its_own range port there is from to = ranged range (Some port) there is ∙ chosen range n.host_port port (has_it range port from to)
 
-  out_by : (a b : Bool) → (a ≡ false) ⊎ (b ≡ false) → (a && b) ≡ false
-  out_by true b (inl never) = absurd cc
-  out_by true b (inr out) = out
-  out_by false b out = refl
-
-  pub out_of_range : (range : PortRange) (port : ℕ) → n.dispatched_ports ≡ Some range → destination_port next_header payload ≡ Some port → (port < range.first) ⊎ (range.last < port)
-      → host_port_of n next_header payload ≡ n.host_port
-  out_of_range range port there is out =
-      let test = out_by (nat_le range.first port) (nat_le port range.last) (elim out [ inl below ↦ inl (lt-leb range.first port below) | inr above ↦ inr (lt-leb port range.last above) ]) in
-      ranged range (Some port) there is ∙ ap (λ (b : Bool). if b then port else n.host_port) test
+  pub out_of_range : (range : PortRange) (port : ℕ) → n.dispatched_ports ≡ Some range → destination_port next_header payload ≡ Some port
+      → (port < range.first) ⊎ (range.last < port) → host_port_of n next_header payload ≡ n.host_port
+  out_of_range range port there is out = ranged range (Some port) there is ∙ passed_over range n.host_port port (lacks_it range port out)
 
   without_port_by : (o : Option PortRange) → n.dispatched_ports ≡ o → destination_port next_header payload ≡ None → host_port_of n next_header payload ≡ n.host_port
   without_port_by None there none = without_range there
