@@ -32,7 +32,7 @@ try:
 	@echo 'Nothing was proved: `make demo` proves the program before it runs it.'
 
 THREE_ASES = $(CURDIR)/examples/three-ases
-HOSTS = 127.0.1.10:30041 127.0.3.10:30041
+HOSTS = 127.0.1.10:31000 127.0.3.10:31000
 PATH_FILES = first.toml core-1.toml core-2.toml last.toml
 
 # Carries beacons, a packet and a traceroute through three ASes over loopback addresses of this machine, by four routers in

@@ -42,7 +42,7 @@ for name in $routers; do
 done
 
 status=0
-"$probe" 127.0.1.10:30041 127.0.3.10:30041 \
+"$probe" 127.0.1.10:31000 127.0.3.10:31000 \
     "$here/first.toml" "$here/core-1.toml" "$here/core-2.toml" "$here/last.toml" || status=$?
 
 # The end of its commands ends a router; one that is gone or fails is seen by its status.

@@ -20,10 +20,10 @@ const ONE_HOP: u8 = 2;
 
 const PATH_TYPE_AT: usize = 8;
 
-/// Payloads: a UDP header, and a word.
-const HELLO: &[u8] = b"\x75\x59\x75\x59\x00\x0e\x00\x00beacon";
+/// Payloads: a UDP header, from port 31000 to the same, and a word.
+const HELLO: &[u8] = b"\x79\x18\x79\x18\x00\x0e\x00\x00beacon";
 
-const REPLY: &[u8] = b"\x75\x59\x75\x59\x00\x0e\x00\x00answer";
+const REPLY: &[u8] = b"\x79\x18\x79\x18\x00\x0e\x00\x00answer";
 
 /// A beacon over a link, from a host of one AS to the control service of another, which is a host too. The
 /// segment is the one that it makes.

@@ -7,10 +7,11 @@ pub const UDP: u8 = 17;
 
 pub const SCMP: u8 = 202;
 
-/// A traceroute request with a sequence number. Routers don't look at its checksum.
+/// A traceroute request with a sequence number, from port 31000, at which the hosts listen. Routers don't look at its
+/// checksum.
 pub fn request(sequence: u8) -> [u8; 24] {
     [
-        130, 0, 0, 0, 0, 1, 0, sequence, 0, 0, 0, 0, 0, 0, 0, 0, 0, 0, 0, 0, 0, 0, 0, 0,
+        130, 0, 0, 0, 0x79, 0x18, 0, sequence, 0, 0, 0, 0, 0, 0, 0, 0, 0, 0, 0, 0, 0, 0, 0, 0,
     ]
 }
 

@@ -205,7 +205,7 @@ impl Probe {
 
     /// Sends one packet from host to host, and prints what arrives.
     fn ping<R: Clock + Print + AllocGlobal>(&self, rt: &R) -> io::Result<()> {
-        let payload = b"\x75\x59\x75\x59\x00\x0d\x00\x00hello";
+        let payload = b"\x79\x18\x79\x18\x00\x0d\x00\x00hello";
         let mut room = [0u8; 1500];
         let Came { len, from, micros } = self.send(
             rt,
