@@ -1,3 +1,2 @@
-pub mod AnswerLemmas
 pub mod RouteLemmas
 pub mod ReplayLemmas

@@ -11,8 +11,8 @@ use Rattle.process_packet.specs.declared.decision.Decision.TheVariants.{Send, An
 use Rattle.process_packet.specs.declared.decision.Problem.{Problem}
 use Rattle.process_packet.specs.declared.underlay.Underlay.{Underlay}
 use Rattle.router_config.specs.Shown.{text_of}
-use Rattle.scmp_answer.specs.Outcome.{Leaves, Outcome, Stays, outcome}
-use Rattle.scmp_answer.specs.Reply.{local_address, reply}
+use Rattle.packet_answer.specs.Answer.{answered}
+use Rattle.scmp_answer.specs.Outcome.{Leaves, Outcome, Stays}
 use Rattle.router_lines.specs.HexLine.{bytes_of}
 use Rattle.router_lines.specs.declared.arrival_context.ArrivalContext.{ArrivalContext}
 
@@ -35,7 +35,7 @@ outcome_text (Stays cause) = drop_text cause
 
 -- what becomes of a problem of a datagram that arrived so
 abbrev pub reply_text : Config → ArrivalContext → List ℕ → Problem → List ℕ
-reply_text config a bytes problem = outcome_text (outcome (reply (local_address config) a.link a.source bytes problem))
+reply_text config a bytes problem = outcome_text (answered config a.link a.source a.moment bytes problem)
 
 -- the line for a decision, after which the datagram has these bytes: those that leave where it is sent, else as it arrived
 abbrev pub text_for : Config → ArrivalContext → Decision → List ℕ → List ℕ

@@ -1,16 +1,16 @@
 //! The line that `route` writes for each line that it reads.
 ghost use Rattle.std.specs.Prelude.{◌≡◌, ◌++◌, ◌*◌, length, IfOk, OnOk, Ok, Some, None, codes, decimal, if◌then◌else◌};
 ghost use Rattle.hex.specs.Hex.{encode_lower};
-ghost use Rattle.process_packet.specs.Routed.{IsAnswer};
-ghost use Rattle.scion_packet.specs.Packet.{first_fault};
+ghost use Rattle.packet_answer.specs.Answer.{IsAnswerable};
+ghost use Rattle.process_packet.specs.declared.decision.Problem.{Problem as Told};
 ghost use Rattle.router_engine.specs.Answers.{answer_for, answer_to, drop_text, reply_text, sent_text, text_for, to_text};
 
+use packet_answer::{AnswerLen, LONGEST_ANSWER, answer_into};
 use process_packet::{
     Cause, Config, Decision, Problem, Underlay, answers_are_sound, route_in_place,
 };
 use router_config::{push_decimal, push_underlay};
 use router_lines::{ArrivalContext, read_hex};
-use scmp_answer::{AnswerLen, LONGEST_ANSWER, answer_into};
 use std::alloc::AllocError;
 
 /// Adds the bytes to the text, two lower-case hex digits each.
@@ -72,18 +72,12 @@ fn push_answer(
     bytes: &[u8],
     problem: &Problem,
 ) -> Result<(), AllocError>
-    requires { first_fault bytes.now ≡ None }
+    requires { IsAnswerable bytes.now problem.now }
     ensures { OnOk result (text.new.items ≡ text.old.items ++ reply_text config.now arriving.now bytes.now problem.now) }
 {
+    let (link, source, moment) = (arriving.link, arriving.source, arriving.moment);
     let mut room = [0; LONGEST_ANSWER];
-    match answer_into(
-        config,
-        arriving.link,
-        arriving.source,
-        bytes,
-        problem,
-        &mut room,
-    ) {
+    match answer_into(config, link, source, moment, bytes, problem, &mut room) {
         AnswerLen::Send { link, to, len } => {
             text.extend_from_slice(b"answer ")?;
             push_sent(text, link, to, &room[..len])
@@ -100,7 +94,7 @@ fn write_answer(
     bytes: &[u8],
     text: &mut Vec<u8>,
 ) -> Result<(), AllocError>
-    requires { IsAnswer decision → first_fault bytes.now ≡ None }
+    requires { (p : Told) → decision ≡ Decision.Answer p → IsAnswerable bytes.now p }
     ensures { OnOk result (text.new.items ≡ text_for config.now arriving.now decision bytes.now) }
 {
     text.clear();
