@@ -30,7 +30,10 @@ fn tells_the_port_of_a_packet(rt: HostRuntime) {
         (6, UDP.as_slice(), None),
     ];
     for (next_header, bytes, port) in cases {
-        assert!(rt; destination_port(next_header, bytes) == port, "{next_header}");
+        assert!(rt;
+            destination_port(next_header, bytes) == port,
+            "{next_header}"
+        );
     }
 }
 

@@ -1,7 +1,9 @@
 use Rattle.std.proofs.Common.{rules, ◌<◌, ◌∙◌, Option, length, subst, arith}
 use Rattle.process_packet.specs.declared.config.Config.{Config}
+use Rattle.stage_parts.specs.GivingBack.{GaveBack}
 use Rattle.stage_parts.specs.Items.{StandsIn}
 use Rattle.stage_parts.proofs.BackLemmas.{back_long}
+use Rattle.forwarder_stage.specs.Forwarding.{Delivery}
 use Rattle.forwarder_stage.proofs.delivery.Delivery.hand_on.Goals as goal
 
 pub invariant_of-self : goal.invariant_of-self
@@ -12,4 +14,7 @@ invariant_of-self g c =
     (inv.0, back_long c.arrived-link.result c.into_buffer.result c.self.inside.free.items c.give_back.new.free.items there c.give_back.ensures ∙ inv.1)
 
 pub returns : goal.returns
-returns g c = search rules
+returns g c =
+    let taken_back = subst (λ (d : Delivery g.row.K.Denot). GaveBack c.args.egress_packet.arrived c.into_buffer.result d.free c.give_back.new.free.items) c.self.view_is
+    (rw c.arrived-link.ensures.arrived at c.give_back.ensures) in
+    (c.is_ok-took.result, search rules, search rules, (c.into_buffer.result, taken_back), search rules, search rules)
