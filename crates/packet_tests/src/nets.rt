@@ -6,7 +6,7 @@ use std::process::Abort;
 use walk_laws::{End, Net, Wire, agrees};
 
 /// Two routers of 1-ff00:0:110 and one of 1-ff00:0:111 below it: for each the lines of its configuration.
-const TOLD: [[&str; 7]; 3] = [
+const TOLD: [[&str; 8]; 3] = [
     [
         "isd_as = \"1-ff00:0:110\"\n",
         "key = \"2b7e151628aed2a6abf7158809cf4f3c\"\n",
@@ -15,6 +15,7 @@ const TOLD: [[&str; 7]; 3] = [
         "link = [{id=1, kind=\"child\", local=\"10.1.0.1:40000\", remote=\"10.1.0.2:40000\"}]\n",
         "sibling = [{id=2, kind=\"core\", at=\"10.0.0.2:30000\"}]\n",
         "service = [{number=2, at=\"10.0.0.9:30252\"}]\n",
+        "dispatched_ports = [1024, 65535]\n",
     ],
     [
         "isd_as = \"1-ff00:0:110\"\n",
@@ -24,6 +25,7 @@ const TOLD: [[&str; 7]; 3] = [
         "link = [{id=2, kind=\"core\", local=\"10.3.0.1:40000\", remote=\"10.3.0.2:40000\"}]\n",
         "sibling = [{id=1, kind=\"child\", at=\"10.0.0.1:30000\"}]\n",
         "service = [{number=2, at=\"10.0.0.9:30252\"}]\n",
+        "dispatched_ports = [1024, 65535]\n",
     ],
     [
         "isd_as = \"1-ff00:0:111\"\n",
@@ -33,6 +35,7 @@ const TOLD: [[&str; 7]; 3] = [
         "link = [{id=17, kind=\"parent\", local=\"10.1.0.2:40000\", remote=\"10.1.0.1:40000\"}]\n",
         "sibling = []\n",
         "service = []\n",
+        "dispatched_ports = [31000, 32767]\n",
     ],
 ];
 
@@ -48,13 +51,15 @@ const SIBLING: usize = 5;
 
 const SERVICE: usize = 6;
 
+const PORTS: usize = 7;
+
 /// A line of a router's configuration, told otherwise.
 type Change = (usize, usize, &'static str);
 
 const NONE: Change = (3, 0, "");
 
 /// Nets that don't agree, each for the clause that is named.
-const CASES: [(&str, [Change; 2]); 17] = [
+const CASES: [(&str, [Change; 2]); 20] = [
     (
         "key",
         [
@@ -63,6 +68,15 @@ const CASES: [(&str, [Change; 2]); 17] = [
         ],
     ),
     ("host port", [(1, HOST_PORT, "host_port = 30042\n"), NONE]),
+    (
+        "first of the ports",
+        [(1, PORTS, "dispatched_ports = [1025, 65535]\n"), NONE],
+    ),
+    (
+        "last of the ports",
+        [(1, PORTS, "dispatched_ports = [1024, 65534]\n"), NONE],
+    ),
+    ("ports on one side", [(1, PORTS, ""), NONE]),
     (
         "service's address",
         [

@@ -164,10 +164,14 @@ pub(crate) fn arrival(bytes: Vec<u8>, link: u16, source: Underlay) -> Arrival {
     }
 }
 
-fn net(rt: &(impl AllocGlobal + Abort)) -> Net {
+/// The net, with these lines more in each configuration.
+fn net_with(rt: &(impl AllocGlobal + Abort), more: &str) -> Net {
     let mut configs = Vec::new(rt.alloc());
-    for text in [FIRST, MIDDLE, LAST] {
-        let config = read_config(rt.alloc(), text).expect(rt, "config");
+    for lines in [FIRST, MIDDLE, LAST] {
+        let mut text = String::new(rt.alloc());
+        text.push_str(lines).expect(rt, "text");
+        text.push_str(more).expect(rt, "text");
+        let config = read_config(rt.alloc(), text.as_str()).expect(rt, "config");
         configs.push(config).expect(rt, "configs");
     }
     let wires = [
@@ -188,6 +192,19 @@ fn net(rt: &(impl AllocGlobal + Abort)) -> Net {
     ];
     let wires = Vec::from_slice(rt.alloc(), &wires).expect(rt, "wires");
     Net { configs, wires }
+}
+
+fn net(rt: &(impl AllocGlobal + Abort)) -> Net {
+    net_with(rt, "")
+}
+
+/// The datagram from UDP port 31,251 to 31,250.
+fn between_applications(rt: &(impl AllocGlobal + Abort)) -> Vec<u8> {
+    let mut bytes = datagram(rt);
+    for (at, byte) in [(84, 0x7a), (85, 0x13), (86, 0x7a), (87, 0x12)] {
+        bytes = with_byte(rt, bytes.as_slice(), at, byte);
+    }
+    bytes
 }
 
 /// The walk, where the net agrees and has the router.
@@ -286,4 +303,33 @@ fn ends_at_the_router_that_is_asked(rt: HostRuntime) {
         pointer: 1,
     };
     assert!(rt; answers(two, reply));
+}
+
+#[test]
+fn walks_to_applications_and_back(rt: HostRuntime) {
+    let net = net_with(&rt, "dispatched_ports = [31000, 31251]\n");
+    let start = arrival(between_applications(&rt), 0, underlay([10, 1, 0, 5], 31251));
+    let stops = walked(rt.alloc(), &net, 0, &start).expect(&rt, "memory");
+    let [_, two, three] = stops.as_slice() else {
+        return assert!(rt; false, "three stops");
+    };
+    assert!(rt; sends(three, 2, 0, Some(underlay([10, 2, 0, 7], 31250))));
+    // the middle router's answer quotes the port from which it was sent
+    let longer = with_byte(&rt, two.arrival.bytes.as_slice(), 7, 9);
+    let there = arrival(longer, two.arrival.link, two.arrival.source);
+    let problem = Problem {
+        kind: 4,
+        code: 19,
+        pointer: 0,
+    };
+    let sent = reply(rt.alloc(), &net, two.router, &there, &problem).expect(&rt, "memory");
+    let Some(bytes) = sent else {
+        return assert!(rt; false, "an answer");
+    };
+    let back = arrival(bytes, 17, underlay([10, 1, 0, 1], 40000));
+    let stops = walked(rt.alloc(), &net, 0, &back).expect(&rt, "memory");
+    let [one] = stops.as_slice() else {
+        return assert!(rt; false, "one stop");
+    };
+    assert!(rt; sends(one, 0, 0, Some(underlay([10, 1, 0, 5], 31251))));
 }
