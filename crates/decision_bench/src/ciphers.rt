@@ -1,7 +1,8 @@
 //! The ciphers and the check of a MAC, for a C program that tries what their time depends on (`make constant-time`).
 
-ghost use Rattle.std.specs.Prelude.{◌≡◌, take};
-ghost use Rattle.std.specs.Int.{from_be_bytes, w64};
+ghost use Rattle.std.specs.Prelude.{◌≡◌, if◌then◌else◌, [], ◌∷◌, ◌++◌, take};
+ghost use Rattle.std.specs.Int.{from_be_bytes, to_be_bytes, w16, w32, w64};
+ghost use Rattle.std.specs.Str.{bytes_eq};
 ghost use Rattle.aes128_core.specs.Aes128.{cipher};
 ghost use Rattle.cmac_core.specs.Cmac.{tag};
 
@@ -50,7 +51,10 @@ pub extern "C" fn decision_bench_verify(
     segment_id: u16,
     timestamp: u32,
     mac: &[u8; 6],
-) -> u64 {
+) -> u64
+    ensures { result
+        ≡ if bytes_eq mac.now (take 6 (tag key.now (0 ∷ 0 ∷ (to_be_bytes w16 segment_id ++ to_be_bytes w32 timestamp) ++ 0 ∷ 63 ∷ 0 ∷ 1 ∷ 0 ∷ 2 ∷ 0 ∷ 0 ∷ []))) then 1 else 0 }
+{
     let info = Info {
         reserved_flags: 0,
         along: true,
