@@ -1,4 +1,4 @@
-use aes128_core::Aes128;
+use aes128_core::{Aes128, VectorAes128};
 
 // The examples of FIPS 197: appendix B, and C.1 of the edition of 2001.
 #[test]
@@ -16,9 +16,16 @@ fn encrypts_the_examples_of_the_standard(rt: HostRuntime) {
         ),
     ];
     for (key, block, want) in examples {
-        let cipher = Aes128::new(&key.to_be_bytes());
-        let got = u128::from_be_bytes(cipher.encrypt(&block.to_be_bytes()));
-        assert!(rt; got == want, "under the key {key:032x}");
+        let by_tables = Aes128::new(&key.to_be_bytes()).encrypt(&block.to_be_bytes());
+        assert!(rt;
+            by_tables == want.to_be_bytes(),
+            "by tables, under the key {key:032x}"
+        );
+        let by_shuffles = VectorAes128::new(&key.to_be_bytes()).encrypt(&block.to_be_bytes());
+        assert!(rt;
+            by_shuffles == want.to_be_bytes(),
+            "by shuffles, under the key {key:032x}"
+        );
     }
 }
 
@@ -27,9 +34,12 @@ fn encrypts_the_examples_of_the_standard(rt: HostRuntime) {
 fn tells_keys_apart(rt: HostRuntime) {
     let key: u128 = 0x2b7e151628aed2a6abf7158809cf4f3c;
     let cipher = Aes128::new(&key.to_be_bytes());
+    let vector = VectorAes128::new(&key.to_be_bytes());
     assert!(rt; cipher.has_same_key(&Aes128::new(&key.to_be_bytes())));
+    assert!(rt; vector.has_same_key(&VectorAes128::new(&key.to_be_bytes())));
     for bit in [0, 32, 64, 96] {
         let other = key ^ (1 << bit);
         assert!(rt; !cipher.has_same_key(&Aes128::new(&other.to_be_bytes())));
+        assert!(rt; !vector.has_same_key(&VectorAes128::new(&other.to_be_bytes())));
     }
 }
