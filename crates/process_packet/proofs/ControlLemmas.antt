@@ -18,7 +18,6 @@ use Rattle.process_packet.specs.declared.underlay.Underlay.{Underlay}
 use Rattle.process_packet.specs.Answerable.{AnswersAreSound, IsAnswerable, IsControl}
 use Rattle.process_packet.specs.Conditions.{AsksByBfd}
 use Rattle.process_packet.specs.Decide.{decide, decision_of, is_one_hop, scion_decide, verdict}
-use Rattle.process_packet.specs.HostPort.{delivered_at}
 use Rattle.process_packet.specs.LinkControl.{bfd_protocol, control_answer, is_answered}
 use Rattle.process_packet.specs.Network.{Network, own_link}
 use Rattle.process_packet.specs.OneHopAnswers.{IsByBfd, IsToBeAnswered}
@@ -92,7 +91,7 @@ none_later s q told =
     let timely = passed (row.wrong_time s) (dropping _ _) s (rest 10) q far.1 in
     let authentic = passed (row.wrong_mac s) (dropping _ _) s (rest 11) q timely.1 in
     let external = passed (row.leave s) (leaving (is_external s) s) s (rest 12) q authentic.1 in
-    let delivers = passed (complete s) (delivering (completed s) (delivered_at s.network s.packet.header s.packet.payload)) s [] q external.1 in
+    let delivers = passed (complete s) (delivering (completed s) _) s [] q external.1 in
     dropped_not_answered cause.OneHopHost q delivers.1
 
 by_control : (o : Option OneHopVerdict) (s : OneHopState) (q : Problem) → row.link_control s ≡ o → Answers o s (rest 7) q → row.link_control s ≡ Some (Answered q)
