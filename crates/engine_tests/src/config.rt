@@ -1,6 +1,6 @@
 //! The values of configurations and addresses, and a fault. `tests/lines` has the tables of faults.
 use crate::links::{link, underlay};
-use process_packet::{Bands, Config, Ip, Link, Service, Sibling, Underlay};
+use process_packet::{Bands, Config, Ip, Link, PortRange, Service, Sibling, Underlay};
 use router_config::{ConfigFault, fault_words, push_underlay, read_config, read_underlay};
 use sample_packets::CONFIGURATION as TEXT;
 use scion_header::Domain;
@@ -40,6 +40,7 @@ fn reads_a_configuration(rt: HostRuntime) {
     assert!(&rt; is_rest(&config));
     assert!(&rt; config.internal_bands == Bands::One);
     assert!(&rt; config.buffers == 64);
+    assert!(&rt; config.dispatched_ports.is_none());
     let links = [
         link(1, LinkKind::Parent, 1, Bands::One),
         link(2, LinkKind::Child, 2, Bands::One),
@@ -55,9 +56,15 @@ fn changed(rt: &(impl AllocGlobal + Abort), text: &str, old: &str, new: &str) ->
     text.replacen(rt.alloc(), old, new, 1).expect(rt, "text")
 }
 
-/// The text in version 2: the internal network has one band, link 2 has two, and its other end is named.
+/// The text in version 2, with ports of applications: the internal network has one band, link 2 has two,
+/// its other end is named, and BFD is answered there.
 fn second(rt: &(impl AllocGlobal + Abort)) -> String {
-    let text = changed(rt, TEXT, "version = 1", "version = 2\ninternal_bands = 1");
+    let text = changed(
+        rt,
+        TEXT,
+        "version = 1",
+        "version = 2\ninternal_bands = 1\ndispatched_ports = [31000, 32767]",
+    );
     let text = changed(
         rt,
         text.as_str(),
@@ -68,7 +75,7 @@ fn second(rt: &(impl AllocGlobal + Abort)) -> String {
         rt,
         text.as_str(),
         "10.2.0.2:40000\"",
-        "10.2.0.2:40000\", bands=2, neighbor=\"1-ff00:0:112\"",
+        "10.2.0.2:40000\", bands=2, neighbor=\"1-ff00:0:112\", bfd=true",
     );
     changed(
         rt,
@@ -83,11 +90,17 @@ fn reads_the_second_version(rt: HostRuntime) {
     let config = read_config(rt.alloc(), second(&rt).as_str()).expect(&rt, "configuration");
     assert!(&rt; is_rest(&config));
     assert!(&rt; config.internal_bands == Bands::One);
+    let ports = PortRange {
+        first: 31000,
+        last: 32767,
+    };
+    assert!(&rt; config.dispatched_ports == Some(ports));
     let mut child = link(2, LinkKind::Child, 2, Bands::Two);
     child.neighbor = Some(Domain {
         isd: 1,
         autonomous_system: 0xff00_0000_0112,
     });
+    child.bfd = true;
     let links = [
         link(1, LinkKind::Parent, 1, Bands::One),
         child,
