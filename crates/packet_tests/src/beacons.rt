@@ -1,8 +1,10 @@
 //! Beacons on paths of one hop between 1-ff00:0:111 and 1-ff00:0:110, of one router each, whose links name each
-//! other's AS: one each way, and a reply over the path that the first one leaves behind. OpenSSL made the MACs.
+//! other's AS: one each way, and a reply over the path that the first one leaves behind. And BFD that is forged in the
+//! one AS, which ends at the router of the other. OpenSSL made the MACs.
 
-use crate::walks::{arrival, bytes_of, sends, sends_bytes, underlay, walked};
+use crate::walks::{answers, arrival, bytes_of, sends, sends_bytes, underlay, walked};
 use crate::wires::{end, wire};
+use process_packet::Problem;
 use router_config::read_config;
 use std::process::Abort;
 use walk_laws::Net;
@@ -15,7 +17,7 @@ const PARENT: &str =
 const CHILD: &str =
     "version = 1\nisd_as = \"1-ff00:0:110\"\nkey = \"2b7e151628aed2a6abf7158809cf4f3c\"\n\
     internal = \"10.0.0.1:30000\"\nhost_port = 30041\nprocessors = 1\ncapacity = 4\nseed = 0\n\
-    link = [{id=1, kind=\"parent\", local=\"10.1.0.1:40000\", remote=\"10.1.0.2:40000\", neighbor=\"1-ff00:0:111\"}]\n\
+    link = [{id=1, kind=\"parent\", local=\"10.1.0.1:40000\", remote=\"10.1.0.2:40000\", neighbor=\"1-ff00:0:111\", bfd=true}]\n\
     service = [{number=2, at=\"10.0.0.9:30252\"}]\n";
 
 /// An address and a port.
@@ -109,4 +111,26 @@ fn beacons_cross_and_are_answered(rt: HostRuntime) {
     for crossing in &CROSSINGS {
         assert!(rt; walks_so(&rt, &net, crossing), "{}", crossing.sent);
     }
+}
+
+/// BFD as if the router of 1-ff00:0:111 had sent it by its link, Up, from 10.1.0.5 within that AS.
+const FORGED: &str = "0b800007cb110018020000000001ff00000001100001ff00000001110a0000090a010005\
+    0100222265000000003f00000011e6b29e625bd4000000000000000000000000\
+    20c003180000001100000001000f424000030d4000000000";
+
+#[test]
+fn forged_bfd_ends_in_an_answer(rt: HostRuntime) {
+    let net = net(&rt);
+    let start = arrival(bytes_of(&rt, FORGED), 0, underlay([10, 1, 0, 5], 30041));
+    let stops = walked(rt.alloc(), &net, 0, &start).expect(&rt, "memory");
+    let [one, two] = stops.as_slice() else {
+        return assert!(rt; false, "two stops");
+    };
+    assert!(rt; sends(one, 0, 17, None));
+    let bfd = Problem {
+        kind: 203,
+        code: 0,
+        pointer: 1,
+    };
+    assert!(rt; answers(two, bfd));
 }

@@ -8,6 +8,8 @@ mod aes;
 #[cfg(test)]
 mod beacons;
 #[cfg(test)]
+mod bfd;
+#[cfg(test)]
 mod cmac;
 #[cfg(test)]
 mod fields;

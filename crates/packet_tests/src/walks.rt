@@ -236,7 +236,7 @@ pub(crate) fn sends_bytes(stop: &Stop, wanted: &[u8]) -> bool {
     }
 }
 
-fn answers(stop: &Stop, wanted: Problem) -> bool {
+pub(crate) fn answers(stop: &Stop, wanted: Problem) -> bool {
     match &stop.routed {
         Routed::Answer(problem) => *problem == wanted,
         _ => false,
