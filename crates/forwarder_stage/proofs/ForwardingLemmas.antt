@@ -1,10 +1,10 @@
 -- One turn of a forwarder keeps its law.
 use Rattle.std.proofs.Common.{◌≡◌, inl, inr, ℕ, ◌+◌, ◌||◌, min, Bool, true, false, List, [], Option, Some, None, refl, sym, ap, subst, ◌∙◌, arith}
 use Rattle.packet_ledger.specs.Share.{Held, IsPosted, new_share}
-use Rattle.pipeline_laws.specs.Item.{Outgoing}
-use Rattle.pipeline_laws.specs.Deeds as deeds
-use Rattle.pipeline_laws.specs.Deeds.{payload_of}
-use Rattle.pipeline_laws.specs.World.{Cause as Fate}
+use Rattle.order_laws.specs.Item.{Outgoing}
+use Rattle.order_laws.specs.Deeds as deeds
+use Rattle.order_laws.specs.Deeds.{payload_of}
+use Rattle.order_laws.specs.Cause.{Cause as Fate}
 use Rattle.router_laws.specs.Heard.{ToldNothing}
 use Rattle.router_laws.specs.Keeping.{IsForwarding}
 use Rattle.router_laws.specs.Shares.{raise}

@@ -1,8 +1,8 @@
 -- What contracts see of a forwarder, and what a turn does.
 use Rattle.std.specs.Prelude.{◌≡◌, ◌⊎◌, ◌+◌, ◌-◌, ◌^◌, ◌<◌, ◌≤◌, ◌||◌, ℕ, Bool, true, false, List, Option, Some, None, if◌then◌else◌}
 use Rattle.packet_ledger.specs.Share.{Held, new_share}
-use Rattle.pipeline_laws.specs.Item.{Outgoing}
-use Rattle.pipeline_laws.specs.World.{Cause as Fate}
+use Rattle.order_laws.specs.Item.{Outgoing}
+use Rattle.order_laws.specs.Cause.{Cause as Fate}
 use Rattle.process_packet.specs.declared.config.Config.{Config}
 use Rattle.ruled_pipe.specs.declared.entry.Load.TheVariants.{Payload, Marked}
 use Rattle.ruled_pipe.specs.declared.entry.Mark.{Mark}

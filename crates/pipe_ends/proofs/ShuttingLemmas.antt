@@ -2,7 +2,7 @@
 use Rattle.std.proofs.Common.{◌≡◌, ℕ, zero, suc, ◌+◌, ◌<◌, ◌≤◌, Bool, true, false, ◌||◌, List, [], ◌∷◌, ◌++◌, length, MatchBool, slice_get, slice_index_or, slice_set, refl, sym, ap, subst, ◌∙◌, arith, length-append}
 use Rattle.std.proofs.Math.Bool.{or-true}
 use Rattle.std.proofs.lemmas.List.{map-append}
-use Rattle.pipeline_laws.specs.Deeds.{closes, has_mark, payload_of, payloads}
+use Rattle.order_laws.specs.Deeds.{closes, has_mark, payload_of, payloads}
 use Rattle.ruled_pipe.specs.declared.entry.Entry.{Entry}
 use Rattle.ruled_pipe.specs.declared.entry.Load.TheVariants.{Marked}
 use Rattle.ruled_pipe.specs.declared.entry.Mark.{Mark}

@@ -1,6 +1,6 @@
 -- Ends of pipes that push marks alone.
 use Rattle.std.specs.Prelude.{◌≡◌, ℕ, zero, suc, Bool, true, false, List, [], ◌∷◌, map, length, slice_get, Some, slice_index_or, MatchBool}
-use Rattle.pipeline_laws.specs.Deeds.{has_mark, payloads}
+use Rattle.order_laws.specs.Deeds.{has_mark, payloads}
 use Rattle.ruled_pipe.specs.declared.entry.Load.TheVariants.{Marked}
 use Rattle.ruled_pipe.specs.declared.entry.Mark.TheVariants.{Close}
 use Rattle.ruled_pipe.specs.Producer.{Sender, entry, offered, refused}

@@ -3,9 +3,10 @@ use Rattle.std.proofs.Common.{◌≡◌, ℕ, ◌+◌, Bool, true, false, cond, 
 use Rattle.std.specs.Prelude.{◌==◌}
 use Rattle.std.specs.List.{filter, sum, sum_by}
 use Rattle.std.proofs.lemmas.List.Sums.{sum-map, sum_by-cons}
-use Rattle.pipeline_laws.specs.Counts.{count, total}
-use Rattle.pipeline_laws.specs.World.{Cause, Fate}
-use Rattle.pipeline_laws.proofs.Sums.{total-agree, total-plus}
+use Rattle.order_laws.specs.Counts.{count, total}
+use Rattle.order_laws.specs.Cause.{Cause}
+use Rattle.replay_laws.specs.World.{Fate}
+use Rattle.order_laws.proofs.Sums.{total-agree, total-plus}
 use Rattle.process_packet.specs.Cause.{number_of}
 use Rattle.process_packet.specs.declared.cause.Cause.{Cause as RouterCause}
 use Rattle.process_packet.specs.declared.cause.Cause.TheVariants as why

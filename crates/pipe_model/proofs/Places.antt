@@ -4,11 +4,12 @@ use Rattle.std.specs.Prelude.{Some, None, option_map}
 use Rattle.std.specs.Option.{option_or}
 use Rattle.std.specs.List.{flat_map}
 use Rattle.std.proofs.lemmas.List.{at_drop_all, at_drop_more, drop-map, drop_more}
-use Rattle.pipeline_laws.specs.Item.{Item, Outgoing, is_named}
-use Rattle.pipeline_laws.specs.Pipe.{Entry, Pipe, items}
-use Rattle.pipeline_laws.specs.Place.{Place, InHand, Dropped, here_if, in_fates, in_hands, in_pipe, in_pipes, in_sent, place_at, worker_at}
-use Rattle.pipeline_laws.specs.Rules.{Rules}
-use Rattle.pipeline_laws.specs.World.{Fate, Hand, Empty, Got, Owes}
+use Rattle.order_laws.specs.Item.{Item, Outgoing}
+use Rattle.replay_laws.specs.Marks.{is_named}
+use Rattle.replay_laws.specs.Pipe.{Entry, Pipe, items}
+use Rattle.replay_laws.specs.Place.{Place, InHand, Dropped, here_if, in_fates, in_hands, in_pipe, in_pipes, in_sent, place_at, worker_at}
+use Rattle.order_laws.specs.Rules.{Rules}
+use Rattle.replay_laws.specs.World.{Fate, Hand, Empty, Got, Owes}
 use Rattle.router_rules.specs.Rules.{kinds}
 use Rattle.pipe_model.specs.Finding.{has_in_hand, has_in_pipe, is_among}
 use Rattle.pipe_parts.specs.Sent.{place_of_sent}

@@ -5,11 +5,11 @@ use Rattle.std.proofs.lemmas.List.{ext_get_or}
 use Rattle.std.proofs.lemmas.List.FromFn.{get_or-map-range_with_len, length-map-range_with_len}
 use Rattle.std.specs.declared.alloc.Global.{Global}
 use Rattle.std.specs.declared.vec.Vec.{Vec}
-use Rattle.pipeline_laws.specs.Item.{Arrival, Arrived, Item}
-use Rattle.pipeline_laws.specs.Pipe.{Entry, Pipe, empty_pipe, items}
-use Rattle.pipeline_laws.specs.Start.{AreSources, HasArrival, Numbered, arrivals, first_world}
-use Rattle.pipeline_laws.specs.World.{World}
-use Rattle.pipeline_laws.proofs.Begins.{begins}
+use Rattle.order_laws.specs.Item.{Arrival, Arrived, Item}
+use Rattle.replay_laws.specs.Pipe.{Entry, Pipe, empty_pipe, items}
+use Rattle.replay_laws.specs.Start.{AreSources, HasArrival, Numbered, arrivals, first_world}
+use Rattle.replay_laws.specs.World.{World}
+use Rattle.replay_laws.proofs.Begins.{begins}
 use Rattle.process_packet.specs.declared.arrival.Arrival.{Arrival as Came}
 use Rattle.process_packet.specs.declared.config.Config.{Config}
 use Rattle.router_rules.specs.Links.{link_count, link_index}

@@ -3,9 +3,9 @@ use Rattle.std.proofs.Common.{◌≡◌, ℕ, suc, ◌+◌, ◌<◌, Bool, true,
 use Rattle.std.specs.List.{filter}
 use Rattle.std.proofs.lemmas.List.{drop-map, take_more}
 use Rattle.std.proofs.Math.Seq.{take-length}
-use Rattle.pipeline_laws.specs.Counts.{count, total}
-use Rattle.pipeline_laws.specs.Pipe.{Entry, Pipe, held}
-use Rattle.pipeline_laws.specs.Totals.{is_packet}
+use Rattle.order_laws.specs.Counts.{count, total}
+use Rattle.replay_laws.specs.Pipe.{Entry, Pipe, held}
+use Rattle.replay_laws.specs.Totals.{is_packet}
 use Rattle.router_rules.specs.Rules.{kinds}
 
 module _ {X : Type 0} (f : X → ℕ) where

@@ -4,14 +4,14 @@ use Rattle.std.specs.Prelude.{Option, Some, None}
 use Rattle.std.proofs.lemmas.List.{append-nil, drop_all, drop_more, map-append, take_more}
 use Rattle.std.proofs.Math.Seq.{take-length}
 use Rattle.std.specs.List.{range_with_len}
-use Rattle.pipeline_laws.specs.Item.{Item}
-use Rattle.pipeline_laws.specs.Next.{next}
-use Rattle.pipeline_laws.specs.Run.{or_same, run, skip_if, skipped_from}
-use Rattle.pipeline_laws.specs.Start.{HasArrival, arrivals, first_world}
-use Rattle.pipeline_laws.specs.Step.{Step}
-use Rattle.pipeline_laws.specs.World.{World}
-use Rattle.pipeline_laws.proofs.Reach.{reaches_on, run-append}
-use Rattle.pipeline_laws.proofs.Runs.{keeps_arrivals, run_keeps}
+use Rattle.order_laws.specs.Item.{Item}
+use Rattle.replay_laws.specs.Next.{next}
+use Rattle.replay_laws.specs.Run.{or_same, run, skip_if, skipped_from}
+use Rattle.replay_laws.specs.Start.{HasArrival, arrivals, first_world}
+use Rattle.replay_laws.specs.Step.{Step}
+use Rattle.replay_laws.specs.World.{World}
+use Rattle.replay_laws.proofs.Reach.{reaches_on, run-append}
+use Rattle.replay_laws.proofs.Runs.{keeps_arrivals, run_keeps}
 use Rattle.process_packet.specs.declared.config.Config.{Config}
 use Rattle.router_rules.specs.Links.{link_count}
 use Rattle.router_rules.specs.Rules.{kinds, rules}

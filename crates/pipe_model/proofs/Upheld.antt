@@ -1,20 +1,21 @@
 -- What some steps led to keeps what the headline says.
 use Rattle.std.proofs.Common.{◌≡◌, inl, inr, Bool, true, false, get_or, refl, sym, subst}
 use Rattle.std.proofs.lemmas.Bool.{false≢true}
-use Rattle.pipeline_laws.specs.ByRules.{IsCaused, IsCauseOf, IsRuleCauseOf}
-use Rattle.pipeline_laws.specs.Item.{Arrival}
-use Rattle.pipeline_laws.specs.Kinds.{Kinds}
-use Rattle.pipeline_laws.specs.Rules.{IsLawful, Rules}
-use Rattle.pipeline_laws.specs.Start.{HasArrival, IsLawfulFor}
-use Rattle.pipeline_laws.specs.World.{Cause, Fate, World}
-use Rattle.pipeline_laws.proofs.ByRules.{keeps_rules}
-use Rattle.pipeline_laws.proofs.Close.{keeps_close}
-use Rattle.pipeline_laws.proofs.Full.{keeps_full_law}
-use Rattle.pipeline_laws.proofs.Once.{keeps_once}
-use Rattle.pipeline_laws.proofs.Order.{keeps_order}
-use Rattle.pipeline_laws.proofs.Place.{keeps_place}
-use Rattle.pipeline_laws.proofs.Sent.{keeps_sent}
-use Rattle.pipeline_laws.proofs.Totals.{keeps_totals}
+use Rattle.replay_laws.specs.ByRules.{IsCaused, IsCauseOf, IsRuleCauseOf}
+use Rattle.order_laws.specs.Item.{Arrival}
+use Rattle.order_laws.specs.Kinds.{Kinds}
+use Rattle.order_laws.specs.Rules.{IsLawful, Rules}
+use Rattle.replay_laws.specs.Start.{HasArrival, IsLawfulFor}
+use Rattle.order_laws.specs.Cause.{Cause}
+use Rattle.replay_laws.specs.World.{Fate, World}
+use Rattle.replay_laws.proofs.ByRules.{keeps_rules}
+use Rattle.replay_laws.proofs.Close.{keeps_close}
+use Rattle.replay_laws.proofs.Full.{keeps_full_law}
+use Rattle.replay_laws.proofs.Once.{keeps_once}
+use Rattle.replay_laws.proofs.Order.{keeps_order}
+use Rattle.replay_laws.proofs.Place.{keeps_place}
+use Rattle.replay_laws.proofs.Sent.{keeps_sent}
+use Rattle.replay_laws.proofs.Totals.{keeps_totals}
 use Rattle.process_packet.specs.declared.cause.Cause.{Cause as RouterCause}
 use Rattle.process_packet.specs.declared.cause.Cause.TheVariants as cause
 use Rattle.process_packet.specs.declared.config.Config.{Config}

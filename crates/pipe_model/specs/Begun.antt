@@ -3,11 +3,11 @@ use Rattle.std.specs.Prelude.{◌≡◌, ◌+◌, ℕ, List, [], ◌∷◌, leng
 use Rattle.std.specs.List.{range_with_len}
 use Rattle.std.specs.declared.alloc.Global.{Global}
 use Rattle.std.specs.declared.vec.Vec.{Vec}
-use Rattle.pipeline_laws.specs.Item.{Item}
-use Rattle.pipeline_laws.specs.Pipe.{Entry, Pipe}
-use Rattle.pipeline_laws.specs.Start.{arrivals, first_world}
-use Rattle.pipeline_laws.specs.Worker.{Receiver}
-use Rattle.pipeline_laws.specs.World.{World}
+use Rattle.order_laws.specs.Item.{Item}
+use Rattle.replay_laws.specs.Pipe.{Entry, Pipe}
+use Rattle.replay_laws.specs.Start.{arrivals, first_world}
+use Rattle.replay_laws.specs.Worker.{Receiver}
+use Rattle.replay_laws.specs.World.{World}
 use Rattle.process_packet.specs.declared.arrival.Arrival.{Arrival as Came}
 use Rattle.process_packet.specs.declared.config.Config.{Config}
 use Rattle.router_rules.specs.Links.{link_count, link_index}

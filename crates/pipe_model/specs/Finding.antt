@@ -1,9 +1,9 @@
 -- Whether a packet that is looked for is in a hand or in a pipe.
 use Rattle.std.specs.Prelude.{ℕ, Bool, false, drop, List}
 use Rattle.std.specs.List.{list_any}
-use Rattle.pipeline_laws.specs.Item.{is_named}
-use Rattle.pipeline_laws.specs.Pipe.{Entry, Pipe}
-use Rattle.pipeline_laws.specs.World.{Hand, Empty, Got, Owes}
+use Rattle.replay_laws.specs.Marks.{is_named}
+use Rattle.replay_laws.specs.Pipe.{Entry, Pipe}
+use Rattle.replay_laws.specs.World.{Hand, Empty, Got, Owes}
 use Rattle.router_rules.specs.Rules.{kinds}
 
 abbrev pub has_in_hand : (ℕ → ℕ → Bool) → Hand kinds → Bool

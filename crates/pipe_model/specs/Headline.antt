@@ -2,18 +2,19 @@
 -- counts add up, a drop at a full pipe met it full, and nothing after a closing mark is sent.
 use Rattle.std.specs.Prelude.{◌≡◌, ◌<◌, ◌+◌, ℕ, Bool, true, false, List}
 use Rattle.std.specs.List.{All}
-use Rattle.pipeline_laws.specs.ByRules.{IsByRules}
-use Rattle.pipeline_laws.specs.Close.{IsClosing}
-use Rattle.pipeline_laws.specs.Full.{IsFull}
-use Rattle.pipeline_laws.specs.Item.{Arrival}
-use Rattle.pipeline_laws.specs.Once.{IsOnce}
-use Rattle.pipeline_laws.specs.Order.{InOrder}
-use Rattle.pipeline_laws.specs.Place.{IsPlaced}
-use Rattle.pipeline_laws.specs.Sent.{IsSent}
-use Rattle.pipeline_laws.specs.Start.{HasArrival, Reached}
-use Rattle.pipeline_laws.specs.Totals.{answered_count, dropped_count, received_count, sent_count, waiting_count}
-use Rattle.pipeline_laws.specs.Rules.{Asks, Drops, Withholds}
-use Rattle.pipeline_laws.specs.World.{Cause, Fate, World}
+use Rattle.replay_laws.specs.ByRules.{IsByRules}
+use Rattle.replay_laws.specs.Close.{IsClosing}
+use Rattle.replay_laws.specs.Full.{IsFull}
+use Rattle.order_laws.specs.Item.{Arrival}
+use Rattle.replay_laws.specs.Once.{IsOnce}
+use Rattle.replay_laws.specs.Order.{InOrder}
+use Rattle.replay_laws.specs.Place.{IsPlaced}
+use Rattle.replay_laws.specs.Sent.{IsSent}
+use Rattle.replay_laws.specs.Start.{HasArrival, Reached}
+use Rattle.replay_laws.specs.Totals.{answered_count, dropped_count, received_count, sent_count, waiting_count}
+use Rattle.order_laws.specs.Rules.{Asks, Drops, Withholds}
+use Rattle.order_laws.specs.Cause.{Cause}
+use Rattle.replay_laws.specs.World.{Fate, World}
 use Rattle.process_packet.specs.declared.cause.Cause.{Cause as RouterCause}
 use Rattle.process_packet.specs.declared.config.Config.{Config}
 use Rattle.process_packet.specs.declared.decision.Problem.{Problem}

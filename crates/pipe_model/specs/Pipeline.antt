@@ -1,9 +1,9 @@
 -- A pipeline: its configuration, and its world at one moment.
 use Rattle.std.specs.Prelude.{ℕ, List, map, Option, Some, None}
-use Rattle.pipeline_laws.specs.Next.{next}
-use Rattle.pipeline_laws.specs.Run.{run, skipped_from}
-use Rattle.pipeline_laws.specs.Rules.{Rules}
-use Rattle.pipeline_laws.specs.World.{World}
+use Rattle.replay_laws.specs.Next.{next}
+use Rattle.replay_laws.specs.Run.{run, skipped_from}
+use Rattle.order_laws.specs.Rules.{Rules}
+use Rattle.replay_laws.specs.World.{World}
 use Rattle.process_packet.specs.declared.config.Config.{Config}
 use Rattle.router_rules.specs.Rules.{kinds, rules}
 use Rattle.pipe_steps.specs.Step.{step_in}

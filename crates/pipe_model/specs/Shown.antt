@@ -1,11 +1,11 @@
 -- What is told of a pipeline: what each link sent, where a packet is, how many of them.
 use Rattle.std.specs.Prelude.{ℕ, Bool, ◌==◌, List, [], map, slice_index_or, Option, option_map}
 use Rattle.std.specs.List.{range_with_len}
-use Rattle.pipeline_laws.specs.Place as place
-use Rattle.pipeline_laws.specs.Place.{places}
-use Rattle.pipeline_laws.specs.Totals.{answered_count, dropped_count, received_count, sent_count, waiting_count}
-use Rattle.pipeline_laws.specs.Worker.{Worker, Receiver, Processor, Slow, Forwarder, Controller}
-use Rattle.pipeline_laws.specs.World.{Cause}
+use Rattle.replay_laws.specs.Place as place
+use Rattle.replay_laws.specs.Place.{places}
+use Rattle.replay_laws.specs.Totals.{answered_count, dropped_count, received_count, sent_count, waiting_count}
+use Rattle.replay_laws.specs.Worker.{Worker, Receiver, Processor, Slow, Forwarder, Controller}
+use Rattle.order_laws.specs.Cause.{Cause}
 use Rattle.process_packet.specs.Cause.{causes, number_of}
 use Rattle.process_packet.specs.declared.config.Config.{Config}
 use Rattle.process_packet.specs.declared.totals.Totals.{Totals}

@@ -1,10 +1,10 @@
 //! How many packets are in hands and in pipes, and how many were received, sent, answered and dropped.
 
 ghost use Rattle.std.specs.Prelude.{◌≡◌, ◌≤◌, ◌*◌, ◌^◌, Some, length, map, not, slice_index_or};
-ghost use Rattle.pipeline_laws.specs.Counts.{count, total};
-ghost use Rattle.pipeline_laws.specs.Pipe.{held};
-ghost use Rattle.pipeline_laws.specs.Totals.{packets_in_hand};
-ghost use Rattle.pipeline_laws.specs.World.{Empty};
+ghost use Rattle.order_laws.specs.Counts.{count, total};
+ghost use Rattle.replay_laws.specs.Pipe.{held};
+ghost use Rattle.replay_laws.specs.Totals.{packets_in_hand};
+ghost use Rattle.replay_laws.specs.World.{Empty};
 ghost use Rattle.pipe_parts.specs.Items.{hand_in, item_in};
 ghost use Rattle.pipe_model.specs.Shown.{is_number, numbers, totals_of};
 
@@ -46,7 +46,7 @@ pub fn in_hands(hands: &Hands) -> usize
 
 /// How many of these entries are packets.
 fn packets(entries: &[Entry]) -> usize
-    ensures { result ≡ count (λ e. Rattle.pipeline_laws.specs.Totals.is_packet e.item) entries.now }
+    ensures { result ≡ count (λ e. Rattle.replay_laws.specs.Totals.is_packet e.item) entries.now }
 {
     entries
         .iter()
@@ -56,7 +56,7 @@ fn packets(entries: &[Entry]) -> usize
 
 /// How many packets this pipe holds.
 fn held_packets(pipe: &Pipe) -> usize
-    ensures { result ≡ count Rattle.pipeline_laws.specs.Totals.is_packet (held pipe.now) }
+    ensures { result ≡ count Rattle.replay_laws.specs.Totals.is_packet (held pipe.now) }
 {
     packets(pipe.held())
 }
@@ -64,7 +64,7 @@ fn held_packets(pipe: &Pipe) -> usize
 /// How many packets these pipes hold.
 pub fn in_pipes(pipes: &[Pipe]) -> u128
     ensures few { result ≤ length pipes.now * 2 ^ 64 }
-    ensures count { result ≡ total (λ p. count Rattle.pipeline_laws.specs.Totals.is_packet (held p)) pipes.now }
+    ensures count { result ≡ total (λ p. count Rattle.replay_laws.specs.Totals.is_packet (held p)) pipes.now }
 {
     let mut packets = 0;
     for pipe in pipes {

@@ -10,5 +10,6 @@ pub use laws::arrivals_stay;
 pub use pipe_parts::Bytes;
 pub use pipe_steps::{Step, StepFault};
 pub use place::Place;
-pub use router_rules::{Outgoing, Queue, Worker};
+pub use replay_places::Queue;
+pub use router_rules::{Outgoing, Worker};
 pub use world::{NoMemoryAt, World};

@@ -2,9 +2,9 @@
 
 ghost use Rattle.std.specs.List.{flat_map};
 ghost use Rattle.std.specs.Prelude.{◌≡◌, ◌≤◌, Some, option_map, slice_index_or};
-ghost use Rattle.pipeline_laws.specs.Item.{is_one};
-ghost use Rattle.pipeline_laws.specs.Place.{place_at, in_fates, in_hands, in_pipes, in_sent, places};
-ghost use Rattle.pipeline_laws.specs.World.{Empty};
+ghost use Rattle.order_laws.specs.Item.{is_one};
+ghost use Rattle.replay_laws.specs.Place.{place_at, in_fates, in_hands, in_pipes, in_sent, places};
+ghost use Rattle.replay_laws.specs.World.{Empty};
 ghost use Rattle.router_rules.specs.Links.{link_count};
 ghost use Rattle.router_rules.specs.Rules.{rules};
 ghost use Rattle.pipe_parts.specs.Items.{hand_in};
@@ -15,7 +15,8 @@ ghost use Rattle.pipe_model.specs.Shown.{named_in, stands_in};
 use pipe_parts::{Entry, Fates, Hand, Hands, Pipe, Sent, is_named, reason};
 use pipe_steps::State;
 use process_packet::{Cause, Config};
-use router_rules::{Worker, interface_at, link_count, slow_seat};
+use replay_places::slow_seat;
+use router_rules::{Worker, interface_at, link_count};
 
 /// Where a packet, its problem or its answer is. A pipe is named by its consumer.
 #[derive(Clone, Copy, PartialEq, Eq)]
@@ -31,7 +32,7 @@ pub enum Place {
 
 /// The worker of a seat.
 pub fn worker_at(config: &Config, seat: usize) -> Worker
-    ensures { result ≡ named_in config.now (Rattle.pipeline_laws.specs.Place.worker_at (rules config.now) seat) }
+    ensures { result ≡ named_in config.now (Rattle.replay_laws.specs.Place.worker_at (rules config.now) seat) }
 {
     let links = link_count(config);
     let slow = slow_seat(config);
@@ -49,7 +50,7 @@ pub fn worker_at(config: &Config, seat: usize) -> Worker
 /// Where a link's packet is that is in one of the pipes of the links, which are counted from 0, two
 /// of each link.
 fn link_place(config: &Config, pipe: usize) -> Place
-    ensures { result ≡ stands_in config.now (Rattle.pipeline_laws.specs.Place.link_place pipe) }
+    ensures { result ≡ stands_in config.now (Rattle.replay_laws.specs.Place.link_place pipe) }
 {
     let interface = interface_at(config, pipe / 2);
     if pipe % 2 == 0 {

@@ -1,14 +1,15 @@
 -- What a pipe keeps, as its history grows and is taken.
 use Rattle.std.proofs.Common.{◌≡◌, ℕ, zero, suc, ◌+◌, ◌≤◌, ◌<◌, Bool, true, false, ◌||◌, ◌&&◌, if◌then◌else◌, List, [], ◌∷◌, ◌++◌, length, take, refl, sym, ◌∙◌, ap, arith, slice_get, slice_index_or}
 use Rattle.std.specs.Prelude.{IsSome}
-use Rattle.pipeline_laws.specs.Item.{Item, ends, has_close, is_close, is_end}
-use Rattle.pipeline_laws.specs.Pipe.{Entry, items}
-use Rattle.pipeline_laws.specs.Worker.{Worker, same_worker}
+use Rattle.order_laws.specs.Item.{Item}
+use Rattle.replay_laws.specs.Marks.{ends, has_close, is_close, is_end}
+use Rattle.replay_laws.specs.Pipe.{Entry, items}
+use Rattle.replay_laws.specs.Worker.{Worker, same_worker}
 use Rattle.std.proofs.lemmas.List.Folds.{list_any-append}
 use Rattle.router_rules.specs.Rules.{kinds}
-use Rattle.router_rules.specs.WorkerIndex.{worker_of}
+use Rattle.replay_places.specs.WorkerIndex.{worker_of}
 use Rattle.pipe_parts.specs.Ended.{has_ended, has_entry}
-use Rattle.router_rules.specs.declared.worker_index.WorkerIndex.{WorkerIndex}
+use Rattle.replay_places.specs.declared.worker_index.WorkerIndex.{WorkerIndex}
 
 or_false : (b : Bool) → (b || false) ≡ b
 or_false true = refl

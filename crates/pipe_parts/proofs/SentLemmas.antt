@@ -1,6 +1,6 @@
 -- What is kept of what was sent.
 use Rattle.std.proofs.Common.{◌≡◌, ℕ, List, [], ◌∷◌, ◌++◌, map, length, if◌then◌else◌, Bool, true, refl, ap, ◌∙◌, arith}
-use Rattle.pipeline_laws.specs.Item.{Outgoing}
+use Rattle.order_laws.specs.Item.{Outgoing}
 use Rattle.router_rules.specs.Rules.{kinds}
 use Rattle.pipe_parts.specs.Sent.{joined, rejoined}
 use Rattle.pipe_parts.specs.Sent.{left}

@@ -2,9 +2,9 @@
 use Rattle.std.specs.Prelude.{◌+◌, ℕ, List, [], ◌∷◌, map}
 use Rattle.std.specs.declared.alloc.Global.{Global}
 use Rattle.std.specs.declared.vec.Vec.{Vec}
-use Rattle.pipeline_laws.specs.Item.{Arrival, Arrived}
-use Rattle.pipeline_laws.specs.Pipe.{Entry, Pipe}
-use Rattle.pipeline_laws.specs.Worker.{Receiver}
+use Rattle.order_laws.specs.Item.{Arrival, Arrived}
+use Rattle.replay_laws.specs.Pipe.{Entry, Pipe}
+use Rattle.replay_laws.specs.Worker.{Receiver}
 use Rattle.process_packet.specs.declared.arrival.Arrival.{Arrival as Came}
 use Rattle.router_rules.specs.Datagram.{Datagram}
 use Rattle.router_rules.specs.Rules.{kinds}

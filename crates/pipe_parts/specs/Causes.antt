@@ -1,5 +1,5 @@
 -- Why packets end, as the pipeline's laws know it.
-use Rattle.pipeline_laws.specs.World.{Cause}
+use Rattle.order_laws.specs.Cause.{Cause}
 use Rattle.router_rules.specs.Rules.{kinds}
 use Rattle.pipe_parts.specs.declared.cause.Cause.{Cause as Told}
 use Rattle.pipe_parts.specs.declared.cause.Cause.TheVariants as told

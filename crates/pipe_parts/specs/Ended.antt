@@ -1,12 +1,12 @@
 -- Whose end marks were pushed.
 use Rattle.std.specs.Prelude.{Bool, ◌&&◌, List}
 use Rattle.std.specs.List.{list_any}
-use Rattle.pipeline_laws.specs.Item.{is_end}
-use Rattle.pipeline_laws.specs.Pipe.{Entry}
-use Rattle.pipeline_laws.specs.Worker.{Worker, same_worker}
+use Rattle.replay_laws.specs.Marks.{is_end}
+use Rattle.replay_laws.specs.Pipe.{Entry}
+use Rattle.replay_laws.specs.Worker.{Worker, same_worker}
 use Rattle.router_rules.specs.Rules.{kinds}
-use Rattle.router_rules.specs.WorkerIndex.{worker_of}
-use Rattle.router_rules.specs.declared.worker_index.WorkerIndex.{WorkerIndex}
+use Rattle.replay_places.specs.WorkerIndex.{worker_of}
+use Rattle.replay_places.specs.declared.worker_index.WorkerIndex.{WorkerIndex}
 
 -- the worker's end mark was pushed, by the list of those whose was, and by the history
 abbrev pub has_ended : List WorkerIndex → Worker → Bool

@@ -1,7 +1,7 @@
 -- What stands in pipes and hands, as the pipeline's laws know it.
 use Rattle.std.specs.Prelude.{Option, Some, None}
-use Rattle.pipeline_laws.specs.Item.{Arrival, Outgoing, Item}
-use Rattle.pipeline_laws.specs.World.{Hand}
+use Rattle.order_laws.specs.Item.{Arrival, Outgoing, Item}
+use Rattle.replay_laws.specs.World.{Hand}
 use Rattle.router_rules.specs.Datagram.{Parcel}
 use Rattle.router_rules.specs.Rules.{kinds}
 use Rattle.pipe_parts.specs.declared.came.Came.{Came}

@@ -1,8 +1,8 @@
 -- What a pipe keeps, and which history it tells of.
 use Rattle.std.specs.Prelude.{◌≡◌, ◌≤◌, ℕ, List, length, slice_index_or, take}
-use Rattle.pipeline_laws.specs.Item.{ends, has_close}
-use Rattle.pipeline_laws.specs.Pipe.{Pipe, empty_pipe, items}
-use Rattle.pipeline_laws.specs.Worker.{Worker}
+use Rattle.replay_laws.specs.Marks.{ends, has_close}
+use Rattle.replay_laws.specs.Pipe.{Pipe, empty_pipe, items}
+use Rattle.replay_laws.specs.Worker.{Worker}
 use Rattle.router_rules.specs.Rules.{kinds}
 use Rattle.pipe_parts.specs.Ended.{has_ended, has_entry}
 use Rattle.pipe_parts.specs.declared.pipe.Pipe.TheInside.{Inside}

@@ -1,5 +1,5 @@
 -- What workers make of items, as the pipeline's laws know it.
-use Rattle.pipeline_laws.specs.Next.{Outcome}
+use Rattle.replay_laws.specs.Next.{Outcome}
 use Rattle.router_rules.specs.Rules.{kinds}
 use Rattle.pipe_parts.specs.declared.rules.Outcome.{Outcome as Made}
 use Rattle.pipe_parts.specs.declared.rules.Outcome.TheVariants as made

@@ -1,7 +1,7 @@
 -- What was sent, from what is kept of it.
 use Rattle.std.specs.Prelude.{ℕ, Bool, if◌then◌else◌, List, [], ◌∷◌, Option, Some, None}
-use Rattle.pipeline_laws.specs.Item.{Outgoing}
-use Rattle.pipeline_laws.specs.Place.{Place, Answered, Sent}
+use Rattle.order_laws.specs.Item.{Outgoing}
+use Rattle.replay_laws.specs.Place.{Place, Answered, Sent}
 use Rattle.router_rules.specs.Rules.{kinds}
 use Rattle.router_rules.specs.declared.outgoing.Outgoing.{Outgoing as Left}
 use Rattle.pipe_parts.specs.declared.sent.Way.{Way}

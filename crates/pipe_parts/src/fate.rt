@@ -1,7 +1,7 @@
 //! How packets ended that were not sent.
 
 ghost use Rattle.std.specs.Prelude.{◌≡◌, ◌++◌, [], take, length, is_ok, option_to_list, if◌then◌else◌};
-ghost use Rattle.pipeline_laws.specs.World.{fate_of};
+ghost use Rattle.replay_laws.specs.World.{fate_of};
 ghost use Rattle.pipe_parts.specs.Causes.{cause_in};
 ghost use Rattle.pipe_parts.specs.Items.{item_in};
 
@@ -19,7 +19,7 @@ pub struct Fate {
 }
 
 impl Model for Fate {
-    ghost use Rattle.pipeline_laws.specs.World.{Fate};
+    ghost use Rattle.replay_laws.specs.World.{Fate};
     ghost use Rattle.router_rules.specs.Rules.{kinds};
     ghost use Rattle.pipe_parts.specs.Causes.{cause_in};
 
@@ -35,7 +35,7 @@ pub struct Fates {
 
 impl Model for Fates {
     ghost use Rattle.std.specs.Prelude.{List};
-    ghost use Rattle.pipeline_laws.specs.World.{Fate};
+    ghost use Rattle.replay_laws.specs.World.{Fate};
     ghost use Rattle.router_rules.specs.Rules.{kinds};
 
     ghost Value = { List (Fate kinds) };

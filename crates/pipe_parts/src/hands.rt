@@ -1,8 +1,8 @@
 //! What the workers have in hand.
 
 ghost use Rattle.std.specs.Prelude.{◌≡◌, Some, MatchOption, IfOk, slice_set, slice_index_or, replicate};
-ghost use Rattle.pipeline_laws.specs.Next.{is_free};
-ghost use Rattle.pipeline_laws.specs.World.{Empty};
+ghost use Rattle.replay_laws.specs.Next.{is_free};
+ghost use Rattle.replay_laws.specs.World.{Empty};
 ghost use Rattle.pipe_parts.specs.Items.{hand_in};
 
 use crate::item::Item;
@@ -26,7 +26,7 @@ struct Seat {
 }
 
 impl Model for Seat {
-    ghost use Rattle.pipeline_laws.specs.World.{Hand};
+    ghost use Rattle.replay_laws.specs.World.{Hand};
     ghost use Rattle.router_rules.specs.Rules.{kinds};
 
     ghost Value = { Hand kinds };
@@ -43,7 +43,7 @@ pub struct Hands {
 
 impl Model for Hands {
     ghost use Rattle.std.specs.Prelude.{List};
-    ghost use Rattle.pipeline_laws.specs.World.{Hand};
+    ghost use Rattle.replay_laws.specs.World.{Hand};
     ghost use Rattle.router_rules.specs.Rules.{kinds};
 
     ghost Value = { List (Hand kinds) };

@@ -1,9 +1,10 @@
 //! What is in a pipe or in a worker's hand.
 
 ghost use Rattle.std.specs.Prelude.{◌≡◌, IfOk};
-ghost use Rattle.pipeline_laws.specs.Item.{is_close, is_end, is_named, is_one};
-ghost use Rattle.pipeline_laws.specs.Next.{full_of, hand_after};
-ghost use Rattle.pipeline_laws.specs.Totals.{is_packet};
+ghost use Rattle.replay_laws.specs.Marks.{is_close, is_end, is_named};
+ghost use Rattle.order_laws.specs.Item.{is_one};
+ghost use Rattle.replay_laws.specs.Next.{full_of, hand_after};
+ghost use Rattle.replay_laws.specs.Totals.{is_packet};
 ghost use Rattle.pipe_parts.specs.Causes.{cause_in};
 ghost use Rattle.pipe_parts.specs.Items.{hand_in, item_in};
 

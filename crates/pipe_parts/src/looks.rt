@@ -1,10 +1,10 @@
 //! Of which links the high pipe was seen empty.
 
 ghost use Rattle.std.specs.Prelude.{◌≡◌, false, IfOk, replicate, slice_index_or, slice_set};
-ghost use Rattle.pipeline_laws.specs.Next.{forgotten};
-ghost use Rattle.router_rules.specs.WorkerIndex.{queue_of};
+ghost use Rattle.replay_laws.specs.Next.{forgotten};
+ghost use Rattle.replay_places.specs.WorkerIndex.{queue_of};
 
-use router_rules::{QueueIndex, WorkerIndex};
+use replay_places::{QueueIndex, WorkerIndex};
 use std::alloc::{AllocError, Global};
 use std::marker::Model;
 

@@ -1,9 +1,9 @@
 //! One pipe, kept as the list of all that was ever pushed.
 
 ghost use Rattle.std.specs.Prelude.{◌≡◌, ◌&&◌, ◌++◌, ◌∷◌, [], Some, None, MatchOption, IfOk, is_ok, IsSome, if◌then◌else◌};
-ghost use Rattle.pipeline_laws.specs.Item.{ends, is_end};
-ghost use Rattle.pipeline_laws.specs.Pipe.{empty_pipe, front, gone, has_end_of, has_room, is_marked, is_shut, one_taken, pushed, refusal_of, refused};
-ghost use Rattle.router_rules.specs.WorkerIndex.{worker_of};
+ghost use Rattle.replay_laws.specs.Marks.{ends, is_end};
+ghost use Rattle.replay_laws.specs.Pipe.{empty_pipe, front, gone, has_end_of, has_room, is_marked, is_shut, one_taken, pushed, refusal_of, refused};
+ghost use Rattle.replay_places.specs.WorkerIndex.{worker_of};
 ghost use Rattle.pipe_parts.specs.Arrivals.{source};
 ghost use Rattle.pipe_parts.specs.Ended.{has_ended};
 ghost use Rattle.pipe_parts.specs.Items.{item_in};
@@ -11,7 +11,7 @@ ghost use Rattle.pipe_parts.specs.Items.{item_in};
 use crate::came::Came;
 use crate::item::Item;
 use process_packet::{Arrival, NoMemory};
-use router_rules::WorkerIndex;
+use replay_places::WorkerIndex;
 use std::alloc::{AllocError, Global};
 use std::marker::Model;
 
@@ -22,12 +22,12 @@ pub struct Entry {
 }
 
 impl Model for Entry {
-    ghost use Rattle.pipeline_laws.specs.Pipe.{Entry};
+    ghost use Rattle.replay_laws.specs.Pipe.{Entry};
     ghost use Rattle.router_rules.specs.Rules.{kinds};
 
     ghost Value = { Entry kinds };
 
-    ghost use Rattle.router_rules.specs.WorkerIndex.{worker_of};
+    ghost use Rattle.replay_places.specs.WorkerIndex.{worker_of};
     ghost use Rattle.pipe_parts.specs.Items.{item_in};
 
     ghost view = { λ e. record { from = worker_of e.from; item = item_in e.item } };
@@ -67,7 +67,7 @@ pub struct Refusal {
 }
 
 impl Model for Refusal {
-    ghost use Rattle.pipeline_laws.specs.Pipe.{Refusal};
+    ghost use Rattle.replay_laws.specs.Pipe.{Refusal};
 
     ghost Value = { Refusal };
 
@@ -107,7 +107,7 @@ pub struct Pipe {
 }
 
 impl Model for Pipe {
-    ghost use Rattle.pipeline_laws.specs.Pipe.{Pipe};
+    ghost use Rattle.replay_laws.specs.Pipe.{Pipe};
     ghost use Rattle.router_rules.specs.Rules.{kinds};
 
     ghost Value = { Pipe kinds };

@@ -1,15 +1,15 @@
 //! All pipes, by their places.
 
 ghost use Rattle.std.specs.Prelude.{◌≡◌, ◌++◌, Some, None, MatchOption, IsSome, IfOk, is_ok, if◌then◌else◌, replicate, slice_set};
-ghost use Rattle.pipeline_laws.specs.Item.{ends};
-ghost use Rattle.pipeline_laws.specs.Pipe.{empty_pipe, front, gone, has_end_of, has_room, is_marked, is_shut, one_taken, pushed, refusal_of, refused};
-ghost use Rattle.router_rules.specs.WorkerIndex.{worker_of};
+ghost use Rattle.replay_laws.specs.Marks.{ends};
+ghost use Rattle.replay_laws.specs.Pipe.{empty_pipe, front, gone, has_end_of, has_room, is_marked, is_shut, one_taken, pushed, refusal_of, refused};
+ghost use Rattle.replay_places.specs.WorkerIndex.{worker_of};
 ghost use Rattle.pipe_parts.specs.Items.{item_in};
 ghost use Rattle.pipe_parts.specs.Kept.{pipe_at};
 
 use crate::item::Item;
 use crate::pipe::Pipe;
-use router_rules::WorkerIndex;
+use replay_places::WorkerIndex;
 use std::alloc::{AllocError, Global};
 use std::marker::Model;
 
@@ -21,7 +21,7 @@ pub struct Pipes {
 
 impl Model for Pipes {
     ghost use Rattle.std.specs.Prelude.{List};
-    ghost use Rattle.pipeline_laws.specs.Pipe.{Pipe};
+    ghost use Rattle.replay_laws.specs.Pipe.{Pipe};
     ghost use Rattle.router_rules.specs.Rules.{kinds};
 
     ghost Value = { List (Pipe kinds) };

@@ -1,8 +1,8 @@
 //! What the pipeline asks of the router of one packet: where it goes, what is decided of it, what answers it.
 
 ghost use Rattle.std.specs.Prelude.{◌≡◌, IfOk};
-ghost use Rattle.pipeline_laws.specs.Next as next;
-ghost use Rattle.pipeline_laws.specs.World.{home};
+ghost use Rattle.replay_laws.specs.Next as next;
+ghost use Rattle.order_laws.specs.Pipes.{home};
 ghost use Rattle.process_packet.specs.Decide.{decide, moved};
 ghost use Rattle.process_packet.specs.Network.{network};
 ghost use Rattle.router_rules.specs.Rules.{rules};
@@ -16,9 +16,8 @@ use crate::item::{Item, Out, Parcel};
 use crate::packet::{Packet, Request};
 use packet_answer::{AnswerLen, LONGEST_ANSWER, answer_into};
 use process_packet::{Config, Decision, answers_are_sound, route_in_place};
-use router_rules::{
-    has_two_bands, is_urgent, link_count, link_index, link_pipe, processor, slow_seat,
-};
+use replay_places::{link_pipe, slow_seat};
+use router_rules::{has_two_bands, is_urgent, link_count, link_index, processor};
 use std::alloc::{AllocError, Global};
 
 /// What a worker makes of an item: another item, or the end of it.

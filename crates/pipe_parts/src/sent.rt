@@ -2,8 +2,8 @@
 
 ghost use Rattle.std.specs.List.{flat_map};
 ghost use Rattle.std.specs.Prelude.{◌≡◌, ◌++◌, ◌∷◌, [], IfOk, is_ok, if◌then◌else◌, length, map, option_map, replicate, slice_index_or, slice_set};
-ghost use Rattle.pipeline_laws.specs.Item.{is_one};
-ghost use Rattle.pipeline_laws.specs.Place.{in_sent};
+ghost use Rattle.order_laws.specs.Item.{is_one};
+ghost use Rattle.replay_laws.specs.Place.{in_sent};
 ghost use Rattle.pipe_parts.specs.Items.{outgoing_in};
 ghost use Rattle.pipe_parts.specs.Sent.{first, left};
 ghost use Rattle.pipe_parts.specs.Sent.{joined};
@@ -32,7 +32,7 @@ struct Outbox {
 
 impl Model for Outbox {
     ghost use Rattle.std.specs.Prelude.{◌≡◌, List, length};
-    ghost use Rattle.pipeline_laws.specs.Item.{Outgoing};
+    ghost use Rattle.order_laws.specs.Item.{Outgoing};
     ghost use Rattle.router_rules.specs.Rules.{kinds};
 
     ghost Value = { List (Outgoing kinds) };
@@ -90,7 +90,7 @@ pub struct Sent {
 
 impl Model for Sent {
     ghost use Rattle.std.specs.Prelude.{List};
-    ghost use Rattle.pipeline_laws.specs.Item.{Outgoing};
+    ghost use Rattle.order_laws.specs.Item.{Outgoing};
     ghost use Rattle.router_rules.specs.Rules.{kinds};
 
     ghost Value = { List (List (Outgoing kinds)) };

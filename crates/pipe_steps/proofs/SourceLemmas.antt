@@ -2,7 +2,7 @@
 use Rattle.std.proofs.Common.{◌≡◌, ℕ, suc, ◌+◌, List, [], ◌∷◌, ◌++◌, length, refl, ap, ◌∙◌, arith}
 use Rattle.std.specs.declared.alloc.Global.{Global}
 use Rattle.std.specs.declared.vec.Vec.{Vec}
-use Rattle.pipeline_laws.specs.Pipe.{Pipe}
+use Rattle.replay_laws.specs.Pipe.{Pipe}
 use Rattle.process_packet.specs.declared.arrival.Arrival.{Arrival as Came}
 use Rattle.router_rules.specs.Rules.{kinds}
 use Rattle.pipe_parts.specs.Arrivals.{source, sources_from}

@@ -1,8 +1,8 @@
 -- The steps as the pipeline's laws know them: with links by their numbers.
-use Rattle.pipeline_laws.specs.Step.{Step}
+use Rattle.replay_laws.specs.Step.{Step}
 use Rattle.process_packet.specs.declared.config.Config.{Config}
 use Rattle.router_rules.specs.Links.{link_index}
-use Rattle.router_rules.specs.Worker.{queue_in, worker_in}
+use Rattle.replay_places.specs.Worker.{queue_in, worker_in}
 use Rattle.pipe_steps.specs.declared.step.Step.{Step as Act}
 use Rattle.pipe_steps.specs.declared.step.Step.TheVariants as act
 

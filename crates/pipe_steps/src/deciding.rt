@@ -1,16 +1,16 @@
 //! What processors and the slow path make of packets.
 
 ghost use Rattle.std.specs.Prelude.{◌≡◌, ◌↔◌, Some, None, OnOk, OnErr, IsErrOf};
-ghost use Rattle.pipeline_laws.specs.Next.{next};
-ghost use Rattle.pipeline_laws.specs.Step.{Step};
-ghost use Rattle.router_rules.specs.WorkerIndex.{worker_of};
+ghost use Rattle.replay_laws.specs.Next.{next};
+ghost use Rattle.replay_laws.specs.Step.{Step};
+ghost use Rattle.replay_places.specs.WorkerIndex.{worker_of};
 ghost use Rattle.router_rules.specs.Rules.{rules};
 
 use crate::state::State;
 use crate::step::StepFault;
 use pipe_parts::{Cause, Hand, Item, Outcome, decide, reply};
 use process_packet::Config;
-use router_rules::WorkerIndex;
+use replay_places::WorkerIndex;
 use std::alloc::Global;
 
 impl State {

@@ -1,16 +1,17 @@
 //! What passes through pipes.
 
 ghost use Rattle.std.specs.Prelude.{◌≡◌, ◌↔◌, Some, None, OnOk, OnErr, IsErrOf};
-ghost use Rattle.pipeline_laws.specs.Next.{may_take, next};
-ghost use Rattle.pipeline_laws.specs.Step.{Step};
-ghost use Rattle.router_rules.specs.WorkerIndex.{queue_of, worker_of};
+ghost use Rattle.replay_laws.specs.Next.{may_take, next};
+ghost use Rattle.replay_laws.specs.Step.{Step};
+ghost use Rattle.replay_places.specs.WorkerIndex.{queue_of, worker_of};
 ghost use Rattle.router_rules.specs.Rules.{rules};
 
 use crate::state::State;
 use crate::step::StepFault;
 use pipe_parts::{Hand, home};
 use process_packet::Config;
-use router_rules::{QueueIndex, WorkerIndex, has_two_bands};
+use replay_places::{QueueIndex, WorkerIndex};
+use router_rules::has_two_bands;
 
 impl State {
     /// What a worker owes is pushed.

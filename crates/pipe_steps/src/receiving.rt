@@ -1,8 +1,8 @@
 //! What a receiver does.
 
 ghost use Rattle.std.specs.Prelude.{◌≡◌, ◌↔◌, Some, None, OnOk, OnErr, IsErrOf};
-ghost use Rattle.pipeline_laws.specs.Next.{next};
-ghost use Rattle.pipeline_laws.specs.Step.{Step};
+ghost use Rattle.replay_laws.specs.Next.{next};
+ghost use Rattle.replay_laws.specs.Step.{Step};
 ghost use Rattle.router_rules.specs.Rules.{rules};
 
 use crate::state::State;

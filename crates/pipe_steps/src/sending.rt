@@ -1,16 +1,17 @@
 //! What a forwarder does besides taking.
 
 ghost use Rattle.std.specs.Prelude.{◌≡◌, ◌↔◌, Some, None, OnOk, OnErr, IsErrOf};
-ghost use Rattle.pipeline_laws.specs.Next.{next};
-ghost use Rattle.pipeline_laws.specs.Step.{Step};
-ghost use Rattle.router_rules.specs.WorkerIndex.{queue_of};
+ghost use Rattle.replay_laws.specs.Next.{next};
+ghost use Rattle.replay_laws.specs.Step.{Step};
+ghost use Rattle.replay_places.specs.WorkerIndex.{queue_of};
 ghost use Rattle.router_rules.specs.Rules.{rules};
 
 use crate::state::State;
 use crate::step::StepFault;
 use pipe_parts::{Cause, Hand, Item};
 use process_packet::Config;
-use router_rules::{QueueIndex, WorkerIndex, link_count};
+use replay_places::{QueueIndex, WorkerIndex};
+use router_rules::link_count;
 
 impl State {
     /// The forwarder of a link with two bands sees its high pipe empty.

@@ -1,8 +1,8 @@
 //! The state of the pipeline at one moment, and one step of it.
 
 ghost use Rattle.std.specs.Prelude.{◌≡◌, ◌≤◌, IfOk, length, ◌↔◌, Some, None, OnOk, OnErr, IsErrOf};
-ghost use Rattle.pipeline_laws.specs.Next.{next};
-ghost use Rattle.pipeline_laws.specs.Start.{first_world};
+ghost use Rattle.replay_laws.specs.Next.{next};
+ghost use Rattle.replay_laws.specs.Start.{first_world};
 ghost use Rattle.router_rules.specs.Rules.{rules};
 ghost use Rattle.pipe_parts.specs.Arrivals.{sources_from};
 ghost use Rattle.pipe_steps.specs.Step.{step_in};
@@ -10,7 +10,8 @@ ghost use Rattle.pipe_steps.specs.Step.{step_in};
 use crate::step::{Step, StepFault};
 use pipe_parts::{Fates, Hands, Looks, Pipe, Pipes, Sent};
 use process_packet::{Arrival, Config, NoMemory};
-use router_rules::{QueueIndex, WorkerIndex, link_count, link_index, seat_count};
+use replay_places::{QueueIndex, WorkerIndex, seat_count};
+use router_rules::{link_count, link_index};
 use std::alloc::{AllocError, Global};
 use std::marker::Model;
 
@@ -39,7 +40,7 @@ pub struct State {
 }
 
 impl Model for State {
-    ghost use Rattle.pipeline_laws.specs.World.{World};
+    ghost use Rattle.replay_laws.specs.World.{World};
     ghost use Rattle.router_rules.specs.Rules.{kinds};
 
     ghost Value = { World kinds };

@@ -3,7 +3,8 @@
 ghost use Rattle.std.specs.Prelude.{◌≡◌};
 ghost use Rattle.pipe_steps.specs.declared.step.StepFault.TheVariants.{NoMemory};
 
-use router_rules::{Queue, Worker};
+use replay_places::Queue;
+use router_rules::Worker;
 use std::alloc::AllocError;
 use thiserror::Error;
 

@@ -1,5 +1,5 @@
-//! Tests of the pipeline as a machine, by its public calls, and of what its threads share: the pipe and the
-//! ledger. They are kept apart from these crates, each of which would be proved a second time for its tests.
+//! Tests of the pipeline as a machine and of its places, by their public calls, and of what its threads share: the pipe and
+//! the ledger. They are kept apart from these crates, each of which would be proved a second time for its tests.
 #![tactic(auto)]
 
 #[cfg(test)]
@@ -10,6 +10,8 @@ mod arrivals;
 mod ledger;
 #[cfg(test)]
 mod pipe;
+#[cfg(test)]
+mod places;
 #[cfg(test)]
 mod runs;
 #[cfg(test)]

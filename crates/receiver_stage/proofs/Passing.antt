@@ -1,8 +1,8 @@
 -- What a receiver does with a datagram, by what becomes of it.
 use Rattle.std.proofs.Common.{◌≡◌, ℕ, ◌+◌, ◌≤◌, ◌^◌, List, take, Some, None, refl, sym, ap, subst, ◌∙◌}
 use Rattle.packet_ledger.specs.Share.{Held, MayRaise, counting, with_fate, with_received}
-use Rattle.pipeline_laws.specs.Item.{Arrival}
-use Rattle.pipeline_laws.specs.Deeds.{Accepted, Refused, Lacked, Counted}
+use Rattle.order_laws.specs.Item.{Arrival}
+use Rattle.order_laws.specs.Deeds.{Accepted, Refused, Lacked, Counted}
 use Rattle.process_packet.specs.Totals.{dropped_for}
 use Rattle.process_packet.specs.declared.cause.Cause.{Cause}
 use Rattle.process_packet.specs.declared.cause.Cause.TheVariants as cause

@@ -1,9 +1,9 @@
 -- One turn of a receiver keeps its law.
 use Rattle.std.proofs.Common.{◌≡◌, inl, inr, ℕ, ◌+◌, ◌<◌, Bool, true, false, nat_eq, List, [], ◌∷◌, length, Option, refl, sym, ap, subst, ◌∙◌, arith}
 use Rattle.packet_ledger.specs.Share.{Held, IsPosted, new_share}
-use Rattle.pipeline_laws.specs.Item.{Arrival}
-use Rattle.pipeline_laws.specs.Rules.{Rules}
-use Rattle.pipeline_laws.specs.Deeds.{Ending, Accepted, Refused, Lacked, Counted}
+use Rattle.order_laws.specs.Item.{Arrival}
+use Rattle.order_laws.specs.Rules.{Rules}
+use Rattle.order_laws.specs.Deeds.{Ending, Accepted, Refused, Lacked, Counted}
 use Rattle.process_packet.specs.declared.cause.Cause.{Cause}
 use Rattle.process_packet.specs.declared.config.Config.{Config}
 use Rattle.process_packet.specs.declared.underlay.Underlay.{Underlay}

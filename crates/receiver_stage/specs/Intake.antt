@@ -3,8 +3,8 @@ use Rattle.std.specs.Prelude.{◌≡◌, ℕ, false, List, Some, None}
 use Rattle.flow_key.specs.Flow.{flow_at}
 use Rattle.flow_key.specs.Hash.{processor_of}
 use Rattle.packet_ledger.specs.Share.{Held}
-use Rattle.pipeline_laws.specs.Item.{Arrival}
-use Rattle.pipeline_laws.specs.Deeds.{Ending, Accepted, Refused, Lacked, Counted}
+use Rattle.order_laws.specs.Item.{Arrival}
+use Rattle.order_laws.specs.Deeds.{Ending, Accepted, Refused, Lacked, Counted}
 use Rattle.process_packet.specs.declared.cause.Cause.{Cause}
 use Rattle.process_packet.specs.declared.config.Config.{Config}
 use Rattle.router_rules.specs.Rules.{inspected, kinds}

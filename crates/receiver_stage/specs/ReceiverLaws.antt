@@ -1,7 +1,7 @@
 -- A receiver stays the same one in each turn, wait and post, and has ended when a turn says so.
 use Rattle.std.proofs.Common.{◌≡◌, ◌⊎◌, inl, inr, ℕ, ◌+◌, Bool, true, false, List, Option, refl, sym, ap, subst, ◌∙◌}
-use Rattle.pipeline_laws.specs.Item.{Arrival}
-use Rattle.pipeline_laws.specs.Deeds.{Ending, Accepted, Refused, Lacked, Counted}
+use Rattle.order_laws.specs.Item.{Arrival}
+use Rattle.order_laws.specs.Deeds.{Ending, Accepted, Refused, Lacked, Counted}
 use Rattle.process_packet.specs.declared.cause.Cause.{Cause}
 use Rattle.router_laws.specs.Heard.{Heard, Gave, WasQuiet, HadFailed, WasAtEnd, arrival}
 use Rattle.router_rules.specs.Rules.{kinds}

@@ -10,8 +10,8 @@ use Rattle.std.proofs.lemmas.List.{append-nil, take-append-drop, take_at}
 use Rattle.process_packet.specs.declared.arrival.Arrival.{Arrival as Came}
 use Rattle.process_packet.specs.declared.config.Config.{Config}
 use Rattle.router_rules.specs.Datagram.{Datagram}
-use Rattle.pipeline_laws.specs.Next.{next}
-use Rattle.pipeline_laws.specs.World.{World}
+use Rattle.replay_laws.specs.Next.{next}
+use Rattle.replay_laws.specs.World.{World}
 use Rattle.router_rules.specs.Rules.{kinds}
 use Rattle.pipe_model.specs.Pipeline.{Pipeline, rules_in, stepped, with_world}
 use Rattle.pipe_steps.specs.Step.{step_in}

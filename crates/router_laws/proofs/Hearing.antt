@@ -1,8 +1,8 @@
 -- A turn of a receiver keeps its law.
 use Rattle.std.proofs.Common.{◌≡◌, ℕ, suc, ◌+◌, List, [], ◌∷◌, ◌++◌, length, Option, Some, slice_get, refl, sym, ap, ap₂, subst, ◌∙◌, arith, append-nil, length-append}
-use Rattle.pipeline_laws.specs.Item.{Arrival}
-use Rattle.pipeline_laws.specs.Deeds.{Deed, Ending, done_items}
-use Rattle.pipeline_laws.proofs.Turns.{each_more}
+use Rattle.order_laws.specs.Item.{Arrival}
+use Rattle.order_laws.specs.Deeds.{Deed, Ending, done_items}
+use Rattle.order_laws.proofs.Turns.{each_more}
 use Rattle.process_packet.specs.declared.cause.Cause.{Cause}
 use Rattle.process_packet.specs.declared.config.Config.{Config}
 use Rattle.process_packet.specs.declared.underlay.Underlay.{Underlay}

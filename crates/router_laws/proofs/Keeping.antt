@@ -1,11 +1,11 @@
 -- A turn of a processor, of the slow path and of a forwarder keeps its law.
 use Rattle.std.proofs.Common.{◌≡◌, ℕ, ◌+◌, Bool, true, false, ◌||◌, cond, List, [], ◌∷◌, ◌++◌, Option, Some, None, slice_get, refl, sym, ap, subst, ◌∙◌, arith}
 use Rattle.std.proofs.lemmas.List.{map-append}
-use Rattle.pipeline_laws.specs.Item.{Arrival, Outgoing}
-use Rattle.pipeline_laws.specs.World.{Cause as Ended}
-use Rattle.pipeline_laws.specs.Deeds.{Pushed, Load, Payload, CloseMark, EndMark, payload_of, closes, Deed}
-use Rattle.pipeline_laws.specs.Settled.{SlowPathRequest}
-use Rattle.pipeline_laws.proofs.Sums.{total-append}
+use Rattle.order_laws.specs.Item.{Arrival, Outgoing}
+use Rattle.order_laws.specs.Cause.{Cause as Ended}
+use Rattle.order_laws.specs.Deeds.{Pushed, Load, Payload, CloseMark, EndMark, payload_of, closes, Deed}
+use Rattle.order_laws.specs.Settled.{SlowPathRequest}
+use Rattle.order_laws.proofs.Sums.{total-append}
 use Rattle.process_packet.specs.declared.cause.Cause.{Cause}
 use Rattle.process_packet.specs.declared.config.Config.{Config}
 use Rattle.packet_ledger.specs.Share.{Held, new_share, emptied}

@@ -3,13 +3,13 @@ use Rattle.std.proofs.Common.{◌≡◌, ◌⊎◌, inl, inr, ℕ, zero, suc, �
 use Rattle.std.proofs.lemmas.Bool.{cases_lt}
 use Rattle.ruled_pipe.specs.Producer.{Sender}
 use Rattle.ruled_pipe.specs.Consumer.{Taker}
-use Rattle.pipeline_laws.specs.Counts.{total, count}
-use Rattle.pipeline_laws.specs.Item.{Arrival, Outgoing}
-use Rattle.pipeline_laws.specs.Rules.{Rules, IsLawful}
-use Rattle.pipeline_laws.specs.World.Cause.{Closed}
-use Rattle.pipeline_laws.specs.Deeds.{Pushed, payloads, from_mark, Each, Deed, done_items}
-use Rattle.pipeline_laws.specs.Settled.{SlowPathRequest, In, IsTold}
-use Rattle.pipeline_laws.proofs.Sums.{count-total, total-append}
+use Rattle.order_laws.specs.Counts.{total, count}
+use Rattle.order_laws.specs.Item.{Arrival, Outgoing}
+use Rattle.order_laws.specs.Rules.{Rules, IsLawful}
+use Rattle.order_laws.specs.Cause.Cause.{Closed}
+use Rattle.order_laws.specs.Deeds.{Pushed, payloads, from_mark, Each, Deed, done_items}
+use Rattle.order_laws.specs.Settled.{SlowPathRequest, In, IsTold}
+use Rattle.order_laws.proofs.Sums.{count-total, total-append}
 use Rattle.process_packet.specs.declared.cause.Cause.{Cause}
 use Rattle.process_packet.specs.declared.config.Config.{Config}
 use Rattle.packet_ledger.specs.Share.{Held, forwarded}

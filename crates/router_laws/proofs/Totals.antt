@@ -1,16 +1,16 @@
 -- What all shares counted, count by count.
 use Rattle.std.proofs.Common.{◌≡◌, ◌⊎◌, inl, inr, ℕ, zero, suc, ◌+◌, ◌-◌, ◌<◌, ◌≤◌, Bool, true, false, eqb, cond, List, [], ◌∷◌, length, Some, slice_get, slice_index_or, refl, sym, ap, ◌∙◌, arith}
 use Rattle.std.specs.Prelude.{fold}
-use Rattle.pipeline_laws.specs.Counts.{total, count}
-use Rattle.pipeline_laws.specs.Rules.{Rules}
-use Rattle.pipeline_laws.specs.Item.{Arrival}
-use Rattle.pipeline_laws.specs.Deeds.{Each, Ending, Accepted, Refused, Lacked, Counted, Deed, if_counted}
-use Rattle.pipeline_laws.specs.Settled.{SlowPathRequest, Views}
-use Rattle.pipeline_laws.specs.Counted.{sum_to, SlowViews, full_processors, full_links, full_slow}
+use Rattle.order_laws.specs.Counts.{total, count}
+use Rattle.order_laws.specs.Rules.{Rules}
+use Rattle.order_laws.specs.Item.{Arrival}
+use Rattle.order_laws.specs.Deeds.{Each, Ending, Accepted, Refused, Lacked, Counted, Deed, if_counted}
+use Rattle.order_laws.specs.Settled.{SlowPathRequest, Views}
+use Rattle.order_laws.specs.Counted.{sum_to, SlowViews, full_processors, full_links, full_slow}
 use Rattle.std.proofs.lemmas.Bool.{cases_eq, ne_eqb, eq-eqb}
-use Rattle.pipeline_laws.proofs.Counted.{sum_below, sum_add, sum_zero, sum_one}
-use Rattle.pipeline_laws.proofs.Stages.{each_map}
-use Rattle.pipeline_laws.proofs.Sums.{count-total}
+use Rattle.order_laws.proofs.Counted.{sum_below, sum_add, sum_zero, sum_one}
+use Rattle.order_laws.proofs.Stages.{each_map}
+use Rattle.order_laws.proofs.Sums.{count-total}
 use Rattle.process_packet.specs.Cause.{causes, number_of}
 use Rattle.process_packet.specs.Totals.{dropped_for}
 use Rattle.process_packet.specs.declared.cause.Cause.{Cause}

@@ -1,6 +1,6 @@
 -- What a source tells.
 use Rattle.std.specs.Prelude.{◌≡◌, ◌+◌, ℕ, List, [], ◌∷◌, Option, Some}
-use Rattle.pipeline_laws.specs.Item.{Arrival}
+use Rattle.order_laws.specs.Item.{Arrival}
 use Rattle.process_packet.specs.declared.underlay.Underlay.{Underlay}
 use Rattle.router_rules.specs.Rules.{kinds}
 

@@ -1,8 +1,8 @@
 -- The laws that the workers of a router keep, each with its log first.
 use Rattle.std.specs.Prelude.{◌≡◌, ℕ, Bool, List, length, Option}
-use Rattle.pipeline_laws.specs.Item.{Arrival, Outgoing}
-use Rattle.pipeline_laws.specs.Deeds.{Each, Deed, done_items}
-use Rattle.pipeline_laws.specs.Settled.{SlowPathRequest}
+use Rattle.order_laws.specs.Item.{Arrival, Outgoing}
+use Rattle.order_laws.specs.Deeds.{Each, Deed, done_items}
+use Rattle.order_laws.specs.Settled.{SlowPathRequest}
 use Rattle.process_packet.specs.declared.cause.Cause.{Cause}
 use Rattle.process_packet.specs.declared.config.Config.{Config}
 use Rattle.packet_ledger.specs.Share.{Held}

@@ -1,9 +1,9 @@
 -- The running theorem, as far as it speaks of lists: workers as they came back, and what they did.
 use Rattle.std.specs.Prelude.{◌≡◌, ◌<◌, ◌+◌, ◌*◌, ℕ, Bool, false, List, [], ◌∷◌, ◌++◌, map, length, Option, Some, None, slice_get}
-use Rattle.pipeline_laws.specs.Counts.{count}
-use Rattle.pipeline_laws.specs.Item.{Arrival, Outgoing}
-use Rattle.pipeline_laws.specs.Deeds.{payloads, has_mark, Each, Deed, done_items}
-use Rattle.pipeline_laws.specs.Settled.{SlowPathRequest, told}
+use Rattle.order_laws.specs.Counts.{count}
+use Rattle.order_laws.specs.Item.{Arrival, Outgoing}
+use Rattle.order_laws.specs.Deeds.{payloads, has_mark, Each, Deed, done_items}
+use Rattle.order_laws.specs.Settled.{SlowPathRequest, told}
 use Rattle.process_packet.specs.declared.cause.Cause.{Cause}
 use Rattle.process_packet.specs.declared.config.Config.{Config}
 use Rattle.packet_ledger.specs.Share.{Held, forwarded}

@@ -1,6 +1,6 @@
 -- What was ever counted on a share, posted or not.
 use Rattle.std.specs.Prelude.{◌≡◌, ◌+◌, ◌==◌, ℕ, List, [], ◌∷◌, length, if◌then◌else◌}
-use Rattle.pipeline_laws.specs.Counts.{total}
+use Rattle.order_laws.specs.Counts.{total}
 use Rattle.process_packet.specs.Cause.{causes, number_of}
 use Rattle.packet_ledger.specs.Amounts.{count_at}
 use Rattle.packet_ledger.specs.Share.{Held, counting, with_answered, with_fate, with_received, with_sent}

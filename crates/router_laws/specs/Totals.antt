@@ -1,9 +1,9 @@
 -- The third pass: what the book's totals are, when the workers have ended.
 use Rattle.std.specs.Prelude.{◌≡◌, ◌+◌, ◌==◌, ℕ, Bool, true, List, [], ◌∷◌}
-use Rattle.pipeline_laws.specs.Counts.{total}
-use Rattle.pipeline_laws.specs.Settled.{Views}
-use Rattle.pipeline_laws.specs.Rules.{Rules}
-use Rattle.pipeline_laws.specs.Counted.{sum_to, SlowViews, full_processors, full_links, full_slow}
+use Rattle.order_laws.specs.Counts.{total}
+use Rattle.order_laws.specs.Settled.{Views}
+use Rattle.order_laws.specs.Rules.{Rules}
+use Rattle.order_laws.specs.Counted.{sum_to, SlowViews, full_processors, full_links, full_slow}
 use Rattle.process_packet.specs.Cause.{number_of}
 use Rattle.process_packet.specs.Totals.{dropped_for}
 use Rattle.process_packet.specs.declared.cause.Cause.{Cause}

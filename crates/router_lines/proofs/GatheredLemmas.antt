@@ -8,7 +8,7 @@ use Rattle.std.proofs.lemmas.Bool.{cases_Bool}
 use Rattle.std.proofs.lemmas.Bool.Decides.{Decides-eqb}
 use Rattle.process_packet.specs.declared.arrival.Arrival.{Arrival as Came}
 use Rattle.process_packet.specs.declared.config.Config.{Config}
-use Rattle.pipeline_laws.specs.Pipe.{Entry, Pipe}
+use Rattle.replay_laws.specs.Pipe.{Entry, Pipe}
 use Rattle.pipe_model.specs.Begun.{AreArrivals, AreFrom, AreNumbered, begun}
 use Rattle.pipe_parts.specs.Arrivals.{datagram_of, source, source_entry, sources_from}
 use Rattle.router_rules.specs.Datagram.{Datagram}

@@ -3,10 +3,10 @@ use Rattle.std.specs.Prelude.{◌≡◌, ℕ, ◌+◌, ◌==◌, if◌then◌els
 use Rattle.std.specs.List.{range_with_len}
 use Rattle.std.specs.declared.alloc.Global.{Global}
 use Rattle.std.specs.declared.vec.Vec.{Vec}
-use Rattle.pipeline_laws.specs.Item.{Arrived}
-use Rattle.pipeline_laws.specs.Pipe.{Entry, Pipe}
-use Rattle.pipeline_laws.specs.Start.{first_world}
-use Rattle.pipeline_laws.specs.Worker.{Receiver}
+use Rattle.order_laws.specs.Item.{Arrived}
+use Rattle.replay_laws.specs.Pipe.{Entry, Pipe}
+use Rattle.replay_laws.specs.Start.{first_world}
+use Rattle.replay_laws.specs.Worker.{Receiver}
 use Rattle.process_packet.specs.declared.arrival.Arrival.{Arrival as Came}
 use Rattle.process_packet.specs.declared.config.Config.{Config}
 use Rattle.router_rules.specs.Datagram.{Datagram}

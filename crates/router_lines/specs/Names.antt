@@ -2,8 +2,8 @@
 use Rattle.std.specs.Prelude.{ℕ, nat_lt, if◌then◌else◌, List, Option, Some, None, codes, option_map}
 use Rattle.std.specs.Option.{option_or}
 use Rattle.std.specs.Str.{bytes_eq}
-use Rattle.router_rules.specs.declared.worker.Queue.{Queue}
-use Rattle.router_rules.specs.declared.worker.Queue.TheVariants.{Of, High}
+use Rattle.replay_places.specs.declared.queue.Queue.{Queue}
+use Rattle.replay_places.specs.declared.queue.Queue.TheVariants.{Of, High}
 use Rattle.router_rules.specs.declared.worker.Worker.{Worker}
 use Rattle.router_rules.specs.declared.worker.Worker.TheVariants.{Receiver, Processor, Slow, Forwarder, Controller}
 use Rattle.process_packet.specs.Network.{has_link, network}

@@ -1,12 +1,12 @@
 -- The line of a replay that is a step.
 use Rattle.std.specs.Prelude.{ℕ, Bool, true, false, if◌then◌else◌, List, Option, Some, None, codes, option_map}
 use Rattle.std.specs.Str.{bytes_eq}
-use Rattle.router_rules.specs.Worker.{queue_in, worker_in}
-use Rattle.router_rules.specs.declared.worker.Queue.{Queue}
+use Rattle.replay_places.specs.Worker.{queue_in, worker_in}
+use Rattle.replay_places.specs.declared.queue.Queue.{Queue}
 use Rattle.pipe_steps.specs.declared.step.Step.{Step}
 use Rattle.pipe_steps.specs.declared.step.Step.TheVariants as step
 use Rattle.router_rules.specs.declared.worker.Worker.{Worker}
-use Rattle.pipeline_laws.specs.Next.{feeds}
+use Rattle.replay_laws.specs.Next.{feeds}
 use Rattle.process_packet.specs.declared.config.Config.{Config}
 use Rattle.router_config.specs.Pieces.{split_once, ◌>>=◌}
 use Rattle.router_lines.specs.Names.{high_link_of, link_of, link_queue_of, processor_of, queue_of, worker_of}

@@ -1,7 +1,7 @@
 //! The line of a replay that is a step.
 ghost use Rattle.std.specs.Prelude.{◌≡◌, Some, None, true, false};
-ghost use Rattle.router_rules.specs.Worker.{queue_in, worker_in};
-ghost use Rattle.pipeline_laws.specs.Next.{feeds};
+ghost use Rattle.replay_places.specs.Worker.{queue_in, worker_in};
+ghost use Rattle.replay_laws.specs.Next.{feeds};
 ghost use Rattle.router_lines.specs.StepLine.{end_of, outcome_of, named_step_of, send_of, step_of, step_of_line, step_with, verb_of};
 
 use crate::names::{
@@ -10,8 +10,8 @@ use crate::names::{
 use crate::text::text_of;
 use pipe_model::{Queue, Step, Worker};
 use process_packet::Config;
+use replay_places::{QueueIndex, WorkerIndex};
 use router_config::pieces::split_once;
-use router_rules::{QueueIndex, WorkerIndex};
 
 /// The word by which a step begins; `answer` has nothing after it and is none of these.
 #[derive(Clone, Copy)]

@@ -5,7 +5,7 @@ use Rattle.ruled_pipe.specs.Producer.{Sender}
 use Rattle.ruled_pipe.specs.Consumer.{Taker, new_taker}
 use Rattle.ruled_pipe.specs.Pipe.{Shape, IsEndOf}
 use Rattle.router_rules.specs.Links.{link_count}
-use Rattle.pipeline_laws.specs.Deeds.{payloads}
+use Rattle.order_laws.specs.Deeds.{payloads}
 use Rattle.stage_laws.specs.Ends.{pushes}
 use Rattle.pipe_ends.specs.Rows.{AreDealt, AreFor, AreWide, HaveLeft, Row, fresh_ends, new_takers}
 use Rattle.router_pipes.specs.Piping.{Piping}

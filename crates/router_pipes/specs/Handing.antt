@@ -1,6 +1,6 @@
 -- Bundles of ends in the workers' hands.
 use Rattle.std.specs.Prelude.{◌≡◌, ℕ, suc, Bool, false, List, [], ◌∷◌, slice_get, Some}
-use Rattle.pipeline_laws.specs.Deeds.{has_mark}
+use Rattle.order_laws.specs.Deeds.{has_mark}
 use Rattle.ruled_pipe.specs.Producer.{Sender}
 use Rattle.ruled_pipe.specs.Pipe.{Shape}
 use Rattle.stage_laws.specs.Ends.{pushes}

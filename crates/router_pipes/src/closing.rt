@@ -2,7 +2,7 @@
 
 ghost use Rattle.std.specs.Prelude.{◌≡◌, ◌+◌, ◌*◌, ◌<◌, ℕ, length, slice_index_or, true, false};
 ghost use Rattle.std.specs.Arc.{arc_value};
-ghost use Rattle.pipeline_laws.specs.Item.{Outgoing};
+ghost use Rattle.order_laws.specs.Item.{Outgoing};
 ghost use Rattle.pipe_ends.specs.Shutting.{AreUnended, Shutting};
 ghost use Rattle.router_rules.specs.Links.{has_two_bands, link_count};
 ghost use Rattle.router_rules.specs.Rules.{kinds};

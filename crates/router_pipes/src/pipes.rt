@@ -1,7 +1,7 @@
 //! The pipes of a router.
 
 ghost use Rattle.std.specs.Prelude.{◌≡◌, ◌+◌, ◌-◌, ◌*◌, ◌<◌, ◌≤◌, ℕ, List, IfOk, [], length};
-ghost use Rattle.pipeline_laws.specs.Deeds.{payloads};
+ghost use Rattle.order_laws.specs.Deeds.{payloads};
 ghost use Rattle.stage_laws.specs.Ends.{pushes};
 ghost use Rattle.pipe_ends.specs.Rows.{AreWide, AreWideAs, IsBundle, fresh_ends};
 ghost use Rattle.ruled_pipe.specs.Pipe.{Shape};

@@ -5,7 +5,7 @@ use Rattle.std.proofs.lemmas.Bool.{cases_Bool, eq-eqb, eqb-false, eqb-true, or_l
 use Rattle.byteorder.specs.Numbers.{big_number-reads_back}
 use Rattle.field_rows.specs.Place.{number_at}
 use Rattle.flow_key.specs.Flow.{is_high}
-use Rattle.pipeline_laws.specs.Rules.{Decision, Drops, Sends}
+use Rattle.order_laws.specs.Rules.{Decision, Drops, Sends}
 use Rattle.process_packet.specs.Decide.{decision_of, decision_table, is_one_hop, moved_by, verdict, verdict_of}
 use Rattle.process_packet.specs.Laws.{LeavesByItsEgress, LeftLawfully, NothingElseChanges, OnlyLawfulWays}
 use Rattle.process_packet.specs.Network.{Network, has_link, network, own_link, takes_one_hop}

@@ -1,8 +1,8 @@
 -- The router's rules are lawful.
 use Rattle.std.proofs.Common.{◌≡◌, ◌<◌, ℕ, sym, subst, ◌∙◌}
 use Rattle.std.proofs.Math.Nat.{mod-lt}
-use Rattle.pipeline_laws.specs.Item.{Arrival}
-use Rattle.pipeline_laws.specs.Rules.{Replies, Sends}
+use Rattle.order_laws.specs.Item.{Arrival}
+use Rattle.order_laws.specs.Rules.{Replies, Sends}
 use Rattle.process_packet.specs.Laws.{NothingElseChanges, OnlyLawfulWays}
 use Rattle.process_packet.specs.OneHopLaws.{DecidedByKind, OneHopsEnter, OneHopsKeepTheRest, OneHopsLeave}
 use Rattle.process_packet.specs.declared.config.Config.{Config}

@@ -7,4 +7,3 @@ pub mod DecisionLemmas
 pub mod AnsweredLemmas
 pub mod Lawful
 pub mod PortLemmas
-pub mod ProducerLemmas

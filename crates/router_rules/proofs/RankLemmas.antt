@@ -2,7 +2,7 @@
 use Rattle.std.proofs.Common.{◌≡◌, ◌⊎◌, inl, inr, ℕ, ◌<◌, ◌≤◌, ◌-◌, Bool, true, false, not, ◌==◌, cond, suc, nat_lt, List, [], ◌∷◌, length, Some, refl, sym, subst, ◌∙◌, arith}
 use Rattle.std.specs.List.{filter, find, list_any}
 use Rattle.std.proofs.lemmas.Bool.{and_parts, both_ways, cases_Bool, cases_lt, cases_order, cond-true, cond-false, eq-eqb, eqb-true, false≢true, le-ltb, lt-ltb, not-true, or_cases, or_left, or_right}
-use Rattle.pipeline_laws.specs.Counts.{count}
+use Rattle.order_laws.specs.Counts.{count}
 use Rattle.process_packet.specs.Neighbours.{are_distinct}
 
 abbrev pub has : List ℕ → ℕ → Bool

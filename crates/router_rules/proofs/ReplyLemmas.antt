@@ -2,7 +2,7 @@
 use Rattle.std.proofs.Common.{◌≡◌, ◌≢◌, ◌==◌, ℕ, Bool, true, false, if◌then◌else◌, List, Option, Some, None, refl, ap, subst, ◌∙◌}
 use Rattle.std.proofs.lemmas.Bool.{cond-false, ne_eqb}
 use Rattle.packet_answer.specs.Answer.{answered, bfd_outcome}
-use Rattle.pipeline_laws.specs.Rules.{Replies, Withholds}
+use Rattle.order_laws.specs.Rules.{Replies, Withholds}
 use Rattle.process_packet.specs.declared.cause.Cause.{Cause}
 use Rattle.process_packet.specs.declared.cause.Cause.TheVariants.{NoAnswer, NoWayBack}
 use Rattle.process_packet.specs.declared.config.Config.{Config}

@@ -1,5 +1,5 @@
 -- Why packets end: a cause of the pipeline's laws as one of all causes, which the book counts.
-use Rattle.pipeline_laws.specs.World.{Cause}
+use Rattle.order_laws.specs.Cause.{Cause}
 use Rattle.process_packet.specs.declared.cause.Cause.{Cause as RouterCause}
 use Rattle.process_packet.specs.declared.cause.Cause.TheVariants as why
 use Rattle.router_rules.specs.Rules.{kinds}

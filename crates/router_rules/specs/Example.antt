@@ -1,7 +1,7 @@
 -- The rules over small cases, which say what the definitions are to mean.
 use Rattle.std.specs.Prelude.{◌≡◌, true, false, List, [], ◌∷◌, ℕ}
 use Rattle.flow_key.specs.Flow.{Flow}
-use Rattle.pipeline_laws.specs.Item.{Arrival}
+use Rattle.order_laws.specs.Item.{Arrival}
 use Rattle.process_packet.specs.declared.config.Config.{Config}
 use Rattle.process_packet.specs.declared.underlay.Underlay.{Underlay}
 use Rattle.router_rules.specs.Rules.{kinds, rules, same_flow}

@@ -1,7 +1,7 @@
 -- What is told of the router's rules as a whole.
 use Rattle.std.specs.Prelude.{◌≡◌, ◌≢◌, ◌<◌, ℕ, Bool, true, false, drop, Some, None}
 use Rattle.bfd_answer.specs.Answer.{answer_packet}
-use Rattle.pipeline_laws.specs.Rules.{Drops, IsLawful, Replies, Withholds}
+use Rattle.order_laws.specs.Rules.{Drops, IsLawful, Replies, Withholds}
 use Rattle.process_packet.specs.Network.{has_link, network, own_link}
 use Rattle.process_packet.specs.declared.cause.Cause.{Cause}
 use Rattle.process_packet.specs.declared.cause.Cause.TheVariants as cause

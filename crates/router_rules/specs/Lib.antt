@@ -4,7 +4,4 @@ pub mod Rules
 pub mod Causes
 pub mod Laws
 pub mod Ports
-pub mod Worker
-pub mod WorkerIndex
-pub mod Producers
 pub mod Example

@@ -1,7 +1,7 @@
 -- The links of a router, numbered from 0 in ascending order of their interfaces. The internal network is interface 0.
 use Rattle.std.specs.Prelude.{ℕ, Bool, ◌&&◌, ◌||◌, ◌==◌, nat_lt, List, ◌∷◌, map, length, find, Option, Some, None, if◌then◌else◌}
 use Rattle.std.specs.List.{list_any}
-use Rattle.pipeline_laws.specs.Counts.{count}
+use Rattle.order_laws.specs.Counts.{count}
 use Rattle.process_packet.specs.Neighbours.{are_two, link_id}
 use Rattle.process_packet.specs.Network.{has_link, network}
 use Rattle.process_packet.specs.declared.config.Config.{Config}

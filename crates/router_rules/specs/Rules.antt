@@ -2,9 +2,9 @@
 use Rattle.std.specs.Prelude.{◌≡◌, ◌<◌, ℕ, Bool, true, false, not, ◌&&◌, ◌==◌, nat_lt, List, [], ◌∷◌, length, Option, Some, option_map, if◌then◌else◌}
 use Rattle.flow_key.specs.Flow.{Flow, flow_at, is_high}
 use Rattle.flow_key.specs.Hash.{processor_of}
-use Rattle.pipeline_laws.specs.Item.{Arrival}
-use Rattle.pipeline_laws.specs.Kinds.{Kinds}
-use Rattle.pipeline_laws.specs.Rules.{Decision, Sends, Asks, Drops, Reply, Replies, Withholds, Rules}
+use Rattle.order_laws.specs.Item.{Arrival}
+use Rattle.order_laws.specs.Kinds.{Kinds}
+use Rattle.order_laws.specs.Rules.{Decision, Sends, Asks, Drops, Reply, Replies, Withholds, Rules}
 use Rattle.process_packet.specs.Decide.{decide, is_one_hop, moved}
 use Rattle.process_packet.specs.Network.{network}
 use Rattle.process_packet.specs.Rows.{cause_of}

@@ -3,7 +3,6 @@
 
 ghost use Rattle.router_rules.specs.Example.{RulesAreTold};
 ghost use Rattle.router_rules.specs.Laws.{AreLawful, CausesAreApart, LinksStandInOrder, RepliesAreAnswers};
-ghost use Rattle.router_rules.specs.Producers.{ProducersAreNumbered};
 
 use packet_answer::control_packets_are_answered;
 use process_packet::{
@@ -43,11 +42,6 @@ pub fn replies_are_answers()
 {
     control_packets_are_answered();
 }
-
-/// The workers that feed a pipe are numbered below its count of producers, each by a number of its own.
-pub fn producers_are_numbered()
-    ensures { ProducersAreNumbered }
-{}
 
 /// The rules over small cases.
 pub fn examples()

@@ -2,7 +2,7 @@
 
 ghost use Rattle.std.specs.Prelude.{◌≡◌, ◌==◌, ◌&&◌, ◌≤◌, length, map, nat_lt};
 ghost use Rattle.std.specs.List.{find, list_any};
-ghost use Rattle.pipeline_laws.specs.Counts.{count};
+ghost use Rattle.order_laws.specs.Counts.{count};
 ghost use Rattle.process_packet.specs.Neighbours.{are_two, link_id};
 ghost use Rattle.router_rules.specs.Links.{has_two_bands, interface_at, link_count, link_index};
 

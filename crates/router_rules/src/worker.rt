@@ -1,4 +1,4 @@
-//! Who works, and which pipes there are, by the names that callers know.
+//! Who works, by the names that callers know.
 
 /// A worker of the pipeline. Links are named by their interface; 0 is the internal network.
 #[derive(Clone, Copy, PartialEq, Eq)]
@@ -13,12 +13,4 @@ pub enum Worker {
     Forwarder(u16),
     /// It closes links, and ends the run.
     Controller,
-}
-
-/// A pipe, named by its consumer. The forwarder of a link with two bands has a second one.
-#[derive(Clone, Copy)]
-pub enum Queue {
-    Of(Worker),
-    /// The high band of a link.
-    High(u16),
 }

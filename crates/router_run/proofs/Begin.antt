@@ -2,7 +2,7 @@
 use Rattle.std.proofs.Common.{◌≡◌, ℕ, suc, ◌+◌, ◌-◌, ◌*◌, List, [], ◌∷◌, map, length, Some, Result, Ok, Err, MatchResult, slice_get, refl, sym, ◌∙◌, ap, subst, arith}
 use Rattle.std.proofs.lemmas.List.{map-id}
 use Rattle.process_packet.specs.declared.config.Config.{Config}
-use Rattle.pipeline_laws.specs.Item.{Arrival, Outgoing}
+use Rattle.order_laws.specs.Item.{Arrival, Outgoing}
 use Rattle.ruled_pipe.specs.Pipe.{Shape}
 use Rattle.router_laws.specs.Returned.{AllAt}
 use Rattle.router_rules.specs.Links.{interface_at, link_count}

@@ -1,6 +1,6 @@
 -- A router's workers as they came back.
 use Rattle.std.specs.Prelude.{◌≡◌, ℕ, List, [], ◌∷◌, map, Option}
-use Rattle.pipeline_laws.specs.Settled.{SlowPathRequest}
+use Rattle.order_laws.specs.Settled.{SlowPathRequest}
 use Rattle.ruled_pipe.specs.Consumer.{Taker}
 use Rattle.router_rules.specs.Rules.{kinds}
 use Rattle.router_laws.specs.Heard.{Heard}

@@ -10,7 +10,7 @@ use Rattle.router_stages.specs.Answering.{Answering}
 use Rattle.router_stages.specs.Forwarding.{Forwarding}
 use Rattle.router_stages.specs.Receiving.{EndsQuietly, Receiving}
 use Rattle.ruled_pipe.specs.Producer.{Sender}
-use Rattle.pipeline_laws.specs.Deeds.{Each}
+use Rattle.order_laws.specs.Deeds.{Each}
 use Rattle.stage_parts.specs.Told.{Told, told_of}
 use Rattle.pipe_ends.specs.Shutting.{closed_at}
 use Rattle.run_report.specs.Crew.{Crew}

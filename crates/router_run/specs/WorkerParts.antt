@@ -1,6 +1,6 @@
 -- What stands ready before the devices are taken: the pipes, with room for their ends, and what the workers are made of.
 use Rattle.std.specs.Prelude.{◌+◌, ◌-◌, ℕ, List}
-use Rattle.pipeline_laws.specs.Item.{Arrival, Outgoing}
+use Rattle.order_laws.specs.Item.{Arrival, Outgoing}
 use Rattle.router_rules.specs.Rules.{kinds}
 use Rattle.process_packet.specs.declared.config.Config.{Config}
 use Rattle.router_stages.specs.Answering.{Answering}

@@ -1,7 +1,7 @@
 //! The workers over their devices, each in a thread of its own.
 
 ghost use Rattle.std.specs.Prelude.{◌≡◌, ◌∷◌, [], length, true};
-ghost use Rattle.pipeline_laws.specs.Deeds.{Each};
+ghost use Rattle.order_laws.specs.Deeds.{Each};
 ghost use Rattle.router_laws.specs.Heard.{ToldNothing};
 ghost use Rattle.wired_workers.specs.Kits.{forwardings, receivings};
 ghost use Rattle.worker_threads.specs.Teams.{IsFor};

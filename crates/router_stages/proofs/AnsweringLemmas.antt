@@ -1,10 +1,10 @@
 -- One turn of the slow path keeps its law.
 use Rattle.std.proofs.Common.{◌≡◌, inl, inr, ℕ, ◌<◌, Bool, List, [], length, Option, Some, refl, sym, ap, subst, ◌∙◌, arith}
 use Rattle.packet_ledger.specs.Share.{Held, IsPosted, new_share}
-use Rattle.pipeline_laws.specs.Item.{Outgoing}
-use Rattle.pipeline_laws.specs.Rules.{Rules, Reply, Replies, Withholds}
-use Rattle.pipeline_laws.specs.Deeds.{payload_of, Accepted, Refused, Counted}
-use Rattle.pipeline_laws.specs.Settled.{SlowPathRequest}
+use Rattle.order_laws.specs.Item.{Outgoing}
+use Rattle.order_laws.specs.Rules.{Rules, Reply, Replies, Withholds}
+use Rattle.order_laws.specs.Deeds.{payload_of, Accepted, Refused, Counted}
+use Rattle.order_laws.specs.Settled.{SlowPathRequest}
 use Rattle.process_packet.specs.declared.cause.Cause.{Cause}
 use Rattle.process_packet.specs.declared.config.Config.{Config}
 use Rattle.router_laws.specs.Keeping.{IsAnswering}

@@ -1,12 +1,13 @@
 -- One turn of a processor keeps its law.
 use Rattle.std.proofs.Common.{◌≡◌, inl, inr, ℕ, ◌+◌, ◌*◌, ◌<◌, Bool, false, cond, ◌&&◌, List, [], ◌∷◌, length, Option, Some, None, is_some, refl, sym, ap, subst, ◌∙◌, arith}
 use Rattle.packet_ledger.specs.Share.{Held, IsPosted, new_share}
-use Rattle.pipeline_laws.specs.Item.{Arrival, Outgoing, Out}
-use Rattle.pipeline_laws.specs.Rules.{Rules, Decision, Sends, Asks, Drops}
-use Rattle.pipeline_laws.specs.World.{home, slow_seat, Cause as Fate}
-use Rattle.pipeline_laws.specs.Deeds.{payload_of, Accepted, Refused, Counted}
-use Rattle.pipeline_laws.specs.Settled.{SlowPathRequest}
-use Rattle.pipeline_laws.specs.Counted.{place_of}
+use Rattle.order_laws.specs.Item.{Arrival, Outgoing, Out}
+use Rattle.order_laws.specs.Rules.{Rules, Decision, Sends, Asks, Drops}
+use Rattle.order_laws.specs.Pipes.{home, slow_seat}
+use Rattle.order_laws.specs.Cause.{Cause as Fate}
+use Rattle.order_laws.specs.Deeds.{payload_of, Accepted, Refused, Counted}
+use Rattle.order_laws.specs.Settled.{SlowPathRequest}
+use Rattle.order_laws.specs.Counted.{place_of}
 use Rattle.process_packet.specs.declared.cause.Cause.{Cause}
 use Rattle.process_packet.specs.declared.config.Config.{Config}
 use Rattle.router_laws.specs.Keeping.{IsWorking}

@@ -1,8 +1,8 @@
 -- What contracts see of the slow path, and what a turn does.
 use Rattle.std.specs.Prelude.{◌≡◌, ◌⊎◌, ◌<◌, ℕ, Bool, Option, Some}
 use Rattle.packet_ledger.specs.Share.{Held}
-use Rattle.pipeline_laws.specs.Rules.{Reply, Replies, Withholds}
-use Rattle.pipeline_laws.specs.Settled.{SlowPathRequest}
+use Rattle.order_laws.specs.Rules.{Reply, Replies, Withholds}
+use Rattle.order_laws.specs.Settled.{SlowPathRequest}
 use Rattle.process_packet.specs.declared.config.Config.{Config}
 use Rattle.ruled_pipe.specs.declared.entry.Load.TheVariants.{Payload, Marked}
 use Rattle.ruled_pipe.specs.declared.entry.Mark.{Mark}

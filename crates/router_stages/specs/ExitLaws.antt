@@ -1,9 +1,9 @@
 -- A processor and the slow path stay the same ones in each turn and post, and have ended when a turn says so.
 use Rattle.std.proofs.Common.{◌≡◌, inl, inr, ℕ, ◌+◌, ◌*◌, Bool, true, false, ◌&&◌, if◌then◌else◌, Option, Some, None, refl, sym, ap, subst, ◌∙◌, arith}
 use Rattle.atomic_table.specs.Seated.{TableId}
-use Rattle.pipeline_laws.specs.Item.{Arrival, Outgoing}
-use Rattle.pipeline_laws.specs.Rules.{Decision, Sends, Asks, Drops, Reply, Replies, Withholds}
-use Rattle.pipeline_laws.specs.Settled.{SlowPathRequest}
+use Rattle.order_laws.specs.Item.{Arrival, Outgoing}
+use Rattle.order_laws.specs.Rules.{Decision, Sends, Asks, Drops, Reply, Replies, Withholds}
+use Rattle.order_laws.specs.Settled.{SlowPathRequest}
 use Rattle.process_packet.specs.declared.cause.Cause.{Cause}
 use Rattle.process_packet.specs.declared.cause.Cause.TheVariants as cause
 use Rattle.process_packet.specs.declared.config.Config.{Config}

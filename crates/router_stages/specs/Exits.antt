@@ -1,7 +1,7 @@
 -- What a processor and the slow path do with what they made of a packet.
 use Rattle.std.specs.Prelude.{◌≡◌, ◌⊎◌, ◌+◌, ◌*◌, ◌&&◌, ℕ, Bool, true, false, List, if◌then◌else◌}
 use Rattle.packet_ledger.specs.Share.{Held, counting, with_fate}
-use Rattle.pipeline_laws.specs.Item.{Outgoing}
+use Rattle.order_laws.specs.Item.{Outgoing}
 use Rattle.process_packet.specs.declared.cause.Cause.{Cause}
 use Rattle.process_packet.specs.declared.cause.Cause.TheVariants as cause
 use Rattle.process_packet.specs.declared.config.Config.{Config}

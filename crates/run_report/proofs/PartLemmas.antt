@@ -1,7 +1,7 @@
 -- Workers taken apart one by one: what was gathered grows at its end, what is left shrinks in front.
 use Rattle.std.proofs.Common.{◌≡◌, ℕ, ◌+◌, ◌≤◌, List, [], ◌∷◌, ◌++◌, map, length, sym, ◌∙◌, ap, subst, arith, append_assoc, length-append}
 use Rattle.std.proofs.lemmas.List.{map-append}
-use Rattle.pipeline_laws.specs.Deeds.{Each}
+use Rattle.order_laws.specs.Deeds.{Each}
 use Rattle.wired_workers.proofs.RestLemmas.{moved}
 
 module _ {X : Type 0} where

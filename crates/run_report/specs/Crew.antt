@@ -1,6 +1,6 @@
 -- All workers of a run, with the controller's ends.
 use Rattle.std.specs.Prelude.{List, [], ◌∷◌, map, ◌++◌}
-use Rattle.pipeline_laws.specs.Settled.{SlowPathRequest}
+use Rattle.order_laws.specs.Settled.{SlowPathRequest}
 use Rattle.ruled_pipe.specs.Consumer.{Taker}
 use Rattle.router_rules.specs.Rules.{kinds}
 use Rattle.router_stages.specs.Answering.{Answering}
@@ -9,7 +9,7 @@ use Rattle.router_stages.specs.Receiving.{Receiving}
 use Rattle.router_stages.specs.Working.{Working}
 use Rattle.stage_parts.specs.Outlets.{senders}
 use Rattle.pipe_ends.specs.Shutting.{shutter_ends, Shutting}
-use Rattle.pipeline_laws.specs.Item.{Outgoing, Arrival}
+use Rattle.order_laws.specs.Item.{Outgoing, Arrival}
 use Rattle.ruled_pipe.specs.Producer.{Sender}
 
 -- the workers, and the controller's ends

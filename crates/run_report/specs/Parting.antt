@@ -1,7 +1,7 @@
 -- Workers that came back, and what is left of them.
 use Rattle.std.specs.Prelude.{◌≡◌, ℕ, true, List, [], ◌∷◌, map, Option, length, ◌++◌, ◌*◌}
-use Rattle.pipeline_laws.specs.Deeds.{Each}
-use Rattle.pipeline_laws.specs.Settled.{SlowPathRequest}
+use Rattle.order_laws.specs.Deeds.{Each}
+use Rattle.order_laws.specs.Settled.{SlowPathRequest}
 use Rattle.ruled_pipe.specs.Consumer.{Taker}
 use Rattle.router_rules.specs.Rules.{kinds}
 use Rattle.router_laws.specs.Heard.{Heard}
@@ -15,7 +15,7 @@ use Rattle.stage_parts.specs.Told.{Told, told_of}
 use Rattle.router_pipes.specs.Handing.{NeverClosed, AreMarked}
 use Rattle.pipe_ends.specs.Shutting.{PushMarks, AreMarking}
 use Rattle.run_report.specs.Crew.{Crew, inner_rows, inner_takers, middle_row, outer_rows, takers_of}
-use Rattle.pipeline_laws.specs.Item.{Outgoing, Arrival}
+use Rattle.order_laws.specs.Item.{Outgoing, Arrival}
 use Rattle.pipe_ends.specs.Rows.{Row, rows_of}
 use Rattle.ruled_pipe.specs.Producer.{Sender}
 use Rattle.stage_parts.specs.Outlet.{IsMarked}

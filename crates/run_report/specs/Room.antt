@@ -1,8 +1,8 @@
 -- Room for what comes back with the workers.
 use Rattle.std.specs.Prelude.{◌≡◌, ◌+◌, ◌*◌, ◌≤◌, ℕ, List, [], length}
-use Rattle.pipeline_laws.specs.Deeds.{Each}
-use Rattle.pipeline_laws.specs.Item.{Arrival, Outgoing}
-use Rattle.pipeline_laws.specs.Settled.{SlowPathRequest}
+use Rattle.order_laws.specs.Deeds.{Each}
+use Rattle.order_laws.specs.Item.{Arrival, Outgoing}
+use Rattle.order_laws.specs.Settled.{SlowPathRequest}
 use Rattle.router_rules.specs.Rules.{kinds}
 use Rattle.pipe_ends.specs.Rows.{Row}
 

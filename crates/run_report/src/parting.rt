@@ -2,7 +2,7 @@
 
 ghost use Rattle.std.specs.Prelude.{◌≡◌, ◌≤◌, ◌<◌, ◌+◌, ◌*◌, ◌++◌, ◌∷◌, [], length, map, true, vec_capacity};
 ghost use Rattle.packet_ledger.specs.Share.{forwarded};
-ghost use Rattle.pipeline_laws.specs.Deeds.{Each};
+ghost use Rattle.order_laws.specs.Deeds.{Each};
 ghost use Rattle.router_laws.specs.Keeping.{IsAnswering, IsForwarding, IsReceiving, IsWorking};
 ghost use Rattle.router_stages.specs.Receiving.{EndsQuietly};
 ghost use Rattle.stage_parts.specs.Outlet.{IsMarked};

@@ -1,7 +1,7 @@
 //! Room for what comes back with the workers, taken before the first thread is made.
 
 ghost use Rattle.std.specs.Prelude.{◌≡◌, ◌≤◌, ◌+◌, ◌*◌, IfOk, [], length, vec_capacity};
-ghost use Rattle.pipeline_laws.specs.Deeds.{Each};
+ghost use Rattle.order_laws.specs.Deeds.{Each};
 ghost use Rattle.run_report.specs.Room.{HaveSpace, IsRoomy};
 
 use packet_ledger::Share;

@@ -5,14 +5,14 @@ use Rattle.ruled_pipe.specs.declared.entry.Entry.{Entry}
 use Rattle.ruled_pipe.specs.declared.entry.Load.TheVariants.{Payload}
 use Rattle.ruled_pipe.specs.Producer.{Sender, entry, offered, refused}
 use Rattle.ruled_pipe.specs.Consumer.{Taker, took, looked}
-use Rattle.pipeline_laws.specs.Kinds.{Kinds}
-use Rattle.pipeline_laws.specs.Item.{Outgoing, Out}
-use Rattle.pipeline_laws.specs.Rules.{Rules, Reply, Replies, Withholds}
-use Rattle.pipeline_laws.specs.World.{home}
-use Rattle.pipeline_laws.specs.Deeds.{payload_of, payloads, Ending, Accepted, Refused, Counted, Deed}
-use Rattle.pipeline_laws.specs.Settled.{if_so, SlowPathRequest}
-use Rattle.pipeline_laws.specs.Counted.{place_of}
-use Rattle.pipeline_laws.proofs.Turns.{each_more}
+use Rattle.order_laws.specs.Kinds.{Kinds}
+use Rattle.order_laws.specs.Item.{Outgoing, Out}
+use Rattle.order_laws.specs.Rules.{Rules, Reply, Replies, Withholds}
+use Rattle.order_laws.specs.Pipes.{home}
+use Rattle.order_laws.specs.Deeds.{payload_of, payloads, Ending, Accepted, Refused, Counted, Deed}
+use Rattle.order_laws.specs.Settled.{if_so, SlowPathRequest}
+use Rattle.order_laws.specs.Counted.{place_of}
+use Rattle.order_laws.proofs.Turns.{each_more}
 use Rattle.stage_laws.specs.Ends.{load_in, pushes, refusals_in, IsGrown}
 use Rattle.stage_laws.specs.Marks.{EachHasTried}
 use Rattle.stage_laws.specs.Works.{SentOn, TurnedAway, deed, LacksNothing}

@@ -1,19 +1,20 @@
 -- What workers that have ended counted, cause by cause.
 use Rattle.std.proofs.Common.{◌≡◌, inl, inr, ℕ, zero, suc, ◌+◌, ◌*◌, ◌<◌, Bool, true, false, not, ◌&&◌, cond, List, [], ◌∷◌, ◌++◌, map, length, refl, sym, ◌∙◌, ap, arith, length-append}
 use Rattle.std.specs.List.{flat_map}
-use Rattle.pipeline_laws.specs.Kinds.{Kinds}
-use Rattle.pipeline_laws.specs.Item.{Arrival, Outgoing}
-use Rattle.pipeline_laws.specs.Rules.{Rules, Decision, Sends, Asks, Drops, IsLawful}
-use Rattle.pipeline_laws.specs.World.{Cause, link_pipe}
-use Rattle.pipeline_laws.specs.Sent.{IsMerge}
-use Rattle.pipeline_laws.specs.Counts.{total, count}
-use Rattle.pipeline_laws.specs.Deeds.{Pushed, payloads, from_mark, Each, Ending, Accepted, Refused, Lacked, Counted, Deed, if_refused, done_items, refused}
-use Rattle.pipeline_laws.specs.Settled.{SlowPathRequest, to_processor, to_link, to_slow, asked_of, Views, told, IsTold}
-use Rattle.pipeline_laws.specs.Counted.{sum_to, unsent, unsent_by, is_offer, IsOne, no_side, SlowViews, Tallied, place_of, link_pipes, full_processors, full_slow, IsCounted}
-use Rattle.pipeline_laws.proofs.Counted.{sum_below, sum_add, sum_zero, counts_once}
-use Rattle.pipeline_laws.proofs.Stages.{each_map}
-use Rattle.pipeline_laws.proofs.SettledOrder.{each_both}
-use Rattle.pipeline_laws.proofs.Sums.{total-append, count-total}
+use Rattle.order_laws.specs.Kinds.{Kinds}
+use Rattle.order_laws.specs.Item.{Arrival, Outgoing}
+use Rattle.order_laws.specs.Rules.{Rules, Decision, Sends, Asks, Drops, IsLawful}
+use Rattle.order_laws.specs.Cause.{Cause}
+use Rattle.order_laws.specs.Pipes.{link_pipe}
+use Rattle.order_laws.specs.Merge.{IsMerge}
+use Rattle.order_laws.specs.Counts.{total, count}
+use Rattle.order_laws.specs.Deeds.{Pushed, payloads, from_mark, Each, Ending, Accepted, Refused, Lacked, Counted, Deed, if_refused, done_items, refused}
+use Rattle.order_laws.specs.Settled.{SlowPathRequest, to_processor, to_link, to_slow, asked_of, Views, told, IsTold}
+use Rattle.order_laws.specs.Counted.{sum_to, unsent, unsent_by, is_offer, IsOne, no_side, SlowViews, Tallied, place_of, link_pipes, full_processors, full_slow, IsCounted}
+use Rattle.order_laws.proofs.Counted.{sum_below, sum_add, sum_zero, counts_once}
+use Rattle.order_laws.proofs.Stages.{each_map}
+use Rattle.order_laws.proofs.SettledOrder.{each_both}
+use Rattle.order_laws.proofs.Sums.{total-append, count-total}
 use Rattle.stage_laws.specs.Receives.{lacks, was_lacked}
 use Rattle.stage_laws.specs.Works.{leaves, IsOffered, LacksNothing}
 use Rattle.stage_laws.specs.Answers.{to_back}

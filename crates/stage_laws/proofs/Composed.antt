@@ -3,14 +3,14 @@ use Rattle.std.proofs.Common.{◌≡◌, ◌⊎◌, inl, inr, ℕ, zero, suc, �
 use Rattle.std.specs.List.{flat_map}
 use Rattle.std.proofs.lemmas.Bool.{cases_eq, lt-ltb}
 use Rattle.ruled_pipe.specs.Producer.{Sender}
-use Rattle.pipeline_laws.specs.Kinds.{Kinds}
-use Rattle.pipeline_laws.specs.Item.{Arrival, Outgoing}
-use Rattle.pipeline_laws.specs.Rules.{Rules, Reply, Replies, Withholds}
-use Rattle.pipeline_laws.specs.World.{link_pipe, slow_seat}
-use Rattle.pipeline_laws.specs.Deeds.{Pushed, payloads, of_producer, has_mark, Each, Deed, done_items, accepted, Tells}
-use Rattle.pipeline_laws.specs.Settled.{SlowPathRequest, if_so, to_link, IsLinkPipe, ReceiverLaw, ProcessorLaw, Views, Settled}
-use Rattle.pipeline_laws.specs.Counted.{place_of, link_pipes}
-use Rattle.pipeline_laws.proofs.SettledOrder.{each_join}
+use Rattle.order_laws.specs.Kinds.{Kinds}
+use Rattle.order_laws.specs.Item.{Arrival, Outgoing}
+use Rattle.order_laws.specs.Rules.{Rules, Reply, Replies, Withholds}
+use Rattle.order_laws.specs.Pipes.{link_pipe, slow_seat}
+use Rattle.order_laws.specs.Deeds.{Pushed, payloads, of_producer, has_mark, Each, Deed, done_items, accepted, Tells}
+use Rattle.order_laws.specs.Settled.{SlowPathRequest, if_so, to_link, IsLinkPipe, ReceiverLaw, ProcessorLaw, Views, Settled}
+use Rattle.order_laws.specs.Counted.{place_of, link_pipes}
+use Rattle.order_laws.proofs.SettledOrder.{each_join}
 use Rattle.stage_laws.specs.Ends.{pushes, refusals_in, EndTells}
 use Rattle.stage_laws.specs.Works.{IsOffered, LacksNothing}
 use Rattle.stage_laws.specs.Receives.{IsClear}

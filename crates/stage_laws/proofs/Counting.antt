@@ -3,16 +3,16 @@ use Rattle.std.proofs.Common.{◌≡◌, ℕ, ◌+◌, Bool, true, false, ◌||�
 use Rattle.std.specs.List.{flat_map}
 use Rattle.std.proofs.lemmas.Grind.{flat_map-append}
 use Rattle.std.proofs.lemmas.List.{map-append}
-use Rattle.pipeline_laws.specs.Kinds.{Kinds}
-use Rattle.pipeline_laws.specs.Item.{Arrival, Outgoing}
-use Rattle.pipeline_laws.specs.Rules.{Rules}
-use Rattle.pipeline_laws.specs.World.{Cause}
-use Rattle.pipeline_laws.specs.Counts.{total}
-use Rattle.pipeline_laws.specs.Deeds.{Pushed, payload_of, payloads, closes, has_mark, from_mark, Deed}
-use Rattle.pipeline_laws.specs.Settled.{SlowPathRequest}
-use Rattle.pipeline_laws.proofs.Sums.{total-append}
-use Rattle.pipeline_laws.proofs.Turns.{from_more}
-use Rattle.pipeline_laws.proofs.Joints.{never_closed}
+use Rattle.order_laws.specs.Kinds.{Kinds}
+use Rattle.order_laws.specs.Item.{Arrival, Outgoing}
+use Rattle.order_laws.specs.Rules.{Rules}
+use Rattle.order_laws.specs.Cause.{Cause}
+use Rattle.order_laws.specs.Counts.{total}
+use Rattle.order_laws.specs.Deeds.{Pushed, payload_of, payloads, closes, has_mark, from_mark, Deed}
+use Rattle.order_laws.specs.Settled.{SlowPathRequest}
+use Rattle.order_laws.proofs.Sums.{total-append}
+use Rattle.order_laws.proofs.Turns.{from_more}
+use Rattle.order_laws.proofs.Joints.{never_closed}
 use Rattle.stage_laws.specs.Forwards.{Handed}
 use Rattle.stage_laws.specs.Counting.{Count, Dropped, receiver_counts, processor_counts, slow_counts, handed_count, swept_counts, counted_receiving, counted_working, counted_answering, counted_forwarding}
 

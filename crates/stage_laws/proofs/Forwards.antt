@@ -2,14 +2,14 @@
 use Rattle.std.proofs.Common.{◌≡◌, ℕ, ◌+◌, Bool, true, false, not, ◌||◌, cond, List, [], ◌∷◌, ◌++◌, map, Option, Some, refl, sym, ◌∙◌, ap, subst, arith, append-nil}
 use Rattle.std.proofs.lemmas.Grind.{flat_map-append}
 use Rattle.std.proofs.lemmas.List.{map-append}
-use Rattle.pipeline_laws.specs.Kinds.{Kinds}
-use Rattle.pipeline_laws.specs.Item.{Outgoing}
-use Rattle.pipeline_laws.specs.Sent.{IsMerge}
-use Rattle.pipeline_laws.proofs.Sent.{merge-append}
-use Rattle.pipeline_laws.specs.Deeds.{Load, Payload, CloseMark, EndMark, Pushed, payload_of, payloads, closes, has_mark, before_mark}
-use Rattle.pipeline_laws.proofs.Turns.{before_more, shut_more}
-use Rattle.pipeline_laws.specs.Counts.{total}
-use Rattle.pipeline_laws.proofs.Sums.{count-total, total-append}
+use Rattle.order_laws.specs.Kinds.{Kinds}
+use Rattle.order_laws.specs.Item.{Outgoing}
+use Rattle.order_laws.specs.Merge.{IsMerge}
+use Rattle.order_laws.proofs.Merge.{merge-append}
+use Rattle.order_laws.specs.Deeds.{Load, Payload, CloseMark, EndMark, Pushed, payload_of, payloads, closes, has_mark, before_mark}
+use Rattle.order_laws.proofs.Turns.{before_more, shut_more}
+use Rattle.order_laws.specs.Counts.{total}
+use Rattle.order_laws.proofs.Sums.{count-total, total-append}
 use Rattle.stage_laws.specs.Forwards.{Handed, AddsTo, WentOn, handed_items, refusals_of, KeepsForwarder}
 
 module _ {K : Kinds} where

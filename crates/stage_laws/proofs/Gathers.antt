@@ -5,15 +5,15 @@ use Rattle.ruled_pipe.specs.Rule as rule
 use Rattle.ruled_pipe.specs.Producer.{Sender}
 use Rattle.ruled_pipe.specs.Gathered.{IsSettled}
 use Rattle.ruled_pipe.proofs.Drained.{drained, of_here, settles}
-use Rattle.pipeline_laws.specs.Kinds.{Kinds}
-use Rattle.pipeline_laws.specs.Item.{Arrival, Outgoing, Out}
-use Rattle.pipeline_laws.specs.Rules.{Rules, Decision, Sends, Asks}
-use Rattle.pipeline_laws.specs.World.{home}
-use Rattle.pipeline_laws.specs.Counts.{total}
-use Rattle.pipeline_laws.specs.Deeds.{Pushed, closes, has_mark, of_producer}
-use Rattle.pipeline_laws.specs.Settled.{if_so, sent_out, to_link, to_slow, asked_of}
-use Rattle.pipeline_laws.specs.Counted.{sum_to, place_of, link_pipes}
-use Rattle.pipeline_laws.proofs.Counted.{sum_below, sum_zero, sum_one}
+use Rattle.order_laws.specs.Kinds.{Kinds}
+use Rattle.order_laws.specs.Item.{Arrival, Outgoing, Out}
+use Rattle.order_laws.specs.Rules.{Rules, Decision, Sends, Asks}
+use Rattle.order_laws.specs.Pipes.{home}
+use Rattle.order_laws.specs.Counts.{total}
+use Rattle.order_laws.specs.Deeds.{Pushed, closes, has_mark, of_producer}
+use Rattle.order_laws.specs.Settled.{if_so, sent_out, to_link, to_slow, asked_of}
+use Rattle.order_laws.specs.Counted.{sum_to, place_of, link_pipes}
+use Rattle.order_laws.proofs.Counted.{sum_below, sum_zero, sum_one}
 use Rattle.std.proofs.lemmas.Bool.{cases_eq, cases_lt, ne_eqb, eq-eqb}
 use Rattle.stage_laws.specs.Ends.{pushed_in, pushes}
 use Rattle.stage_laws.specs.Gathers.{offers_at, TookAll, Drains, StaysEmpty}

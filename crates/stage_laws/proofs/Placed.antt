@@ -1,15 +1,15 @@
 -- The premises of the sums, from those that the workers give.
 use Rattle.std.proofs.Common.{◌≡◌, ℕ, ◌+◌, ◌*◌, ◌<◌, Bool, true, false, eqb, cond, [], ◌∷◌, refl, ◌∙◌, ap, subst, arith}
 use Rattle.std.proofs.lemmas.Bool.{cases_eq}
-use Rattle.pipeline_laws.specs.Kinds.{Kinds}
-use Rattle.pipeline_laws.specs.Item.{Arrival, Outgoing, Out}
-use Rattle.pipeline_laws.specs.Rules.{Rules, Decision, Sends, Asks, Drops, Reply, Replies, Withholds, IsLawful}
-use Rattle.pipeline_laws.specs.World.{home, is_high, link_pipe}
-use Rattle.pipeline_laws.specs.Counts.{total}
-use Rattle.pipeline_laws.specs.Deeds.{Ending, Accepted, Refused, Lacked, Counted, Deed}
-use Rattle.pipeline_laws.specs.Settled.{SlowPathRequest, if_so, to_processor, to_link, to_slow}
-use Rattle.pipeline_laws.specs.Counted.{sum_to, is_offer, place_of, link_pipes, no_side}
-use Rattle.pipeline_laws.proofs.Counted.{sum_below, sum_one}
+use Rattle.order_laws.specs.Kinds.{Kinds}
+use Rattle.order_laws.specs.Item.{Arrival, Outgoing, Out}
+use Rattle.order_laws.specs.Rules.{Rules, Decision, Sends, Asks, Drops, Reply, Replies, Withholds, IsLawful}
+use Rattle.order_laws.specs.Pipes.{home, is_high, link_pipe}
+use Rattle.order_laws.specs.Counts.{total}
+use Rattle.order_laws.specs.Deeds.{Ending, Accepted, Refused, Lacked, Counted, Deed}
+use Rattle.order_laws.specs.Settled.{SlowPathRequest, if_so, to_processor, to_link, to_slow}
+use Rattle.order_laws.specs.Counted.{sum_to, is_offer, place_of, link_pipes, no_side}
+use Rattle.order_laws.proofs.Counted.{sum_below, sum_one}
 use Rattle.stage_laws.specs.Weighed.{IsWeighed, arrival_weight, request_weight, outgoing_weight}
 use Rattle.stage_laws.specs.Works.{leaves, IsOffered}
 use Rattle.stage_laws.specs.Answers.{is_answered, IsAnswered, answer_to, replied_out, to_back}

@@ -1,13 +1,13 @@
 -- Each packet of workers that have ended stands at one place.
 use Rattle.std.proofs.Common.{◌≡◌, ◌⊎◌, inl, inr, ℕ, zero, ◌+◌, ◌<◌, ◌≤◌, Bool, true, false, eqb, ◌&&◌, cond, List, [], ◌∷◌, length, refl, sym, ◌∙◌, ap, arith}
 use Rattle.std.proofs.lemmas.Bool.{cases_eq, cases_lt, ne_eqb, eq-eqb}
-use Rattle.pipeline_laws.specs.Kinds.{Kinds}
-use Rattle.pipeline_laws.specs.Item.{Arrival}
-use Rattle.pipeline_laws.specs.Rules.{Rules, IsLawful}
-use Rattle.pipeline_laws.specs.Counts.{total}
-use Rattle.pipeline_laws.specs.Settled.{Views, told, IsTold, AreNumbered}
-use Rattle.pipeline_laws.specs.Counted.{sum_to, SlowViews}
-use Rattle.pipeline_laws.proofs.Counted.{sum_below, sum_zero, sum_one}
+use Rattle.order_laws.specs.Kinds.{Kinds}
+use Rattle.order_laws.specs.Item.{Arrival}
+use Rattle.order_laws.specs.Rules.{Rules, IsLawful}
+use Rattle.order_laws.specs.Counts.{total}
+use Rattle.order_laws.specs.Settled.{Views, told, IsTold, AreNumbered}
+use Rattle.order_laws.specs.Counted.{sum_to, SlowViews}
+use Rattle.order_laws.proofs.Counted.{sum_below, sum_zero, sum_one}
 use Rattle.stage_laws.specs.Forwards.{Handed}
 use Rattle.stage_laws.specs.Answers.{to_back}
 use Rattle.stage_laws.specs.Ended.{Ended}

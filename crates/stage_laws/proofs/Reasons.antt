@@ -1,15 +1,15 @@
 -- Reasons, refusals and bands of workers that have ended.
 use Rattle.std.proofs.Common.{◌≡◌, inl, inr, ℕ, ◌+◌, ◌<◌, ◌&&◌, Bool, true, false, eqb, List, [], ◌∷◌, ◌++◌, refl, sym, ◌∙◌, ap, subst, arith}
-use Rattle.pipeline_laws.specs.Kinds.{Kinds}
-use Rattle.pipeline_laws.specs.Item.{Arrival, Outgoing, Out}
-use Rattle.pipeline_laws.specs.Rules.{Rules, IsLawful}
-use Rattle.pipeline_laws.specs.World.{home, is_high, link_pipe}
-use Rattle.pipeline_laws.specs.Sent.{IsMerge}
-use Rattle.pipeline_laws.specs.Deeds.{payloads, before_mark, Each, Ending, Accepted, Refused, Lacked, Counted, Deed, if_counted, refused}
-use Rattle.pipeline_laws.specs.Settled.{SlowPathRequest, if_so, to_processor, to_link, to_slow, Views, told, In, IsTold, IsLinkPipe, AreNumbered}
-use Rattle.pipeline_laws.specs.Counted.{SlowViews}
-use Rattle.pipeline_laws.proofs.Stages.{each_map}
-use Rattle.pipeline_laws.proofs.SettledOrder.{each_both, each_in, each_items, each_split, known}
+use Rattle.order_laws.specs.Kinds.{Kinds}
+use Rattle.order_laws.specs.Item.{Arrival, Outgoing, Out}
+use Rattle.order_laws.specs.Rules.{Rules, IsLawful}
+use Rattle.order_laws.specs.Pipes.{home, is_high, link_pipe}
+use Rattle.order_laws.specs.Merge.{IsMerge}
+use Rattle.order_laws.specs.Deeds.{payloads, before_mark, Each, Ending, Accepted, Refused, Lacked, Counted, Deed, if_counted, refused}
+use Rattle.order_laws.specs.Settled.{SlowPathRequest, if_so, to_processor, to_link, to_slow, Views, told, In, IsTold, IsLinkPipe, AreNumbered}
+use Rattle.order_laws.specs.Counted.{SlowViews}
+use Rattle.order_laws.proofs.Stages.{each_map}
+use Rattle.order_laws.proofs.SettledOrder.{each_both, each_in, each_items, each_split, known}
 use Rattle.stage_laws.specs.Receives.{IsSeen}
 use Rattle.stage_laws.specs.Works.{IsJust}
 use Rattle.stage_laws.specs.Answers.{IsWithheld, to_back}

@@ -3,13 +3,13 @@ use Rattle.std.proofs.Common.{◌≡◌, ◌⊎◌, inl, inr, ℕ, ◌+◌, ◌<
 use Rattle.std.proofs.lemmas.Bool.{cases_eq, ne_eqb, eq-eqb}
 use Rattle.ruled_pipe.specs.declared.entry.Load.TheVariants.{Payload}
 use Rattle.ruled_pipe.specs.Producer.{Sender, entry, offered, refused}
-use Rattle.pipeline_laws.specs.Kinds.{Kinds}
-use Rattle.pipeline_laws.specs.Item.{Arrival}
-use Rattle.pipeline_laws.specs.Rules.{Rules}
-use Rattle.pipeline_laws.specs.Deeds.{Ending, Accepted, Refused, Lacked, Counted, if_accepted, if_refused, Deed, payloads, done_items}
-use Rattle.pipeline_laws.specs.Settled.{if_so, to_processor, AreNumbered}
-use Rattle.pipeline_laws.proofs.Sums.{total-append}
-use Rattle.pipeline_laws.proofs.Turns.{each_more, numbered_more}
+use Rattle.order_laws.specs.Kinds.{Kinds}
+use Rattle.order_laws.specs.Item.{Arrival}
+use Rattle.order_laws.specs.Rules.{Rules}
+use Rattle.order_laws.specs.Deeds.{Ending, Accepted, Refused, Lacked, Counted, if_accepted, if_refused, Deed, payloads, done_items}
+use Rattle.order_laws.specs.Settled.{if_so, to_processor, AreNumbered}
+use Rattle.order_laws.proofs.Sums.{total-append}
+use Rattle.order_laws.proofs.Turns.{each_more, numbered_more}
 use Rattle.stage_laws.specs.Ends.{pushes, refusals_in, IsGrown}
 use Rattle.stage_laws.specs.Marks.{EachHasTried}
 use Rattle.stage_laws.specs.Works.{SentOn, TurnedAway, deed}

@@ -2,16 +2,16 @@
 use Rattle.std.proofs.Common.{◌*◌, ◌≡◌, ◌⊎◌, inl, inr, ℕ, suc, ◌+◌, ◌-◌, ◌<◌, ◌≤◌, Bool, true, false, List, [], ◌∷◌, ◌++◌, refl, sym, ◌∙◌, ap, ap₂, subst, arith, eqb}
 use Rattle.std.proofs.lemmas.Bool.{cases_lt, cases_eq, ne_eqb}
 use Rattle.std.proofs.lemmas.Grind.{flat_map-append}
-use Rattle.pipeline_laws.specs.Kinds.{Kinds}
-use Rattle.pipeline_laws.specs.Item.{Arrival, Outgoing, Out}
-use Rattle.pipeline_laws.specs.Rules.{Rules, Decision, Sends, Asks, Drops, Reply, Replies, Withholds, IsLawful}
-use Rattle.pipeline_laws.specs.World.{link_pipe, home, slow_seat}
-use Rattle.pipeline_laws.specs.Deeds.{Pushed, payload_of, payloads, of_producer, Each, Ending, Accepted, Refused, Lacked, Counted, Deed, if_accepted, if_refused, accepted, before_mark, from_mark}
-use Rattle.pipeline_laws.specs.Settled.{SlowPathRequest, if_so, to_link, sent_out, to_slow, asked_of, Views, IsTold, IsLinkPipe, SettlesInOrder}
-use Rattle.pipeline_laws.specs.Counted.{SlowViews, place_of, link_pipes}
-use Rattle.pipeline_laws.proofs.Joints.{by_producer, split_mark}
-use Rattle.pipeline_laws.proofs.Stages.{each_map}
-use Rattle.pipeline_laws.proofs.SettledOrder.{each_both, each_in, each_out, each_items, known, settles_order}
+use Rattle.order_laws.specs.Kinds.{Kinds}
+use Rattle.order_laws.specs.Item.{Arrival, Outgoing, Out}
+use Rattle.order_laws.specs.Rules.{Rules, Decision, Sends, Asks, Drops, Reply, Replies, Withholds, IsLawful}
+use Rattle.order_laws.specs.Pipes.{link_pipe, home, slow_seat}
+use Rattle.order_laws.specs.Deeds.{Pushed, payload_of, payloads, of_producer, Each, Ending, Accepted, Refused, Lacked, Counted, Deed, if_accepted, if_refused, accepted, before_mark, from_mark}
+use Rattle.order_laws.specs.Settled.{SlowPathRequest, if_so, to_link, sent_out, to_slow, asked_of, Views, IsTold, IsLinkPipe, SettlesInOrder}
+use Rattle.order_laws.specs.Counted.{SlowViews, place_of, link_pipes}
+use Rattle.order_laws.proofs.Joints.{by_producer, split_mark}
+use Rattle.order_laws.proofs.Stages.{each_map}
+use Rattle.order_laws.proofs.SettledOrder.{each_both, each_in, each_out, each_items, known, settles_order}
 use Rattle.stage_laws.specs.Weighed.{IsPlaced}
 use Rattle.stage_laws.specs.Answers.{to_back, answer_to, replied_out}
 use Rattle.stage_laws.specs.Forwards.{Handed}

@@ -3,11 +3,11 @@ use Rattle.std.proofs.Common.{◌≡◌, ◌⊎◌, inl, inr, ℕ, zero, suc, �
 use Rattle.std.proofs.lemmas.Bool.{and_parts, cases_eq, ltb-true, ne_eqb}
 use Rattle.atomic_table.specs.Seated.{TableId}
 use Rattle.ruled_pipe.specs.Producer.{Sender}
-use Rattle.pipeline_laws.specs.Item.{Arrival, Outgoing}
-use Rattle.pipeline_laws.specs.Rules.{Decision, Sends, Asks, Drops, Reply, Replies, Withholds, IsLawful}
-use Rattle.pipeline_laws.specs.Deeds.{Pushed, payloads, has_mark, of_producer}
-use Rattle.pipeline_laws.specs.Settled.{to_processor, to_link}
-use Rattle.pipeline_laws.specs.Counted.{place_of}
+use Rattle.order_laws.specs.Item.{Arrival, Outgoing}
+use Rattle.order_laws.specs.Rules.{Decision, Sends, Asks, Drops, Reply, Replies, Withholds, IsLawful}
+use Rattle.order_laws.specs.Deeds.{Pushed, payloads, has_mark, of_producer}
+use Rattle.order_laws.specs.Settled.{to_processor, to_link}
+use Rattle.order_laws.specs.Counted.{place_of}
 use Rattle.stage_laws.specs.Ends.{pushes, EndTells}
 use Rattle.stage_laws.specs.Works.{Keeps}
 use Rattle.stage_laws.specs.Answers.{to_back}

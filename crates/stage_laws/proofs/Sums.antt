@@ -1,12 +1,12 @@
 -- What all workers counted, share by share.
 use Rattle.std.proofs.Common.{◌≡◌, ℕ, zero, suc, ◌+◌, Bool, true, false, List, [], ◌∷◌, ◌++◌, map, length, Some, slice_get, refl, ◌∙◌, ap, arith}
-use Rattle.pipeline_laws.specs.Kinds.{Kinds}
-use Rattle.pipeline_laws.specs.Rules.{Rules}
-use Rattle.pipeline_laws.specs.World.{link_pipe}
-use Rattle.pipeline_laws.specs.Counts.{total, count}
-use Rattle.pipeline_laws.specs.Deeds.{Pushed}
-use Rattle.pipeline_laws.specs.Counted.{sum_to}
-use Rattle.pipeline_laws.proofs.Sums.{total-append}
+use Rattle.order_laws.specs.Kinds.{Kinds}
+use Rattle.order_laws.specs.Rules.{Rules}
+use Rattle.order_laws.specs.Pipes.{link_pipe}
+use Rattle.order_laws.specs.Counts.{total, count}
+use Rattle.order_laws.specs.Deeds.{Pushed}
+use Rattle.order_laws.specs.Counted.{sum_to}
+use Rattle.order_laws.proofs.Sums.{total-append}
 use Rattle.stage_laws.specs.Ends.{pushes}
 use Rattle.stage_laws.specs.Forwards.{Handed}
 use Rattle.stage_laws.specs.Counting.{Count, counted_receiving, counted_working, counted_answering, counted_forwarding}

@@ -2,16 +2,16 @@
 use Rattle.std.proofs.Common.{◌≡◌, ℕ, suc, ◌+◌, ◌<◌, ◌≤◌, Bool, true, false, eqb, cond, List, [], ◌∷◌, ◌++◌, refl, sym, ◌∙◌, ap, arith}
 use Rattle.std.specs.List.{flat_map}
 use Rattle.std.proofs.lemmas.Grind.{flat_map-append}
-use Rattle.pipeline_laws.specs.Kinds.{Kinds}
-use Rattle.pipeline_laws.specs.Item.{Arrival, Outgoing}
-use Rattle.pipeline_laws.specs.Rules.{Rules}
-use Rattle.pipeline_laws.specs.Counts.{total}
-use Rattle.pipeline_laws.specs.Deeds.{Pushed, payload_of, payloads, of_producer, before_mark, from_mark, Each, Ending, Accepted, Refused, Lacked, Counted, Deed, if_accepted, if_refused, done_items, accepted, refused, Tells}
-use Rattle.pipeline_laws.specs.Settled.{SlowPathRequest, to_processor, to_link, to_slow, IsLinkPipe, Views, Settled}
-use Rattle.pipeline_laws.specs.Counted.{sum_to, is_offer, SlowViews, place_of, link_pipes, no_side}
-use Rattle.pipeline_laws.proofs.Sums.{total-append}
-use Rattle.pipeline_laws.proofs.Joints.{split_mark}
-use Rattle.pipeline_laws.proofs.Counted.{sum_below, sum_add, sum_zero, sum_swap, sum_one, all_below}
+use Rattle.order_laws.specs.Kinds.{Kinds}
+use Rattle.order_laws.specs.Item.{Arrival, Outgoing}
+use Rattle.order_laws.specs.Rules.{Rules}
+use Rattle.order_laws.specs.Counts.{total}
+use Rattle.order_laws.specs.Deeds.{Pushed, payload_of, payloads, of_producer, before_mark, from_mark, Each, Ending, Accepted, Refused, Lacked, Counted, Deed, if_accepted, if_refused, done_items, accepted, refused, Tells}
+use Rattle.order_laws.specs.Settled.{SlowPathRequest, to_processor, to_link, to_slow, IsLinkPipe, Views, Settled}
+use Rattle.order_laws.specs.Counted.{sum_to, is_offer, SlowViews, place_of, link_pipes, no_side}
+use Rattle.order_laws.proofs.Sums.{total-append}
+use Rattle.order_laws.proofs.Joints.{split_mark}
+use Rattle.order_laws.proofs.Counted.{sum_below, sum_add, sum_zero, sum_swap, sum_one, all_below}
 use Rattle.stage_laws.specs.Weighed.{lost_by, lost, IsWeighed, arrival_weight, request_weight, outgoing_weight, IsPlaced, numbered, through_processors, through_slow, through_links}
 
 -- The weights that workers keep.

@@ -11,14 +11,14 @@ use Rattle.ruled_pipe.specs.declared.entry.Mark.TheVariants as mark
 use Rattle.ruled_pipe.specs.declared.entry.Refusal.{Refusal}
 use Rattle.ruled_pipe.specs.Producer.{Sender, entry, offered, refused}
 use Rattle.ruled_pipe.specs.Consumer.{Taker, took, looked}
-use Rattle.pipeline_laws.specs.Kinds.{Kinds}
-use Rattle.pipeline_laws.specs.Item.{Arrival, Outgoing, Out}
-use Rattle.pipeline_laws.specs.Rules.{Rules, Decision, Sends, Asks, Drops}
-use Rattle.pipeline_laws.specs.World.{home}
-use Rattle.pipeline_laws.specs.Deeds.{Pushed, payload_of, Ending, Accepted, Refused, Lacked, Counted, if_accepted, if_refused, Deed, done_items, payloads, Tells}
-use Rattle.pipeline_laws.specs.Settled.{if_so, SlowPathRequest, sent_out, asked_of, to_link, to_slow}
-use Rattle.pipeline_laws.specs.Counted.{place_of}
-use Rattle.pipeline_laws.proofs.Turns.{tells_more, tells_mark, each_more}
+use Rattle.order_laws.specs.Kinds.{Kinds}
+use Rattle.order_laws.specs.Item.{Arrival, Outgoing, Out}
+use Rattle.order_laws.specs.Rules.{Rules, Decision, Sends, Asks, Drops}
+use Rattle.order_laws.specs.Pipes.{home}
+use Rattle.order_laws.specs.Deeds.{Pushed, payload_of, Ending, Accepted, Refused, Lacked, Counted, if_accepted, if_refused, Deed, done_items, payloads, Tells}
+use Rattle.order_laws.specs.Settled.{if_so, SlowPathRequest, sent_out, asked_of, to_link, to_slow}
+use Rattle.order_laws.specs.Counted.{place_of}
+use Rattle.order_laws.proofs.Turns.{tells_more, tells_mark, each_more}
 use Rattle.stage_laws.specs.Ends.{mark_in, load_in, pushed_in, pushes, refusals_in, EndTells, IsGrown}
 use Rattle.stage_laws.specs.Marks.{HasTried, EachHasTried}
 use Rattle.stage_laws.specs.Works.{SentOn, TurnedAway, leaves, IsJust, IsOffered, LacksNothing, deed, Did, Keeps}

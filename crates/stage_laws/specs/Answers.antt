@@ -2,13 +2,13 @@
 use Rattle.std.specs.Prelude.{◌≡◌, ◌==◌, ℕ, true, List, [], ◌∷◌, length, Some, slice_get}
 use Rattle.ruled_pipe.specs.Producer.{Sender}
 use Rattle.ruled_pipe.specs.Consumer.{Taker}
-use Rattle.pipeline_laws.specs.Kinds.{Kinds}
-use Rattle.pipeline_laws.specs.Item.{Outgoing, Out}
-use Rattle.pipeline_laws.specs.Rules.{Rules, Reply, Replies, Withholds}
-use Rattle.pipeline_laws.specs.World.{home}
-use Rattle.pipeline_laws.specs.Deeds.{Pushed, payloads, Each, Deed, if_counted, done_items, Tells}
-use Rattle.pipeline_laws.specs.Settled.{SlowPathRequest, if_so, IsLinkPipe}
-use Rattle.pipeline_laws.specs.Counted.{is_offer, place_of}
+use Rattle.order_laws.specs.Kinds.{Kinds}
+use Rattle.order_laws.specs.Item.{Outgoing, Out}
+use Rattle.order_laws.specs.Rules.{Rules, Reply, Replies, Withholds}
+use Rattle.order_laws.specs.Pipes.{home}
+use Rattle.order_laws.specs.Deeds.{Pushed, payloads, Each, Deed, if_counted, done_items, Tells}
+use Rattle.order_laws.specs.Settled.{SlowPathRequest, if_so, IsLinkPipe}
+use Rattle.order_laws.specs.Counted.{is_offer, place_of}
 use Rattle.stage_laws.specs.Ends.{pushes, EndTells, IsGrown}
 use Rattle.stage_laws.specs.Works.{LacksNothing}
 

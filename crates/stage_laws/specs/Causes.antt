@@ -1,12 +1,13 @@
 -- Of a running pipeline that has ended: what its workers counted, cause by cause.
 use Rattle.std.specs.Prelude.{◌≡◌, ◌+◌, ℕ, Bool, true, false, not, ◌&&◌, List, length, if◌then◌else◌}
-use Rattle.pipeline_laws.specs.Kinds.{Kinds}
-use Rattle.pipeline_laws.specs.Rules.{Rules, IsLawful}
-use Rattle.pipeline_laws.specs.World.{Cause, link_pipe}
-use Rattle.pipeline_laws.specs.Counts.{total, count}
-use Rattle.pipeline_laws.specs.Deeds.{Ending, Accepted, Refused, Lacked, Counted, Deed}
-use Rattle.pipeline_laws.specs.Settled.{Views, told, IsTold}
-use Rattle.pipeline_laws.specs.Counted.{sum_to, SlowViews, place_of, link_pipes, full_processors, full_links, full_slow, IsCounted}
+use Rattle.order_laws.specs.Kinds.{Kinds}
+use Rattle.order_laws.specs.Rules.{Rules, IsLawful}
+use Rattle.order_laws.specs.Cause.{Cause}
+use Rattle.order_laws.specs.Pipes.{link_pipe}
+use Rattle.order_laws.specs.Counts.{total, count}
+use Rattle.order_laws.specs.Deeds.{Ending, Accepted, Refused, Lacked, Counted, Deed}
+use Rattle.order_laws.specs.Settled.{Views, told, IsTold}
+use Rattle.order_laws.specs.Counted.{sum_to, SlowViews, place_of, link_pipes, full_processors, full_links, full_slow, IsCounted}
 use Rattle.stage_laws.specs.Receives.{lacks}
 use Rattle.stage_laws.specs.Forwards.{Handed}
 use Rattle.stage_laws.specs.Counting.{Count, Received, Sent, Replied, Dropped, counted_receiving, counted_working, counted_answering, counted_forwarding}

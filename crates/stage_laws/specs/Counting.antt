@@ -1,12 +1,12 @@
 -- What each worker counts, by what it did.
 use Rattle.std.specs.Prelude.{List, [], ◌∷◌, ◌++◌, map, if◌then◌else◌}
 use Rattle.std.specs.List.{flat_map}
-use Rattle.pipeline_laws.specs.Kinds.{Kinds}
-use Rattle.pipeline_laws.specs.Item.{Arrival, Outgoing}
-use Rattle.pipeline_laws.specs.Rules.{Rules, Decision, Sends, Asks, Drops}
-use Rattle.pipeline_laws.specs.World.{Cause}
-use Rattle.pipeline_laws.specs.Deeds.{Pushed, payloads, from_mark, Ending, Accepted, Refused, Lacked, Counted, Deed}
-use Rattle.pipeline_laws.specs.Settled.{SlowPathRequest}
+use Rattle.order_laws.specs.Kinds.{Kinds}
+use Rattle.order_laws.specs.Item.{Arrival, Outgoing}
+use Rattle.order_laws.specs.Rules.{Rules, Decision, Sends, Asks, Drops}
+use Rattle.order_laws.specs.Cause.{Cause}
+use Rattle.order_laws.specs.Deeds.{Pushed, payloads, from_mark, Ending, Accepted, Refused, Lacked, Counted, Deed}
+use Rattle.order_laws.specs.Settled.{SlowPathRequest}
 use Rattle.stage_laws.specs.Forwards.{Handed}
 
 pub data Count (K : Kinds) : Type 0 where

@@ -1,12 +1,12 @@
 -- What holds of a running pipeline that has ended: the premises that the workers give, and what follows.
 use Rattle.std.specs.Prelude.{◌≡◌, ◌<◌, ◌≤◌, ◌+◌, ◌*◌, ℕ, Bool, true, false, List, [], ◌++◌}
-use Rattle.pipeline_laws.specs.Kinds.{Kinds}
-use Rattle.pipeline_laws.specs.Item.{Arrival, Outgoing, Out}
-use Rattle.pipeline_laws.specs.Rules.{Rules, Sends, Asks, Replies, IsLawful}
-use Rattle.pipeline_laws.specs.World.{home, link_pipe}
-use Rattle.pipeline_laws.specs.Deeds.{payloads, of_producer, Each, Deed}
-use Rattle.pipeline_laws.specs.Settled.{SlowPathRequest, Views, IsTold, IsLinkPipe, Settled, SettlesInOrder}
-use Rattle.pipeline_laws.specs.Counted.{SlowViews, place_of, link_pipes}
+use Rattle.order_laws.specs.Kinds.{Kinds}
+use Rattle.order_laws.specs.Item.{Arrival, Outgoing, Out}
+use Rattle.order_laws.specs.Rules.{Rules, Sends, Asks, Replies, IsLawful}
+use Rattle.order_laws.specs.Pipes.{home, link_pipe}
+use Rattle.order_laws.specs.Deeds.{payloads, of_producer, Each, Deed}
+use Rattle.order_laws.specs.Settled.{SlowPathRequest, Views, IsTold, IsLinkPipe, Settled, SettlesInOrder}
+use Rattle.order_laws.specs.Counted.{SlowViews, place_of, link_pipes}
 use Rattle.stage_laws.specs.Works.{IsOffered, LacksNothing}
 use Rattle.stage_laws.specs.Answers.{SlowLaw}
 use Rattle.stage_laws.specs.Receives.{IsClear}

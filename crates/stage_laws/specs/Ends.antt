@@ -8,7 +8,7 @@ use Rattle.ruled_pipe.specs.declared.entry.Mark.{Mark}
 use Rattle.ruled_pipe.specs.declared.entry.Mark.TheVariants as mark
 use Rattle.ruled_pipe.specs.declared.entry.Refusal.{Refusal}
 use Rattle.ruled_pipe.specs.Producer.{Sender}
-use Rattle.pipeline_laws.specs.Deeds.{Load, Payload, CloseMark, EndMark, Pushed, payload_of, Deed, accepted, refused, Tells}
+use Rattle.order_laws.specs.Deeds.{Load, Payload, CloseMark, EndMark, Pushed, payload_of, Deed, accepted, refused, Tells}
 
 module _ {X : Type 0} where
   abbrev pub mark_in : Mark → Load X

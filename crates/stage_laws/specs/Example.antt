@@ -6,12 +6,13 @@ use Rattle.ruled_pipe.specs.declared.entry.Load.TheVariants.{Payload, Marked}
 use Rattle.ruled_pipe.specs.declared.entry.Mark.TheVariants.{Close, End}
 use Rattle.ruled_pipe.specs.Producer.{Sender, entry, refusal}
 use Rattle.ruled_pipe.specs.Consumer.{Taker}
-use Rattle.pipeline_laws.specs.Kinds.{Kinds}
-use Rattle.pipeline_laws.specs.Item.{Arrival, Outgoing}
-use Rattle.pipeline_laws.specs.Rules.{Rules, Sends, Asks, Drops, Replies, Withholds, IsLawful}
-use Rattle.pipeline_laws.specs.World.{Cause, link_pipe}
-use Rattle.pipeline_laws.specs.Deeds.{Deed, Accepted, Refused, Lacked, Counted}
-use Rattle.pipeline_laws.specs.Settled.{SlowPathRequest}
+use Rattle.order_laws.specs.Kinds.{Kinds}
+use Rattle.order_laws.specs.Item.{Arrival, Outgoing}
+use Rattle.order_laws.specs.Rules.{Rules, Sends, Asks, Drops, Replies, Withholds, IsLawful}
+use Rattle.order_laws.specs.Cause.{Cause}
+use Rattle.order_laws.specs.Pipes.{link_pipe}
+use Rattle.order_laws.specs.Deeds.{Deed, Accepted, Refused, Lacked, Counted}
+use Rattle.order_laws.specs.Settled.{SlowPathRequest}
 use Rattle.stage_laws.specs.Works.{deed}
 use Rattle.stage_laws.specs.Weighed.{places}
 use Rattle.stage_laws.specs.Places.{only_of}

@@ -1,10 +1,10 @@
 -- What a forwarder took of the two pipes of its link, and the law that it keeps.
 use Rattle.std.specs.Prelude.{◌≡◌, ◌+◌, ℕ, Bool, not, List, [], ◌∷◌, ◌++◌, map, Option, Some}
-use Rattle.pipeline_laws.specs.Kinds.{Kinds}
-use Rattle.pipeline_laws.specs.Item.{Outgoing}
-use Rattle.pipeline_laws.specs.Sent.{IsMerge}
-use Rattle.pipeline_laws.specs.Counts.{count}
-use Rattle.pipeline_laws.specs.Deeds.{Pushed, payloads, has_mark, before_mark}
+use Rattle.order_laws.specs.Kinds.{Kinds}
+use Rattle.order_laws.specs.Item.{Outgoing}
+use Rattle.order_laws.specs.Merge.{IsMerge}
+use Rattle.order_laws.specs.Counts.{count}
+use Rattle.order_laws.specs.Deeds.{Pushed, payloads, has_mark, before_mark}
 
 -- what a forwarder handed to its sink, and whether that took it
 pub record Handed (K : Kinds) : Type 0 where

@@ -1,10 +1,10 @@
 -- Of a running pipeline that has ended: each packet at one place.
 use Rattle.std.specs.Prelude.{◌≡◌, ◌<◌, ◌≤◌, ℕ, Bool, List, length, if◌then◌else◌}
-use Rattle.pipeline_laws.specs.Kinds.{Kinds}
-use Rattle.pipeline_laws.specs.Item.{is_one}
-use Rattle.pipeline_laws.specs.Rules.{Rules, IsLawful}
-use Rattle.pipeline_laws.specs.Settled.{Views, told, IsTold}
-use Rattle.pipeline_laws.specs.Counted.{SlowViews}
+use Rattle.order_laws.specs.Kinds.{Kinds}
+use Rattle.order_laws.specs.Item.{is_one}
+use Rattle.order_laws.specs.Rules.{Rules, IsLawful}
+use Rattle.order_laws.specs.Settled.{Views, told, IsTold}
+use Rattle.order_laws.specs.Counted.{SlowViews}
 use Rattle.stage_laws.specs.Forwards.{Handed}
 use Rattle.stage_laws.specs.Ended.{Ended}
 use Rattle.stage_laws.specs.Weighed.{places, through_processors, through_slow, through_links}

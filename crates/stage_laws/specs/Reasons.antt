@@ -1,13 +1,13 @@
 -- Of a running pipeline that has ended: why its workers counted a drop, what full pipes refused, and what sinks were handed.
 use Rattle.std.specs.Prelude.{◌≡◌, ◌<◌, ℕ, Bool, false, true, List, []}
-use Rattle.pipeline_laws.specs.Kinds.{Kinds}
-use Rattle.pipeline_laws.specs.Item.{Arrival, Outgoing, Out}
-use Rattle.pipeline_laws.specs.Rules.{Rules, Asks, Drops, Withholds, IsLawful}
-use Rattle.pipeline_laws.specs.World.{home, link_pipe}
-use Rattle.pipeline_laws.specs.Sent.{IsMerge}
-use Rattle.pipeline_laws.specs.Deeds.{Each, Deed, if_counted}
-use Rattle.pipeline_laws.specs.Settled.{SlowPathRequest, Views, IsTold, IsLinkPipe}
-use Rattle.pipeline_laws.specs.Counted.{SlowViews}
+use Rattle.order_laws.specs.Kinds.{Kinds}
+use Rattle.order_laws.specs.Item.{Arrival, Outgoing, Out}
+use Rattle.order_laws.specs.Rules.{Rules, Asks, Drops, Withholds, IsLawful}
+use Rattle.order_laws.specs.Pipes.{home, link_pipe}
+use Rattle.order_laws.specs.Merge.{IsMerge}
+use Rattle.order_laws.specs.Deeds.{Each, Deed, if_counted}
+use Rattle.order_laws.specs.Settled.{SlowPathRequest, Views, IsTold, IsLinkPipe}
+use Rattle.order_laws.specs.Counted.{SlowViews}
 use Rattle.stage_laws.specs.Forwards.{Handed, handed_items}
 use Rattle.stage_laws.specs.Receives.{IsClear}
 use Rattle.stage_laws.specs.Ended.{Ended, IsAnswerTo, IsPacketOf}

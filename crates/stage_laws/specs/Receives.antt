@@ -1,12 +1,12 @@
 -- What a receiver does in one turn, and the law that it keeps.
 use Rattle.std.specs.Prelude.{◌≡◌, ℕ, List, length, Some, None, slice_get}
 use Rattle.ruled_pipe.specs.Producer.{Sender}
-use Rattle.pipeline_laws.specs.Kinds.{Kinds}
-use Rattle.pipeline_laws.specs.Item.{Arrival}
-use Rattle.pipeline_laws.specs.Rules.{Rules}
-use Rattle.pipeline_laws.specs.Counts.{total}
-use Rattle.pipeline_laws.specs.Deeds.{Each, Deed, Ending, Accepted, Refused, Lacked, Counted, if_counted, done_items}
-use Rattle.pipeline_laws.specs.Settled.{to_processor, AreNumbered}
+use Rattle.order_laws.specs.Kinds.{Kinds}
+use Rattle.order_laws.specs.Item.{Arrival}
+use Rattle.order_laws.specs.Rules.{Rules}
+use Rattle.order_laws.specs.Counts.{total}
+use Rattle.order_laws.specs.Deeds.{Each, Deed, Ending, Accepted, Refused, Lacked, Counted, if_counted, done_items}
+use Rattle.order_laws.specs.Settled.{to_processor, AreNumbered}
 use Rattle.stage_laws.specs.Ends.{EndTells, IsGrown}
 
 module _ {C : Type 0} where

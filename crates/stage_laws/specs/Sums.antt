@@ -1,8 +1,8 @@
 -- The third pass: what all workers counted, share by share.
 use Rattle.std.specs.Prelude.{◌≡◌, ℕ, Bool, List, ◌∷◌, ◌++◌, map}
-use Rattle.pipeline_laws.specs.Kinds.{Kinds}
-use Rattle.pipeline_laws.specs.Rules.{Rules}
-use Rattle.pipeline_laws.specs.Counts.{total, count}
+use Rattle.order_laws.specs.Kinds.{Kinds}
+use Rattle.order_laws.specs.Rules.{Rules}
+use Rattle.order_laws.specs.Counts.{total, count}
 use Rattle.stage_laws.specs.Ends.{pushes}
 use Rattle.stage_laws.specs.Counting.{Count, counted_receiving, counted_working, counted_answering, counted_forwarding}
 use Rattle.stage_laws.specs.Causes.{all_counts}

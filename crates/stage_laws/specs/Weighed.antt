@@ -1,12 +1,12 @@
 -- Every packet that a receiver numbered stands at exactly one place: the sums of the counts, weighed by the packets' names.
 use Rattle.std.specs.Prelude.{◌≡◌, ℕ, ◌+◌, List}
-use Rattle.pipeline_laws.specs.Kinds.{Kinds}
-use Rattle.pipeline_laws.specs.Item.{Arrival, Outgoing}
-use Rattle.pipeline_laws.specs.Rules.{Rules}
-use Rattle.pipeline_laws.specs.Counts.{total}
-use Rattle.pipeline_laws.specs.Deeds.{payloads, Ending, Accepted, Refused, Lacked, Counted, Deed, done_items}
-use Rattle.pipeline_laws.specs.Settled.{SlowPathRequest, Views}
-use Rattle.pipeline_laws.specs.Counted.{sum_to, is_offer, SlowViews, place_of, link_pipes}
+use Rattle.order_laws.specs.Kinds.{Kinds}
+use Rattle.order_laws.specs.Item.{Arrival, Outgoing}
+use Rattle.order_laws.specs.Rules.{Rules}
+use Rattle.order_laws.specs.Counts.{total}
+use Rattle.order_laws.specs.Deeds.{payloads, Ending, Accepted, Refused, Lacked, Counted, Deed, done_items}
+use Rattle.order_laws.specs.Settled.{SlowPathRequest, Views}
+use Rattle.order_laws.specs.Counted.{sum_to, is_offer, SlowViews, place_of, link_pipes}
 
 module _ {C : Type 0} where
   abbrev pub lost_by : Ending C → ℕ → ℕ

@@ -2,13 +2,13 @@
 use Rattle.std.specs.Prelude.{◌≡◌, ◌<◌, ◌+◌, ◌-◌, nat_lt, ℕ, zero, suc, Bool, false, List, [], ◌∷◌, ◌++◌, map, length, Some, None, slice_get, if◌then◌else◌}
 use Rattle.ruled_pipe.specs.Producer.{Sender}
 use Rattle.ruled_pipe.specs.Consumer.{Taker}
-use Rattle.pipeline_laws.specs.Kinds.{Kinds}
-use Rattle.pipeline_laws.specs.Item.{Arrival, Outgoing}
-use Rattle.pipeline_laws.specs.Rules.{Rules}
-use Rattle.pipeline_laws.specs.World.{slow_seat}
-use Rattle.pipeline_laws.specs.Deeds.{Pushed, payloads, before_mark, from_mark, has_mark, Deed}
-use Rattle.pipeline_laws.specs.Settled.{SlowPathRequest, Views}
-use Rattle.pipeline_laws.specs.Counted.{SlowViews, link_pipes}
+use Rattle.order_laws.specs.Kinds.{Kinds}
+use Rattle.order_laws.specs.Item.{Arrival, Outgoing}
+use Rattle.order_laws.specs.Rules.{Rules}
+use Rattle.order_laws.specs.Pipes.{slow_seat}
+use Rattle.order_laws.specs.Deeds.{Pushed, payloads, before_mark, from_mark, has_mark, Deed}
+use Rattle.order_laws.specs.Settled.{SlowPathRequest, Views}
+use Rattle.order_laws.specs.Counted.{SlowViews, link_pipes}
 use Rattle.stage_laws.specs.Ends.{pushes}
 use Rattle.stage_laws.specs.Works.{Keeps}
 use Rattle.stage_laws.specs.Answers.{KeepsAnswers}

@@ -3,12 +3,12 @@ use Rattle.std.specs.Prelude.{◌≡◌, ℕ, List, [], ◌∷◌, ◌++◌, len
 use Rattle.ruled_pipe.specs.declared.entry.Load.TheVariants.{Payload}
 use Rattle.ruled_pipe.specs.Producer.{Sender, entry, offered, refused}
 use Rattle.ruled_pipe.specs.Consumer.{Taker}
-use Rattle.pipeline_laws.specs.Kinds.{Kinds}
-use Rattle.pipeline_laws.specs.Item.{Arrival, Outgoing}
-use Rattle.pipeline_laws.specs.Rules.{Rules, Decision, Sends, Asks, Drops}
-use Rattle.pipeline_laws.specs.Deeds.{payloads, Each, Deed, Ending, Accepted, Refused, Lacked, Counted, if_counted, done_items}
-use Rattle.pipeline_laws.specs.Settled.{SlowPathRequest, to_link, to_slow}
-use Rattle.pipeline_laws.specs.Counted.{place_of, is_offer}
+use Rattle.order_laws.specs.Kinds.{Kinds}
+use Rattle.order_laws.specs.Item.{Arrival, Outgoing}
+use Rattle.order_laws.specs.Rules.{Rules, Decision, Sends, Asks, Drops}
+use Rattle.order_laws.specs.Deeds.{payloads, Each, Deed, Ending, Accepted, Refused, Lacked, Counted, if_counted, done_items}
+use Rattle.order_laws.specs.Settled.{SlowPathRequest, to_link, to_slow}
+use Rattle.order_laws.specs.Counted.{place_of, is_offer}
 use Rattle.stage_laws.specs.Ends.{pushes, EndTells, IsGrown}
 
 module _ {Y : Type 0} where

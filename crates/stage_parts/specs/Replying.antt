@@ -1,7 +1,7 @@
 -- What a request came to, as the rules speak of it.
 use Rattle.std.specs.Prelude.{Result, Ok, Err}
-use Rattle.pipeline_laws.specs.Item.{Outgoing}
-use Rattle.pipeline_laws.specs.Rules.{Reply, Replies, Withholds}
+use Rattle.order_laws.specs.Item.{Outgoing}
+use Rattle.order_laws.specs.Rules.{Reply, Replies, Withholds}
 use Rattle.router_rules.specs.Rules.{kinds}
 use Rattle.stage_parts.specs.declared.request.Withheld.{Withheld}
 

@@ -1,6 +1,6 @@
 -- What a sink tells.
 use Rattle.std.specs.Prelude.{ℕ, Bool, List}
-use Rattle.pipeline_laws.specs.Item.{Outgoing}
+use Rattle.order_laws.specs.Item.{Outgoing}
 use Rattle.router_rules.specs.Rules.{kinds}
 use Rattle.router_rules.specs.declared.outgoing.Outgoing.{Outgoing as Named}
 use Rattle.stage_laws.specs.Forwards.{Handed}

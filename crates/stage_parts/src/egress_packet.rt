@@ -18,7 +18,7 @@ pub struct EgressPacket<N: Router> {
 
 impl<N: Router> Model for EgressPacket<N> {
     ghost use Rattle.std.specs.Prelude.{◌≡◌, ◌≤◌, length, take};
-    ghost use Rattle.pipeline_laws.specs.Item.{Outgoing};
+    ghost use Rattle.order_laws.specs.Item.{Outgoing};
     ghost use Rattle.router_rules.specs.Rules.{kinds};
     ghost use Rattle.stage_parts.specs.Items.{StandsIn};
 

@@ -26,7 +26,7 @@ pub struct Packet<N: Router> {
 
 impl<N: Router> Model for Packet<N> {
     ghost use Rattle.std.specs.Prelude.{◌≡◌, ◌≤◌, length, take};
-    ghost use Rattle.pipeline_laws.specs.Item.{Arrival};
+    ghost use Rattle.order_laws.specs.Item.{Arrival};
     ghost use Rattle.router_rules.specs.Rules.{kinds};
     ghost use Rattle.router_laws.specs.Heard.{arrival};
     ghost use Rattle.stage_parts.specs.Items.{StandsIn};

@@ -24,7 +24,7 @@ pub struct SlowPathRequest<N: Router> {
 
 impl<N: Router> Model for SlowPathRequest<N> {
     ghost use Rattle.packet_answer.specs.Answer.{IsAnswerable};
-    ghost use Rattle.pipeline_laws.specs.Settled.{SlowPathRequest as Request};
+    ghost use Rattle.order_laws.specs.Settled.{SlowPathRequest as Request};
     ghost use Rattle.router_rules.specs.Rules.{kinds};
     ghost use Rattle.stage_parts.specs.Items.{asking};
 

@@ -1,11 +1,11 @@
-//! The rules' links, workers and pipes, of a configuration that is made by hand.
+//! The rules' links, and what a receiver refuses by them, of a configuration that is made by hand.
 
 use crate::sample_router::{at, link};
 use cmac_core::Cmac;
 use process_packet::{Bands, Cause, Config, LONGEST_DATAGRAM};
 use router_rules::{
-    Ports, Queue, QueueIndex, Shared, Worker, WorkerIndex, has_two_bands, inspect, interface_at,
-    is_urgent, link_count, link_index, link_pipe, processor_or_fault, seat_count, slow_seat,
+    Ports, Shared, has_two_bands, inspect, interface_at, is_urgent, link_count, link_index,
+    processor_or_fault,
 };
 use segment_switch::LinkKind;
 use std::alloc::{AllocError, Global};
@@ -130,38 +130,4 @@ fn tells_what_a_receiver_refuses(rt: HostRuntime) {
     config.seed = 1;
     assert!(rt; is_inspected(&config));
     assert!(rt; is_urgent(&URGENT) && !is_urgent(&[0; 36]));
-}
-
-/// Whether a forwarder is where it has to be among the workers.
-fn is_found(config: &Config, forwarder: WorkerIndex) -> bool {
-    (forwarder, forwarder.seat(config)) == (WorkerIndex::Forwarder(2), 8)
-        && forwarder.is_there(config)
-        && !forwarder.is(WorkerIndex::Slow)
-        && forwarder.producer(config) == None
-}
-
-/// Whether a high band's pipe is where it has to be, and is fed by those that have to.
-fn is_fed(config: &Config, high: QueueIndex) -> bool {
-    high.is_there(config)
-        && high.place(config) == 9
-        && (high.consumer(), high.is_out()) == (WorkerIndex::Forwarder(1), true)
-        && WorkerIndex::Slow.feeds(high)
-        && !WorkerIndex::Forwarder(2).feeds(high)
-        && high.producers(config) == 3
-}
-
-/// Whether the other numbers are right.
-fn are_numbered(config: &Config) -> bool {
-    (slow_seat(config), seat_count(config)) == (5, 10)
-        && link_pipe(config, true, 3) == 13
-        && WorkerIndex::Slow.producer(config) == Some(1)
-        && WorkerIndex::Controller.producer(config) == Some(2)
-}
-
-#[test]
-fn finds_workers_and_pipes(rt: HostRuntime) {
-    let config = config(rt.alloc(), Bands::One).expect(&rt, "memory");
-    assert!(rt; are_numbered(&config));
-    assert!(rt; is_found(&config, WorkerIndex::named(&config, Worker::Forwarder(7))));
-    assert!(rt; is_fed(&config, QueueIndex::named(&config, Queue::High(2))));
 }

@@ -1,6 +1,6 @@
 -- Lists whose elements have a property each, taken from the front and grown at the end.
 use Rattle.std.proofs.Common.{◌≡◌, ℕ, suc, ◌+◌, List, [], ◌∷◌, ◌++◌, map, length, sym, ◌∙◌, ap, subst, arith, append_assoc, append-nil}
-use Rattle.pipeline_laws.specs.Deeds.{Each}
+use Rattle.order_laws.specs.Deeds.{Each}
 use Rattle.router_laws.specs.Returned.{AllAt}
 use Rattle.router_pipes.specs.Rest.{IsRest}
 

@@ -1,6 +1,6 @@
 -- New shares, which the workers get one by one.
 use Rattle.std.specs.Prelude.{◌≡◌, ◌+◌, ◌≤◌, ℕ, List, length}
-use Rattle.pipeline_laws.specs.Deeds.{Each}
+use Rattle.order_laws.specs.Deeds.{Each}
 use Rattle.packet_ledger.specs.Share.{Held, new_share}
 
 -- at least n new shares

@@ -1,7 +1,7 @@
 //! Workers over their devices.
 
 ghost use Rattle.std.specs.Prelude.{◌≡◌, ◌≤◌, [], length, vec_capacity};
-ghost use Rattle.pipeline_laws.specs.Deeds.{Each};
+ghost use Rattle.order_laws.specs.Deeds.{Each};
 ghost use Rattle.wired_workers.specs.Kits.{paired};
 
 use pipe_ends::Line;

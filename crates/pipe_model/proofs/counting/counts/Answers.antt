@@ -1,7 +1,7 @@
 use Rattle.std.proofs.Common.{◌≡◌, ℕ, ◌∙◌, ap, subst, take}
-use Rattle.pipeline_laws.specs.Counts.{total}
-use Rattle.pipeline_laws.specs.Pipe.{Pipe}
-use Rattle.pipeline_laws.specs.World.{World}
+use Rattle.order_laws.specs.Counts.{total}
+use Rattle.replay_laws.specs.Pipe.{Pipe}
+use Rattle.replay_laws.specs.World.{World}
 use Rattle.process_packet.specs.declared.totals.Totals.{Totals}
 use Rattle.router_rules.specs.Rules.{kinds}
 use Rattle.pipe_model.specs.Pipeline.{Pipeline}

@@ -1,7 +1,7 @@
 use Rattle.std.proofs.Common.{◌∙◌, ap}
-use Rattle.pipeline_laws.specs.Counts.{count}
-use Rattle.pipeline_laws.specs.Pipe.{Entry}
-use Rattle.pipeline_laws.specs.Totals.{is_packet}
+use Rattle.order_laws.specs.Counts.{count}
+use Rattle.replay_laws.specs.Pipe.{Entry}
+use Rattle.replay_laws.specs.Totals.{is_packet}
 use Rattle.router_rules.specs.Rules.{kinds}
 use Rattle.pipe_model.proofs.Sums.{held_count}
 use Rattle.pipe_model.proofs.counting.held_packets.Goals as goal

@@ -1,6 +1,6 @@
 use Rattle.std.proofs.Common.{arith}
-use Rattle.pipeline_laws.specs.Totals.{packets_in_hand}
-use Rattle.pipeline_laws.specs.World.{Empty}
+use Rattle.replay_laws.specs.Totals.{packets_in_hand}
+use Rattle.replay_laws.specs.World.{Empty}
 use Rattle.pipe_model.proofs.Sums.{total_more}
 use Rattle.pipe_model.proofs.counting.in_hands.Goals as goal
 

@@ -1,6 +1,6 @@
 use Rattle.std.proofs.Common.{◌≡◌, ◌≤◌, take}
-use Rattle.pipeline_laws.specs.Counts.{total}
-use Rattle.pipeline_laws.specs.Totals.{packets_in_hand}
+use Rattle.order_laws.specs.Counts.{total}
+use Rattle.replay_laws.specs.Totals.{packets_in_hand}
 use Rattle.pipe_model.proofs.counting.in_hands.Given as goal
 
 abbrev pub invariant-loop-seat : goal.invariant-loop-seat

@@ -1,7 +1,7 @@
 use Rattle.std.proofs.Common.{◌∙◌, ap, arith}
-use Rattle.pipeline_laws.specs.Counts.{count}
-use Rattle.pipeline_laws.specs.Pipe.{Pipe, held}
-use Rattle.pipeline_laws.specs.Totals.{is_packet}
+use Rattle.order_laws.specs.Counts.{count}
+use Rattle.replay_laws.specs.Pipe.{Pipe, held}
+use Rattle.replay_laws.specs.Totals.{is_packet}
 use Rattle.router_rules.specs.Rules.{kinds}
 use Rattle.pipe_model.proofs.Sums.{total_more}
 use Rattle.pipe_model.proofs.counting.in_pipes.Goals as goal

@@ -1,7 +1,7 @@
 use Rattle.std.proofs.Common.{◌≡◌, ◌≤◌, ◌*◌, ◌^◌, take}
-use Rattle.pipeline_laws.specs.Counts.{count, total}
-use Rattle.pipeline_laws.specs.Pipe.{held}
-use Rattle.pipeline_laws.specs.Totals.{is_packet}
+use Rattle.order_laws.specs.Counts.{count, total}
+use Rattle.replay_laws.specs.Pipe.{held}
+use Rattle.replay_laws.specs.Totals.{is_packet}
 use Rattle.pipe_model.proofs.counting.in_pipes.Given as goal
 
 abbrev pub invariant-loop-pipe : goal.invariant-loop-pipe

@@ -1,6 +1,6 @@
 use Rattle.std.proofs.Common.{◌∙◌, ℕ, List, [], not, get_or, ap, arith}
-use Rattle.pipeline_laws.specs.Counts.{count}
-use Rattle.pipeline_laws.specs.Item.{Outgoing}
+use Rattle.order_laws.specs.Counts.{count}
+use Rattle.order_laws.specs.Item.{Outgoing}
 use Rattle.router_rules.specs.Rules.{kinds}
 use Rattle.pipe_parts.specs.Sent.{left}
 use Rattle.router_rules.specs.declared.outgoing.Outgoing.{Outgoing as Left}

@@ -1,5 +1,5 @@
 use Rattle.std.proofs.Common.{◌≡◌, ◌≤◌, ◌*◌, ◌^◌, not, take}
-use Rattle.pipeline_laws.specs.Counts.{count, total}
+use Rattle.order_laws.specs.Counts.{count, total}
 use Rattle.pipe_model.proofs.counting.packets_sent.Given as goal
 
 abbrev pub invariant-loop-link : goal.invariant-loop-link

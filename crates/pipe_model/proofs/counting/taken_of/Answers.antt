@@ -1,5 +1,5 @@
 use Rattle.std.proofs.Common.{◌∙◌, ap, arith}
-use Rattle.pipeline_laws.specs.Pipe.{Pipe}
+use Rattle.replay_laws.specs.Pipe.{Pipe}
 use Rattle.router_rules.specs.Rules.{kinds}
 use Rattle.pipe_model.proofs.Sums.{total_more}
 use Rattle.pipe_model.proofs.counting.taken_of.Goals as goal

@@ -1,5 +1,5 @@
 use Rattle.std.proofs.Common.{◌≡◌, ◌≤◌, ◌*◌, ◌^◌, take}
-use Rattle.pipeline_laws.specs.Counts.{total}
+use Rattle.order_laws.specs.Counts.{total}
 use Rattle.pipe_model.proofs.counting.taken_of.Given as goal
 
 abbrev pub invariant-loop-pipe : goal.invariant-loop-pipe

@@ -1,10 +1,10 @@
 use Rattle.std.proofs.Common.{◌≡◌, ℕ, List, drop, sym, ap, ◌∙◌, subst}
 use Rattle.std.specs.List.{flat_map}
 use Rattle.std.specs.Prelude.{option_map}
-use Rattle.pipeline_laws.specs.Item.{is_one}
-use Rattle.pipeline_laws.specs.Pipe.{Pipe}
-use Rattle.pipeline_laws.specs.Place.{in_fates, in_hands, in_pipes, in_sent, places}
-use Rattle.pipeline_laws.specs.World.{World}
+use Rattle.order_laws.specs.Item.{is_one}
+use Rattle.replay_laws.specs.Pipe.{Pipe}
+use Rattle.replay_laws.specs.Place.{in_fates, in_hands, in_pipes, in_sent, places}
+use Rattle.replay_laws.specs.World.{World}
 use Rattle.router_rules.specs.Links.{link_count}
 use Rattle.router_rules.specs.Rules.{kinds}
 use Rattle.router_rules.specs.Rules as router

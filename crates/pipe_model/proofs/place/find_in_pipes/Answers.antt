@@ -1,7 +1,7 @@
 use Rattle.std.proofs.Common.{◌≡◌, ℕ, ◌+◌, true, false, get_or, sym, ap, ◌∙◌}
 use Rattle.std.specs.Prelude.{Option, Some, option_map}
-use Rattle.pipeline_laws.specs.Item.{is_one}
-use Rattle.pipeline_laws.specs.Place.{Place, place_at}
+use Rattle.order_laws.specs.Item.{is_one}
+use Rattle.replay_laws.specs.Place.{Place, place_at}
 use Rattle.router_rules.specs.Links.{link_count}
 use Rattle.router_rules.specs.Rules.{kinds, rules}
 use Rattle.pipe_model.specs.Finding.{has_in_pipe, is_among}

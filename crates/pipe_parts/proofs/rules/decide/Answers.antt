@@ -1,6 +1,6 @@
 use Rattle.std.proofs.Common.{◌≡◌, ℕ, List, false, sym, subst, ap, ap₂, ◌∙◌}
-use Rattle.pipeline_laws.specs.Item.{Item}
-use Rattle.pipeline_laws.specs.Next as next
+use Rattle.order_laws.specs.Item.{Item}
+use Rattle.replay_laws.specs.Next as next
 use Rattle.process_packet.specs.Decide.{decide, moved}
 use Rattle.process_packet.specs.Network.{network}
 use Rattle.process_packet.specs.declared.config.Config.{Config}

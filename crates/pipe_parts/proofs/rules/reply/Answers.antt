@@ -1,6 +1,6 @@
 use Rattle.std.proofs.Common.{◌≡◌, ◌∙◌, ℕ, List, ap, sym}
 use Rattle.packet_answer.specs.Answer.{answered}
-use Rattle.pipeline_laws.specs.Next as next
+use Rattle.replay_laws.specs.Next as next
 use Rattle.router_rules.specs.Rules.{by_outcome}
 use Rattle.scmp_answer.specs.Outcome.{Outcome, Stays, outcome_in}
 use Rattle.pipe_parts.specs.Items.{arrival_in}

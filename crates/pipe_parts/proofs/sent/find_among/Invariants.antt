@@ -1,6 +1,6 @@
 use Rattle.std.proofs.Common.{◌≡◌, drop}
-use Rattle.pipeline_laws.specs.Item.{is_one}
-use Rattle.pipeline_laws.specs.Place.{in_sent}
+use Rattle.order_laws.specs.Item.{is_one}
+use Rattle.replay_laws.specs.Place.{in_sent}
 use Rattle.pipe_parts.specs.Sent.{joined}
 use Rattle.pipe_parts.specs.Sent.{first}
 use Rattle.pipe_parts.proofs.sent.find_among.Given as goal

@@ -1,7 +1,7 @@
 use Rattle.std.proofs.Common.{◌≡◌, drop}
 use Rattle.std.specs.List.{flat_map}
-use Rattle.pipeline_laws.specs.Item.{is_one}
-use Rattle.pipeline_laws.specs.Place.{in_sent}
+use Rattle.order_laws.specs.Item.{is_one}
+use Rattle.replay_laws.specs.Place.{in_sent}
 use Rattle.pipe_parts.specs.Sent.{first}
 use Rattle.pipe_parts.proofs.sent.find_in_outboxes.Given as goal
 

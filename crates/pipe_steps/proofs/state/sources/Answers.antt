@@ -1,7 +1,7 @@
 use Rattle.std.proofs.Common.{◌≡◌, ℕ, ◌+◌, List, [], ◌∷◌, ◌++◌, length, sym, ap, ◌∙◌, arith, rules}
 use Rattle.std.proofs.lemmas.Iterator.Adapters.{YieldsList-from_vec}
 use Rattle.std.proofs.lemmas.Iterator.Consumers.{YieldsList-turn}
-use Rattle.pipeline_laws.specs.Pipe.{Pipe}
+use Rattle.replay_laws.specs.Pipe.{Pipe}
 use Rattle.router_rules.specs.Rules.{kinds}
 use Rattle.pipe_parts.specs.Arrivals.{source, sources_from}
 use Rattle.pipe_steps.proofs.SourceLemmas.{length-sources_from, sources_from_more}

@@ -1,5 +1,5 @@
 use Rattle.std.proofs.Common.{◌≡◌, length}
-use Rattle.pipeline_laws.specs.Deeds.{payloads}
+use Rattle.order_laws.specs.Deeds.{payloads}
 use Rattle.stage_laws.specs.Ends.{pushes}
 use Rattle.stage_parts.specs.Same.{IsSameEnd}
 use Rattle.router_pipes.proofs.pipes.fill_one.Given as goal

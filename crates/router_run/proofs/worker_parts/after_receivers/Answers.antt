@@ -2,7 +2,7 @@ use Rattle.std.proofs.Common.{◌≡◌, ◌+◌, ◌*◌, List, length, refl, �
 use Rattle.std.specs.Arc.{arc_value}
 use Rattle.pipe_ends.specs.Rows.{fresh_ends}
 use Rattle.ruled_pipe.specs.Producer.{Sender}
-use Rattle.pipeline_laws.specs.Item.{Outgoing}
+use Rattle.order_laws.specs.Item.{Outgoing}
 use Rattle.router_rules.specs.Rules.{kinds}
 use Rattle.pipe_ends.specs.Shutting.{AreNew}
 use Rattle.router_rules.specs.Links.{link_count}

@@ -1,7 +1,7 @@
 use Rattle.std.proofs.Common.{◌≡◌, ◌+◌, ◌-◌, ◌*◌, List, length, refl, sym, ◌∙◌, ap, subst, arith}
 use Rattle.std.specs.Arc.{arc_value}
 use Rattle.packet_ledger.specs.Share.{Held, new_share}
-use Rattle.pipeline_laws.specs.Deeds.{Each}
+use Rattle.order_laws.specs.Deeds.{Each}
 use Rattle.router_rules.specs.Links.{link_count}
 use Rattle.router_rules.specs.declared.shared.Shared.{Shared}
 use Rattle.pipe_ends.specs.Rows.{AreFor, AreWide, AreWideAs, HaveLeft}

@@ -1,6 +1,6 @@
 use Rattle.std.proofs.Common.{◌≡◌, ◌+◌, ◌*◌, ◌++◌, ◌∷◌, [], length, ℕ, List, sym, ◌∙◌, ap, arith, append_assoc, append-nil, length-append, vec_capacity}
 use Rattle.packet_ledger.specs.Share.{forwarded}
-use Rattle.pipeline_laws.specs.Item.{Outgoing}
+use Rattle.order_laws.specs.Item.{Outgoing}
 use Rattle.router_rules.specs.Rules.{kinds}
 use Rattle.router_stages.specs.Forwarding.{Forwarding}
 use Rattle.ruled_pipe.specs.Consumer.{Taker}

@@ -1,6 +1,6 @@
 use Rattle.std.proofs.Common.{◌≡◌, ◌+◌, ◌*◌, ◌++◌, ◌≤◌, length, map, vec_capacity}
 use Rattle.packet_ledger.specs.Share.{forwarded}
-use Rattle.pipeline_laws.specs.Deeds.{Each}
+use Rattle.order_laws.specs.Deeds.{Each}
 use Rattle.router_laws.specs.Keeping.{IsForwarding}
 use Rattle.stage_parts.specs.Told.{told_of}
 use Rattle.run_report.specs.Crew.{takers_of}

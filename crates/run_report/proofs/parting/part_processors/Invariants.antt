@@ -1,5 +1,5 @@
 use Rattle.std.proofs.Common.{◌≡◌, ◌+◌, ◌++◌, ◌≤◌, length, map, vec_capacity}
-use Rattle.pipeline_laws.specs.Deeds.{Each}
+use Rattle.order_laws.specs.Deeds.{Each}
 use Rattle.router_laws.specs.Keeping.{IsWorking}
 use Rattle.stage_parts.specs.Outlet.{IsMarked}
 use Rattle.stage_parts.specs.Outlets.{senders}

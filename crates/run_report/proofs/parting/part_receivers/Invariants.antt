@@ -1,5 +1,5 @@
 use Rattle.std.proofs.Common.{◌≡◌, ◌+◌, ◌++◌, ◌≤◌, length, map, true, vec_capacity}
-use Rattle.pipeline_laws.specs.Deeds.{Each}
+use Rattle.order_laws.specs.Deeds.{Each}
 use Rattle.router_laws.specs.Keeping.{IsReceiving}
 use Rattle.router_stages.specs.Receiving.{EndsQuietly}
 use Rattle.stage_parts.specs.Outlets.{senders}

@@ -1,5 +1,5 @@
 use Rattle.std.proofs.Common.{◌≡◌, ◌≤◌, length, vec_capacity}
-use Rattle.pipeline_laws.specs.Deeds.{Each}
+use Rattle.order_laws.specs.Deeds.{Each}
 use Rattle.run_report.specs.Room.{IsRoomy}
 use Rattle.run_report.proofs.space.rows_of.Given as goal
 

@@ -1,6 +1,6 @@
 use Rattle.std.proofs.Common.{◌<◌, Some, length, sym, ◌∙◌, ap, subst}
 use Rattle.std.proofs.lemmas.List.{length-map}
-use Rattle.pipeline_laws.specs.Item.{Arrival}
+use Rattle.order_laws.specs.Item.{Arrival}
 use Rattle.router_rules.specs.Links.{link_count}
 use Rattle.router_rules.specs.Rules.{kinds}
 use Rattle.router_rules.specs.declared.shared.Shared.{Shared}

@@ -6,7 +6,7 @@ use Rattle.ruled_pipe.specs.Consumer.{Taker, new_taker}
 use Rattle.router_rules.specs.Links.{link_count}
 use Rattle.router_rules.specs.declared.shared.Shared.{Shared}
 use Rattle.pipe_ends.specs.Rows.{Row, fresh_ends, new_takers}
-use Rattle.pipeline_laws.specs.Item.{Outgoing}
+use Rattle.order_laws.specs.Item.{Outgoing}
 use Rattle.router_rules.specs.Rules.{kinds}
 use Rattle.router_stages.specs.Forwarding.{Band}
 use Rattle.router_pipes.specs.Piping.{IsTakerOf, Piping}

@@ -1,7 +1,7 @@
 use Rattle.std.proofs.Common.{◌*◌, Some, length, sym, ◌∙◌, ap, subst, arith}
 use Rattle.std.proofs.lemmas.List.{length-map}
 use Rattle.pipe_ends.specs.Rows.{AreEndsOf}
-use Rattle.pipeline_laws.specs.Item.{Outgoing}
+use Rattle.order_laws.specs.Item.{Outgoing}
 use Rattle.router_rules.specs.Links.{link_count}
 use Rattle.router_rules.specs.Rules.{kinds}
 use Rattle.router_rules.specs.declared.shared.Shared.{Shared}

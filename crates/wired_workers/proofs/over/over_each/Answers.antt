@@ -1,5 +1,5 @@
 use Rattle.std.proofs.Common.{◌≡◌, List, length, sym, ◌∙◌, ap, subst, arith}
-use Rattle.pipeline_laws.specs.Deeds.{Each}
+use Rattle.order_laws.specs.Deeds.{Each}
 use Rattle.wired_workers.specs.Kits.{paired}
 use Rattle.wired_workers.proofs.Making.{paired_first, paired_last, paired_next, pushed_long}
 use Rattle.wired_workers.proofs.over.over_each.Goals as goal

@@ -1,7 +1,7 @@
 use Rattle.std.proofs.Common.{List, sym, ap, ◌∙◌, subst, arith}
 use Rattle.std.proofs.lemmas.List.{length-map}
-use Rattle.pipeline_laws.specs.Pipe.{Pipe}
-use Rattle.pipeline_laws.specs.Start.{first_world}
+use Rattle.replay_laws.specs.Pipe.{Pipe}
+use Rattle.replay_laws.specs.Start.{first_world}
 use Rattle.process_packet.specs.Neighbours.{link_id}
 use Rattle.router_rules.specs.Rules.{kinds, rules}
 use Rattle.pipe_model.specs.Headline.{IsReached}

@@ -1,6 +1,6 @@
 use Rattle.std.proofs.Common.{◌≡◌, ℕ, ◌∙◌, ap, subst}
 use Rattle.std.specs.Prelude.{option_map}
-use Rattle.pipeline_laws.specs.Place.{places}
+use Rattle.replay_laws.specs.Place.{places}
 use Rattle.router_rules.specs.Rules.{rules}
 use Rattle.pipe_model.specs.Pipeline.{Pipeline}
 use Rattle.pipe_model.specs.Shown.{place_of, stands_in}

@@ -1,5 +1,5 @@
 use Rattle.std.proofs.Common.{◌≡◌, ◌++◌, map, take, drop}
-use Rattle.pipeline_laws.specs.Run.{skipped_from}
+use Rattle.replay_laws.specs.Run.{skipped_from}
 use Rattle.pipe_model.specs.Pipeline.{ran, rules_in, skipped}
 use Rattle.pipe_steps.specs.Step.{step_in}
 use Rattle.pipe_model.proofs.world.World.run.Given as goal

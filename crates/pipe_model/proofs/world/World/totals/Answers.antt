@@ -1,6 +1,6 @@
 use Rattle.std.proofs.Common.{◌≡◌, ℕ, ◌+◌, true, sym, subst, ap, ◌∙◌}
 use Rattle.std.specs.List.{sum}
-use Rattle.pipeline_laws.specs.Totals.{answered_count, dropped_count, received_count, sent_count}
+use Rattle.replay_laws.specs.Totals.{answered_count, dropped_count, received_count, sent_count}
 use Rattle.process_packet.specs.declared.totals.Totals.{Totals}
 use Rattle.pipe_model.specs.Pipeline.{Pipeline, rules_in}
 use Rattle.pipe_model.specs.Shown.{totals_of, waiting_of}

@@ -1,5 +1,5 @@
 use Rattle.std.proofs.Common.{◌≡◌, replicate}
-use Rattle.pipeline_laws.specs.World.{Empty}
+use Rattle.replay_laws.specs.World.{Empty}
 use Rattle.pipe_parts.proofs.hands.Hands.new.Given as goal
 
 abbrev pub invariant-loop-i : goal.invariant-loop-i

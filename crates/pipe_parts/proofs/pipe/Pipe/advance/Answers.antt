@@ -1,6 +1,6 @@
 use Rattle.std.proofs.Common.{◌≡◌, true, false, sym, ap, subst, ◌∙◌, arith}
-use Rattle.pipeline_laws.specs.Item.{is_close, is_end}
-use Rattle.pipeline_laws.specs.Pipe.{Pipe, front, items}
+use Rattle.replay_laws.specs.Marks.{is_close, is_end}
+use Rattle.replay_laws.specs.Pipe.{Pipe, front, items}
 use Rattle.std.specs.Prelude.{IsSome}
 use Rattle.router_rules.specs.Rules.{kinds}
 use Rattle.pipe_parts.proofs.KeptLemmas.{shut_taken, front_within, ends_taken, ends_few}

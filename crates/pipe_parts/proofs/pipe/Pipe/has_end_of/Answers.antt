@@ -1,9 +1,9 @@
 use Rattle.std.proofs.Common.{◌∙◌, ap, List}
-use Rattle.pipeline_laws.specs.Pipe.{Pipe, has_end_of}
+use Rattle.replay_laws.specs.Pipe.{Pipe, has_end_of}
 use Rattle.router_rules.specs.Rules.{kinds}
-use Rattle.router_rules.specs.WorkerIndex.{worker_of}
+use Rattle.replay_places.specs.WorkerIndex.{worker_of}
 use Rattle.pipe_parts.specs.Ended.{has_ended}
-use Rattle.router_rules.specs.declared.worker_index.WorkerIndex.{WorkerIndex}
+use Rattle.replay_places.specs.declared.worker_index.WorkerIndex.{WorkerIndex}
 use Rattle.pipe_parts.proofs.pipe.Pipe.has_end_of.Goals as goal
 
 pub returns : goal.returns

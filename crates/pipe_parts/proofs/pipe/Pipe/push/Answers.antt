@@ -1,8 +1,8 @@
 use Rattle.std.proofs.Common.{◌≡◌, Bool, true, not, if◌then◌else◌, ◌∷◌, [], ◌++◌, refl, ap, sym, ◌∙◌, length, arith, length-append}
-use Rattle.pipeline_laws.specs.Item.{ends, has_close}
-use Rattle.pipeline_laws.specs.Pipe.{Entry}
+use Rattle.replay_laws.specs.Marks.{ends, has_close}
+use Rattle.replay_laws.specs.Pipe.{Entry}
 use Rattle.router_rules.specs.Rules.{kinds}
-use Rattle.router_rules.specs.WorkerIndex.{worker_of}
+use Rattle.replay_places.specs.WorkerIndex.{worker_of}
 use Rattle.pipe_parts.specs.Items.{item_in}
 use Rattle.pipe_parts.proofs.KeptLemmas.{ended_pushed, marked_pushed, take_pushed}
 use Rattle.pipe_parts.proofs.pipe.Pipe.push.Goals as goal

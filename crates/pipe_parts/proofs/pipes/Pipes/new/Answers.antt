@@ -1,5 +1,5 @@
 use Rattle.std.proofs.Common.{ℕ, ◌++◌, replicate, ◌∙◌, ap}
-use Rattle.pipeline_laws.specs.Pipe.{empty_pipe}
+use Rattle.replay_laws.specs.Pipe.{empty_pipe}
 use Rattle.pipe_parts.proofs.Counted.{all_made, one_more_after}
 use Rattle.pipe_parts.proofs.pipes.Pipes.new.Goals as goal
 

@@ -1,5 +1,5 @@
 use Rattle.std.proofs.Common.{◌≡◌, ◌++◌, replicate}
-use Rattle.pipeline_laws.specs.Pipe.{empty_pipe}
+use Rattle.replay_laws.specs.Pipe.{empty_pipe}
 use Rattle.pipe_parts.proofs.pipes.Pipes.new.Given as goal
 
 abbrev pub invariant-loop-i : goal.invariant-loop-i

@@ -1,5 +1,5 @@
 use Rattle.std.proofs.Common.{◌∙◌, ap, map, List}
-use Rattle.pipeline_laws.specs.Item.{Outgoing}
+use Rattle.order_laws.specs.Item.{Outgoing}
 use Rattle.router_rules.specs.Rules.{kinds}
 use Rattle.pipe_parts.specs.Sent.{left}
 use Rattle.pipe_parts.proofs.SentLemmas.{map_joined}

@@ -3,7 +3,7 @@ use Rattle.std.specs.Arc.{arc_value}
 use Rattle.flow_key.specs.Flow.{flow_at}
 use Rattle.flow_key.specs.Hash.{processor_of}
 use Rattle.packet_ledger.specs.Share.{MayRaise}
-use Rattle.pipeline_laws.specs.Item.{Arrival}
+use Rattle.order_laws.specs.Item.{Arrival}
 use Rattle.process_packet.specs.declared.cause.Cause.TheVariants as cause
 use Rattle.router_laws.specs.Heard.{arrival}
 use Rattle.router_rules.specs.Rules.{inspected, kinds}

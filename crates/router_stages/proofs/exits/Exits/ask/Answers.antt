@@ -1,5 +1,5 @@
 use Rattle.std.proofs.Common.{◌≡◌, ◌∙◌, ℕ, inr, ap, subst}
-use Rattle.pipeline_laws.specs.Settled.{SlowPathRequest}
+use Rattle.order_laws.specs.Settled.{SlowPathRequest}
 use Rattle.process_packet.specs.declared.cause.Cause.TheVariants as cause
 use Rattle.router_rules.specs.Rules.{kinds}
 use Rattle.router_stages.specs.Exits.{DroppedAs}

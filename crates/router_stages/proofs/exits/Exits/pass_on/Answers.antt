@@ -1,8 +1,8 @@
 use Rattle.std.proofs.Common.{◌≡◌, ◌<◌, ◌∙◌, ℕ, List, Option, Some, refl, ap, ap₂, sym, subst}
 use Rattle.std.specs.Arc.{arc_value}
-use Rattle.pipeline_laws.specs.Item.{Arrival, Outgoing}
-use Rattle.pipeline_laws.specs.Rules.{Decision, Sends, Asks, Drops}
-use Rattle.pipeline_laws.specs.Settled.{SlowPathRequest}
+use Rattle.order_laws.specs.Item.{Arrival, Outgoing}
+use Rattle.order_laws.specs.Rules.{Decision, Sends, Asks, Drops}
+use Rattle.order_laws.specs.Settled.{SlowPathRequest}
 use Rattle.process_packet.specs.declared.config.Config.{Config}
 use Rattle.process_packet.specs.declared.decision.Decision.{Decision as Decided}
 use Rattle.router_rules.specs.Datagram.{Parcel}

@@ -1,8 +1,8 @@
 use Rattle.std.proofs.Common.{◌≡◌, ◌<◌, ◌∙◌, ℕ, Option, Some, refl, ap, sym, subst}
 use Rattle.std.specs.Arc.{arc_value}
-use Rattle.pipeline_laws.specs.Item.{Outgoing}
-use Rattle.pipeline_laws.specs.Rules.{Reply, Replies, Withholds}
-use Rattle.pipeline_laws.specs.Settled.{SlowPathRequest}
+use Rattle.order_laws.specs.Item.{Outgoing}
+use Rattle.order_laws.specs.Rules.{Reply, Replies, Withholds}
+use Rattle.order_laws.specs.Settled.{SlowPathRequest}
 use Rattle.process_packet.specs.declared.config.Config.{Config}
 use Rattle.router_rules.specs.Datagram.{Parcel}
 use Rattle.router_rules.specs.Links.{link_count}

@@ -1,6 +1,6 @@
 use Rattle.std.proofs.Common.{Some, refl, sym, ap, subst, ◌∙◌, rules}
 use Rattle.std.specs.Arc.{arc_value}
-use Rattle.pipeline_laws.specs.Item.{Arrival}
+use Rattle.order_laws.specs.Item.{Arrival}
 use Rattle.router_rules.specs.Rules.{kinds}
 use Rattle.ruled_pipe.specs.Consumer.{Taker, took}
 use Rattle.ruled_pipe.specs.Producer.{entry}

@@ -1,6 +1,6 @@
 use Rattle.std.proofs.Common.{◌∙◌, refl, sym, ap, subst, rules}
 use Rattle.packet_ledger.specs.Share.{HasRoom}
-use Rattle.pipeline_laws.specs.Settled.{SlowPathRequest}
+use Rattle.order_laws.specs.Settled.{SlowPathRequest}
 use Rattle.router_rules.specs.Rules.{kinds}
 use Rattle.ruled_pipe.specs.Consumer.{Taker, took}
 use Rattle.ruled_pipe.specs.Producer.{entry}

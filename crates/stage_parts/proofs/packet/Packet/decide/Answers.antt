@@ -1,5 +1,5 @@
 use Rattle.std.proofs.Common.{take, ap, ◌∙◌}
-use Rattle.pipeline_laws.specs.Item.{Arrival}
+use Rattle.order_laws.specs.Item.{Arrival}
 use Rattle.process_packet.specs.Network.{network}
 use Rattle.router_rules.specs.Rules.{kinds}
 use Rattle.router_rules.proofs.AnsweredLemmas.{answered_soundly}

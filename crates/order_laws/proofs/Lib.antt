@@ -1,0 +1,10 @@
+pub mod Sums
+pub mod Bands
+pub mod Merge
+pub mod Examples
+pub mod Kept
+pub mod Stages
+pub mod Joints
+pub mod SettledOrder
+pub mod Counted
+pub mod Turns

@@ -1,0 +1,13 @@
+pub mod Kinds
+pub mod Item
+pub mod Counts
+pub mod Rules
+pub mod Pipes
+pub mod Cause
+pub mod Expected
+pub mod Departures
+pub mod Deeds
+pub mod Merge
+pub mod Settled
+pub mod Counted
+pub mod Example

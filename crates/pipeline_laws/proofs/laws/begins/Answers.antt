@@ -1,5 +1,0 @@
-use Rattle.pipeline_laws.proofs.Begins.{begins}
-use Rattle.pipeline_laws.proofs.laws.begins.Goals as goal
-
-pub returns : goal.returns
-returns g c = record { law = begins _ }

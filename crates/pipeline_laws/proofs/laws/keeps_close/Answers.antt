@@ -1,5 +1,0 @@
-use Rattle.pipeline_laws.proofs.Close.{keeps_close}
-use Rattle.pipeline_laws.proofs.laws.keeps_close.Goals as goal
-
-pub returns : goal.returns
-returns g c = record { law = keeps_close _ }

@@ -1,5 +1,0 @@
-use Rattle.pipeline_laws.proofs.Full.{keeps_full_law}
-use Rattle.pipeline_laws.proofs.laws.keeps_full.Goals as goal
-
-pub returns : goal.returns
-returns g c = record { law = keeps_full_law _ }

@@ -1,5 +1,0 @@
-use Rattle.pipeline_laws.proofs.Once.{keeps_once}
-use Rattle.pipeline_laws.proofs.laws.keeps_once.Goals as goal
-
-pub returns : goal.returns
-returns g c = record { law = keeps_once _ }

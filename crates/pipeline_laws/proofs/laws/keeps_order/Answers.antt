@@ -1,5 +1,0 @@
-use Rattle.pipeline_laws.proofs.Order.{keeps_order}
-use Rattle.pipeline_laws.proofs.laws.keeps_order.Goals as goal
-
-pub returns : goal.returns
-returns g c = record { law = keeps_order _ }

@@ -1,5 +1,0 @@
-use Rattle.pipeline_laws.proofs.ByRules.{keeps_rules}
-use Rattle.pipeline_laws.proofs.laws.keeps_rules.Goals as goal
-
-pub returns : goal.returns
-returns g c = record { law = keeps_rules _ }

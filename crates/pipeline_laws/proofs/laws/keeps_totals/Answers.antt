@@ -1,5 +1,0 @@
-use Rattle.pipeline_laws.proofs.Totals.{keeps_totals}
-use Rattle.pipeline_laws.proofs.laws.keeps_totals.Goals as goal
-
-pub returns : goal.returns
-returns g c = record { law = keeps_totals _ }

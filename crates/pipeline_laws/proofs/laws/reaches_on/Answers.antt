@@ -1,5 +1,0 @@
-use Rattle.pipeline_laws.proofs.Reach.{reaches_on}
-use Rattle.pipeline_laws.proofs.laws.reaches_on.Goals as goal
-
-pub returns : goal.returns
-returns g c = record { law = reaches_on _ }

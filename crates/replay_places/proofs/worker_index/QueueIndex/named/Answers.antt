@@ -1,0 +1,5 @@
+use Rattle.std.proofs.Common.{rules}
+use Rattle.replay_places.proofs.worker_index.QueueIndex.named.Goals as goal
+
+pub returns-in-High : goal.returns-in-High
+returns-in-High c = search rules

@@ -1,0 +1,3 @@
+pub mod Worker
+pub mod WorkerIndex
+pub mod Producers

@@ -1,5 +1,0 @@
-use Rattle.std.proofs.Common.{rules}
-use Rattle.router_rules.proofs.places.slow_seat.Goals as goal
-
-pub returns-clause-place : goal.returns-clause-place
-returns-clause-place c = search rules

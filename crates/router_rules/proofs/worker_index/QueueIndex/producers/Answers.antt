@@ -1,5 +1,0 @@
-use Rattle.std.proofs.Common.{rules}
-use Rattle.router_rules.proofs.worker_index.QueueIndex.producers.Goals as goal
-
-pub returns-in-Of-Forwarder : goal.returns-in-Of-Forwarder
-returns-in-Of-Forwarder c = search rules
