@@ -137,7 +137,8 @@ lines: bin/router
 
 .PHONY: docs-check
 
-# Runs the commands that the documents show, and compares their output; it needs python3 too.
+# Looks up the files and names that the documents give, runs the commands that they show, and compares their output; it needs
+# python3 too.
 docs-check: bin/router
 	tests/docs/check.py
 

@@ -1,17 +1,26 @@
 #!/usr/bin/env python3
-"""Runs the commands that the documents show, and compares their output with what is shown.
+"""Looks up the files and names that the documents give, then runs the commands that they show, and compares their
+output with what is shown.
 
-A command is a line of a code block that begins with `$ `; the lines after it, up to the next command or the end of the block,
-are its output. There a line `..` stands for any lines, and `..` at the end of a line for the rest of that line. A command
-without output is only run, and has to succeed.
+A file is a word in backticks that ends like one: it has to be there, as a path from the top or from any folder below it.
+A name after a crate of `crates/` and `::` has to be defined in that crate's code. In the tables of docs/STANDARDS.md a
+name after a file has to be defined in that file, one after such a name in the same crate, and any other is a row of the
+decision. In the documents of NAMED each other name of code has to be somewhere in the code.
 
-Commands run in a folder of their own, where the repository's folders are and where they may write files. What needs sockets,
-the kit or the system's rights (all but the words below, and `router run`) is left out and counted. No network is needed.
+A command is a line of a code block that begins with `$ `; the lines after it, up to the next command or the end of the
+block, are its output. There a line `..` stands for any lines, and `..` at the end of a line for the rest of that line. A
+command without output is only run, and has to succeed.
 
-Use: tests/docs/check.py [PROGRAM], where PROGRAM is bin/router if it isn't named.
+Commands run in a folder of their own, where the repository's folders are and where they may write files. What needs
+sockets, the kit or the system's rights (all but the words below, and `router run`) is left out and counted. No network
+is needed.
+
+Use: tests/docs/check.py [PROGRAM], where PROGRAM is bin/router if it isn't named; or tests/docs/check.py --names, which
+runs no command and needs no program.
 """
 
 import os
+import re
 import subprocess
 import sys
 import tempfile
@@ -19,6 +28,16 @@ import tempfile
 TOP = os.path.dirname(os.path.dirname(os.path.dirname(os.path.abspath(__file__))))
 WORDS = {"bin/router", "sed", "printf", "echo", "cat"}
 SECONDS = 60
+
+CRATES = os.path.join(TOP, "crates")
+STANDARDS = "docs/STANDARDS.md"
+# Documents whose names in backticks are names of code.
+NAMED = {"docs/PROOFS.md", "docs/ARCHITECTURE.md", "docs/DECISIONS.md", "docs/GLOSSARY.md"}
+# What ends like a source, a document or a script; or a path to a file of another kind.
+FILE = re.compile(r"(?:[\w@-]+/)*[\w@-]+\.(?:rt|antt|md|py|rs)|(?:[\w@-]+/)+[\w@-]+\.(?:sh|c|toml|txt|hex|svg|dot)")
+IN_CRATE = re.compile(r"[a-z_0-9]+(?:::\w+)+")
+NAME = re.compile(r"[A-Za-z]\w*_\w*|[A-Z][a-z]\w*")
+ROWS = ["process_packet/specs/Rows.antt", "process_packet/specs/OneHopRows.antt"]
 
 
 def documents():
@@ -115,7 +134,91 @@ def complain(where, command, shown, lines):
         print(f"  written  {line[:160]}")
 
 
+def text_of(path):
+    with open(path, encoding="utf-8") as file:
+        return file.read()
+
+
+def sources(folder, *ends):
+    """The texts of all sources below a folder of crates, but of what is built."""
+    texts = []
+    for place, folders, files in os.walk(folder):
+        folders[:] = [f for f in folders if f != "out"]
+        texts += [text_of(os.path.join(place, f)) for f in files if f.endswith(ends)]
+    return texts
+
+
+def defines(text, name):
+    """Whether a source defines the name: a definition or a field of `specs`, or an item or a field of the code."""
+    item = r"(?:pub(?:\(crate\))?|record|data|fn|struct|enum|const|static|trait|type)"
+    return re.search(rf"^ *(?:\w+ )*{item} (?:\w+ )*{name}\b", text, re.M) is not None
+
+
+def all_files():
+    """The names of all files, and their paths from the top and from each folder on the way."""
+    found = set()
+    for folder, folders, files in os.walk(TOP):
+        folders[:] = [f for f in folders if not f.startswith(".") and f not in ("out", "bin")]
+        for file in files:
+            parts = os.path.relpath(os.path.join(folder, file), TOP).split(os.sep)
+            found.update("/".join(parts[k:]) for k in range(len(parts)))
+    return found
+
+
+def is_in_crate(crate, name):
+    return any(defines(text, name) for text in sources(os.path.join(CRATES, crate, "src"), ".rt"))
+
+
+def unknown_in_cell(cell, crates):
+    """The names of a cell of docs/STANDARDS.md that aren't defined where it says."""
+    bad, files, crate = [], ROWS, None
+    for token in re.findall(r"`([^`]+)`", cell):
+        if FILE.fullmatch(token):
+            files, crate = [token], None
+        elif "::" in token:
+            crate = token.split("::")[0]
+        elif crate in crates:
+            bad += [] if is_in_crate(crate, token) else [f"{crate}::{token}"]
+        else:
+            paths = [path for path in (os.path.join(CRATES, file) for file in files) if os.path.isfile(path)]
+            bad += [] if any(defines(text_of(path), token) for path in paths) else [f"{token} in {files[0]}"]
+    return bad
+
+
+def check_names():
+    """Prints each file and name that a document gives and that isn't there, and answers how many these are."""
+    crates = [f for f in os.listdir(CRATES) if os.path.isdir(os.path.join(CRATES, f))]
+    words = set(crates).union(*(re.findall(r"\w+", text) for text in sources(CRATES, ".rt", ".antt")))
+    files = all_files()
+    looked_up, bad = 0, 0
+    for document in documents():
+        for number, line in enumerate(text_of(os.path.join(TOP, document)).split("\n"), 1):
+            unknown = []
+            for token in re.findall(r"`([^`]+)`", line):
+                if FILE.fullmatch(token):
+                    there = token in files
+                elif IN_CRATE.fullmatch(token) and token.split("::")[0] in crates:
+                    there = is_in_crate(token.split("::")[0], token.split("::")[-1])
+                elif document in NAMED and NAME.fullmatch(token):
+                    there = token in words
+                else:
+                    continue
+                looked_up += 1
+                unknown += [] if there else [token]
+            if document == STANDARDS and line.startswith("|"):
+                for cell in line.split("|"):
+                    unknown += unknown_in_cell(cell, crates)
+            for name in unknown:
+                print(f"{document}:{number}: there is no {name}")
+            bad += len(unknown)
+    print(f"{looked_up} files and names looked up, {bad} not there")
+    return bad
+
+
 def main():
+    unknown = check_names()
+    if "--names" in sys.argv[1:]:
+        sys.exit(1 if unknown else 0)
     program = os.path.abspath(sys.argv[1] if len(sys.argv) > 1 else os.path.join(TOP, "bin", "router"))
     if not os.access(program, os.X_OK):
         sys.exit(f"there is no program {program}: `make` builds it")
@@ -144,7 +247,7 @@ def main():
                         bad += 1
                         complain(f"{path}:{number}", command, shown, lines)
     print(f"{compared} commands compared, {ran} only run, {left_out} left out, {bad} wrong")
-    sys.exit(1 if bad or not compared else 0)
+    sys.exit(1 if bad or unknown or not compared else 0)
 
 
 main()
