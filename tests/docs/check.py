@@ -2,14 +2,15 @@
 """Looks up the files and names that the documents give, then runs the commands that they show, and compares their
 output with what is shown.
 
-A file is a word in backticks that ends like one: it has to be there, as a path from the top or from any folder below it.
-A name after a crate of `crates/` and `::` has to be defined in that crate's code. In the tables of docs/STANDARDS.md a
-name after a file has to be defined in that file, one after such a name in the same crate, and any other is a row of the
-decision. In the documents of NAMED each other name of code has to be somewhere in the code.
+A file is a word in backticks that ends like one: it has to be there, as a path from the top or from any folder below
+it. A name after a crate of `crates/` and `::` has to be defined in that crate's code. In the tables of EXACT a name
+after a file has to be defined in that file, where a file without a folder is beside the one before it; in those of
+docs/STANDARDS.md also a name after a crate's in that crate, and any other is a row of the decision. In the documents of
+NAMED each other name of code has to be somewhere in the code. The tables of WHOLE have to name each crate.
 
-A command is a line of a code block that begins with `$ `; the lines after it, up to the next command or the end of the
-block, are its output. There a line `..` stands for any lines, and `..` at the end of a line for the rest of that line. A
-command without output is only run, and has to succeed.
+A command is a line of a code block that begins with `$ `; the lines after it, up to the next command or the end of
+the block, are its output. There a line `..` stands for any lines, and `..` at the end of a line for the rest of that
+line. A command without output is only run, and has to succeed.
 
 Commands run in a folder of their own, where the repository's folders are and where they may write files. What needs
 sockets, the kit or the system's rights (all but the words below, and `router run`) is left out and counted. No network
@@ -31,8 +32,11 @@ SECONDS = 60
 
 CRATES = os.path.join(TOP, "crates")
 STANDARDS = "docs/STANDARDS.md"
+EXACT = {STANDARDS, "docs/PROOFS.md", "docs/PROOFS-REGISTER.md"}
 # Documents whose names in backticks are names of code.
-NAMED = {"docs/PROOFS.md", "docs/ARCHITECTURE.md", "docs/DECISIONS.md", "docs/GLOSSARY.md"}
+NAMED = {"docs/PROOFS.md", "docs/PROOFS-REGISTER.md", "docs/ARCHITECTURE.md", "docs/DECISIONS.md", "docs/GLOSSARY.md"}
+# Documents of which a table names each crate.
+WHOLE = ["docs/PROOFS-REGISTER.md", "docs/ARCHITECTURE.md"]
 # What ends like a source, a document or a script; or a path to a file of another kind.
 FILE = re.compile(r"(?:[\w@-]+/)*[\w@-]+\.(?:rt|antt|md|py|rs)|(?:[\w@-]+/)+[\w@-]+\.(?:sh|c|toml|txt|hex|svg|dot)")
 IN_CRATE = re.compile(r"[a-z_0-9]+(?:::\w+)+")
@@ -169,17 +173,25 @@ def is_in_crate(crate, name):
     return any(defines(text, name) for text in sources(os.path.join(CRATES, crate, "src"), ".rt"))
 
 
-def unknown_in_cell(cell, crates):
-    """The names of a cell of docs/STANDARDS.md that aren't defined where it says."""
-    bad, files, crate = [], ROWS, None
+def beside(file, folder, crates):
+    """The path of a file below `crates/`: it begins with its crate, or lies in the folder; else there is none."""
+    if file.split("/")[0] in crates:
+        return file
+    return f"{folder}/{file}" if folder and "/" not in file else None
+
+
+def unknown_in_cell(cell, crates, files):
+    """The names of a cell that aren't defined where it says: after a file in that one, else in these files."""
+    bad, crate, folder = [], None, None
     for token in re.findall(r"`([^`]+)`", cell):
         if FILE.fullmatch(token):
-            files, crate = [token], None
+            file, crate = beside(token, folder, crates), None
+            files, folder = ([file], os.path.dirname(file)) if file else ([], None)
         elif "::" in token:
             crate = token.split("::")[0]
-        elif crate in crates:
+        elif crate in crates and files is ROWS:
             bad += [] if is_in_crate(crate, token) else [f"{crate}::{token}"]
-        else:
+        elif files and re.fullmatch(r"\w+", token):
             paths = [path for path in (os.path.join(CRATES, file) for file in files) if os.path.isfile(path)]
             bad += [] if any(defines(text_of(path), token) for path in paths) else [f"{token} in {files[0]}"]
     return bad
@@ -205,12 +217,17 @@ def check_names():
                     continue
                 looked_up += 1
                 unknown += [] if there else [token]
-            if document == STANDARDS and line.startswith("|"):
-                for cell in line.split("|"):
-                    unknown += unknown_in_cell(cell, crates)
+            for cell in line.split("|") if document in EXACT and line.startswith("|") else []:
+                unknown += unknown_in_cell(cell, crates, ROWS if document == STANDARDS else [])
             for name in unknown:
                 print(f"{document}:{number}: there is no {name}")
             bad += len(unknown)
+    for document in WHOLE:
+        rows = [line for line in text_of(os.path.join(TOP, document)).split("\n") if line.startswith("|")]
+        named = set(re.findall(r"`(\w+)`", " ".join(rows)))
+        for crate in sorted(set(crates) - named):
+            print(f"{document}: no table names {crate}")
+            bad += 1
     print(f"{looked_up} files and names looked up, {bad} not there")
     return bad
 
