@@ -34,7 +34,10 @@ CRATES = os.path.join(TOP, "crates")
 STANDARDS = "docs/STANDARDS.md"
 EXACT = {STANDARDS, "docs/PROOFS.md", "docs/PROOFS-REGISTER.md"}
 # Documents whose names in backticks are names of code.
-NAMED = {"docs/PROOFS.md", "docs/PROOFS-REGISTER.md", "docs/ARCHITECTURE.md", "docs/DECISIONS.md", "docs/GLOSSARY.md"}
+PAGES = ["PROOFS", "PROOFS-REGISTER", "ARCHITECTURE", "DECISIONS", "GLOSSARY"]
+NAMED = {"CONTRIBUTING.md"}.union(f"docs/{page}.md" for page in PAGES)
+# Names in them that are no code's: of crates.txt, of what a check prints, and those that a recipe leaves to its reader.
+OTHER_NAMES = {"may_wait", "tests_may", "Lts", "with_NAME", "NAME_at"}
 # Documents of which a table names each crate.
 WHOLE = ["docs/PROOFS-REGISTER.md", "docs/ARCHITECTURE.md"]
 # What ends like a source, a document or a script; or a path to a file of another kind.
@@ -200,7 +203,7 @@ def unknown_in_cell(cell, crates, files):
 def check_names():
     """Prints each file and name that a document gives and that isn't there, and answers how many these are."""
     crates = [f for f in os.listdir(CRATES) if os.path.isdir(os.path.join(CRATES, f))]
-    words = set(crates).union(*(re.findall(r"\w+", text) for text in sources(CRATES, ".rt", ".antt")))
+    words = OTHER_NAMES.union(crates, *(re.findall(r"\w+", text) for text in sources(CRATES, ".rt", ".antt")))
     files = all_files()
     looked_up, bad = 0, 0
     for document in documents():
