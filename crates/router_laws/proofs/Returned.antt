@@ -257,6 +257,8 @@ module _ {T : Type 0} (shows : Handed kinds → T) (c : Config) (b : Returned T)
       record {
         workers = w;
         theirs = theirs;
+        lawful = lawful;
+        keeps = e;
         ended = ends kinds R v s went closed lawful e;
         once = stands_each kinds R v s went closed lawful e;
         reasons = reasons;

@@ -27,7 +27,7 @@ use Rattle.stage_laws.specs.Reasons.{HasReasons}
 use Rattle.stage_laws.specs.Causes.{when, was_counted, counted_in, was_sent, was_replied, was_refused, all_counts, by_cause, received_count, ruled_count, no_buffer_count, went_count, swept_count, is_received, is_sent, is_replied, is_dropped, HasCounts}
 use Rattle.router_rules.specs.Causes.{booked_as}
 use Rattle.router_laws.specs.Shares.{place_of, counts_at, times}
-use Rattle.router_laws.specs.Totals.{AreCounted, totals_of, same_cause, decided_count, HasTotals}
+use Rattle.router_laws.specs.Totals.{AreCounted, totals_of, same_cause, is_for, decided_count, HasTotals}
 use Rattle.stage_laws.proofs.Sums.{over}
 use Rattle.router_laws.proofs.Shares.{sum_at, sum_long, nothing_at, number_small}
 
@@ -245,6 +245,19 @@ place_replied (Dropped c) = ap (λ (b : Bool). cond b 1 0) (ne_eqb (2 + number_o
 times_as : (i : ℕ) (test : Count kinds → Bool) → ((k : Count kinds) → counts_at i k ≡ cond (test k) 1 0) → (ks : List (Count kinds)) → times i ks ≡ count test ks
 times_as i test same ks = total_same (counts_at i) (λ k. cond (test k) 1 0) ks same ∙ sym (count-total test ks)
 
+eq_more : (a b : ℕ) → eqb (2 + a) (2 + b) ≡ eqb a b
+eq_more a b = go (cases_eq a b)
+  where
+    go : (a ≡ b) ⊎ (a ≡ b → ⊥) → eqb (2 + a) (2 + b) ≡ eqb a b
+    go (inl e) = eq-eqb (2 + a) (2 + b) (omega arith) ∙ sym (eq-eqb a b e)
+    go (inr n) = ne_eqb (2 + a) (2 + b) (λ e. n (omega arith)) ∙ sym (ne_eqb a b n)
+
+place_for : (why : Cause) (k : Count kinds) → counts_at (2 + number_of why) k ≡ cond (is_for why k) 1 0
+place_for why Received = ap (λ (b : Bool). cond b 1 0) (ne_eqb 0 (2 + number_of why) (λ e. omega arith))
+place_for why Sent = ap (λ (b : Bool). cond b 1 0) (ne_eqb 1 (2 + number_of why) (λ e. omega arith))
+place_for why Replied = ap (λ (b : Bool). cond b 1 0) (ne_eqb 2 (2 + number_of why) (λ e. let s = (number_small why).0 in omega arith))
+place_for why (Dropped c) = ap (λ (b : Bool). cond b 1 0) (eq_more (number_of (booked_as c)) (number_of why))
+
 -- ---- reasons
 
 counted_zero : {X : Type 0} (P : Cause → Type 0) (test : Cause → Bool) (log : List (Deed Cause X)) → ((c : Cause) → P c → test c ≡ false) → Each (λ (d : Deed Cause X). if_counted d.end P) log → counted_in test log ≡ 0
@@ -349,15 +362,14 @@ module _ (c : Config) (v : Views kinds) (s : SlowViews kinds) (apart_is : Causes
         let l = off 20 (2 + n) (no_buffer_count R v) (λ e. elsewhere n 20 ruled (omega arith) (omega arith) (sym e)) in
         omega arith
       where
-        eq_more : (a b : ℕ) → eqb (2 + a) (2 + b) ≡ eqb a b
-        eq_more a b = go (cases_eq a b)
-          where
-            go : (a ≡ b) ⊎ (a ≡ b → ⊥) → eqb (2 + a) (2 + b) ≡ eqb a b
-            go (inl e) = eq-eqb (2 + a) (2 + b) (omega arith) ∙ sym (eq-eqb a b e)
-            go (inr n) = ne_eqb (2 + a) (2 + b) (λ e. n (omega arith)) ∙ sym (ne_eqb a b n)
-
         off : (i j n : ℕ) → (i ≡ j → ⊥) → when (eqb i j) n ≡ 0
         off i j n ne = ap (λ (b : Bool). cond b n 0) (ne_eqb i j ne)
+
+    dropped_by : (why : Cause) → dropped_for t why ≡ by_cause R v s went (is_for why)
+    dropped_by why =
+        let i : ℕ = 2 + number_of why in
+        dropped_at t why
+        ∙ shares_add_up shares raised counted i ∙ total_same (times i) (λ ks. count (is_for why) ks) raised (times_as i (is_for why) (place_for why)) ∙ adds (is_for why) ∙ counts.each (is_for why)
 
     dropped_sum : total (λ n. n) t.dropped ≡ total (λ ks. count is_dropped ks) raised
     dropped_sum =
@@ -387,6 +399,7 @@ module _ (c : Config) (v : Views kinds) (s : SlowViews kinds) (apart_is : Causes
       closed = let a = count_is 18 in let z = none_ruled 18 (omega arith) (omega arith) in omega arith;
       send_failed = let a = count_is 19 in let z = none_ruled 19 (omega arith) (omega arith) in omega arith;
       no_buffer = let a = count_is 20 in let z = none_ruled 20 (omega arith) (omega arith) in omega arith;
+      each = dropped_by;
       balance =
           let x = shares_add_up shares raised counted 0 ∙ total_same (times 0) (λ ks. count is_received ks) raised (times_as 0 is_received place_received) ∙ adds is_received in
           let y = shares_add_up shares raised counted 1 ∙ total_same (times 1) (λ ks. count is_sent ks) raised (times_as 1 is_sent place_sent) ∙ adds is_sent in

@@ -3,7 +3,8 @@ use Rattle.std.specs.Prelude.{◌≡◌, ◌<◌, ◌+◌, ◌*◌, ℕ, Bool, f
 use Rattle.order_laws.specs.Counts.{count}
 use Rattle.order_laws.specs.Item.{Arrival, Outgoing}
 use Rattle.order_laws.specs.Deeds.{payloads, has_mark, Each, Deed, done_items}
-use Rattle.order_laws.specs.Settled.{SlowPathRequest, told}
+use Rattle.order_laws.specs.Rules.{IsLawful}
+use Rattle.order_laws.specs.Settled.{SlowPathRequest, IsTold, told}
 use Rattle.process_packet.specs.declared.cause.Cause.{Cause}
 use Rattle.process_packet.specs.declared.config.Config.{Config}
 use Rattle.packet_ledger.specs.Share.{Held, forwarded}
@@ -18,7 +19,7 @@ use Rattle.stage_laws.specs.Receives.{KeepsReceiver, lacks}
 use Rattle.stage_laws.specs.Forwards.{Handed, refusals_of, KeepsForwarder}
 use Rattle.stage_laws.specs.Counting.{counted_receiving, counted_working, counted_answering, counted_forwarding}
 use Rattle.stage_laws.specs.Gathers.{TookAll}
-use Rattle.stage_laws.specs.Ended.{HasEnded}
+use Rattle.stage_laws.specs.Ended.{Ended, HasEnded}
 use Rattle.stage_laws.specs.Places.{StandsOnce}
 use Rattle.stage_laws.specs.Reasons.{HasReasons, HasMerged}
 use Rattle.stage_laws.specs.Workers.{Receiver, Processor, SlowPath, Forwarder, Workers, IsColumn, views_of, slow_views, went_at}
@@ -154,6 +155,9 @@ pub record AreWorkersOf {T : Type 0} (shows : Handed kinds → T) (c : Config) (
 pub record HasRun {T : Type 0} (shows : Handed kinds → T) (c : Config) (b : Returned T) (closed : ℕ → Bool) : Type 0 where
   pub workers : Workers kinds
   pub theirs : AreWorkersOf shows c workers b
+  -- what they keep, and what follows
+  pub lawful : IsLawful (rules c) (IsTold (views_of (rules c) workers))
+  pub keeps : Ended (rules c) (views_of (rules c) workers) (slow_views (rules c) workers) (went_at workers) closed
   pub ended : HasEnded (rules c) (views_of (rules c) workers) (slow_views (rules c) workers) (went_at workers) closed
   pub once : (a n : ℕ) → StandsOnce (rules c) (views_of (rules c) workers) (slow_views (rules c) workers) a n
   pub reasons : HasReasons (rules c) (views_of (rules c) workers) (slow_views (rules c) workers)

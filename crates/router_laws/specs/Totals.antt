@@ -1,5 +1,5 @@
 -- The third pass: what the book's totals are, when the workers have ended.
-use Rattle.std.specs.Prelude.{◌≡◌, ◌+◌, ◌==◌, ℕ, Bool, true, List, [], ◌∷◌}
+use Rattle.std.specs.Prelude.{◌≡◌, ◌+◌, ◌==◌, ℕ, Bool, true, false, List, [], ◌∷◌}
 use Rattle.order_laws.specs.Counts.{total}
 use Rattle.order_laws.specs.Settled.{Views}
 use Rattle.order_laws.specs.Rules.{Rules}
@@ -12,11 +12,12 @@ use Rattle.process_packet.specs.declared.config.Config.{Config}
 use Rattle.process_packet.specs.declared.totals.Totals.{Totals}
 use Rattle.packet_ledger.specs.Amounts.{count_at, plus}
 use Rattle.packet_ledger.specs.Share.{Held, posted_by, counts_of}
+use Rattle.router_rules.specs.Causes.{booked_as}
 use Rattle.router_rules.specs.Laws.{is_decided, is_withheld}
 use Rattle.router_rules.specs.Rules.{kinds, rules}
 use Rattle.stage_laws.specs.Forwards.{Handed}
-use Rattle.stage_laws.specs.Counting.{Count}
-use Rattle.stage_laws.specs.Causes.{counted_in, was_sent, was_replied, was_refused, received_count, no_buffer_count, went_count, swept_count}
+use Rattle.stage_laws.specs.Counting.{Count, Received, Sent, Replied, Dropped}
+use Rattle.stage_laws.specs.Causes.{by_cause, counted_in, was_sent, was_replied, was_refused, received_count, no_buffer_count, went_count, swept_count}
 use Rattle.router_laws.specs.Shares.{times, Counts}
 
 -- share by share
@@ -34,6 +35,13 @@ SharesAddUp = (shares : List Held) (raised : List (List (Count kinds))) → AreC
 
 abbrev pub same_cause : Cause → Cause → Bool
 same_cause a b = number_of a == number_of b
+
+-- a drop for a cause
+abbrev pub is_for : Cause → Count kinds → Bool
+is_for why Received = false
+is_for why Sent = false
+is_for why Replied = false
+is_for why (Dropped b) = same_cause (booked_as b) why
 
 -- by receivers and processors
 abbrev pub decided_count : Rules kinds → Views kinds → (Cause → Bool) → ℕ
@@ -56,5 +64,7 @@ pub record HasTotals (c : Config) (v : Views kinds) (s : SlowViews kinds) (went 
   pub closed : dropped_for t cause.Closed ≡ swept_count (rules c) v
   pub send_failed : dropped_for t cause.SendFailed ≡ went_count (rules c) went was_refused
   pub no_buffer : dropped_for t cause.NoBuffer ≡ no_buffer_count (rules c) v
+  -- whatever the cause, all that was dropped for it
+  pub each : (why : Cause) → dropped_for t why ≡ by_cause (rules c) v s went (is_for why)
   -- and these are all
   pub balance : t.received ≡ t.sent + t.answered + total (λ n. n) t.dropped

@@ -27,15 +27,15 @@ use Rattle.stage_laws.proofs.Placed.{map_offer}
 use Rattle.stage_laws.proofs.Settling.{joined, weighed}
 use Rattle.stage_laws.proofs.Reasons.{has_merged}
 
-when_zero : (b : Bool) → when b 0 ≡ 0
+pub when_zero : (b : Bool) → when b 0 ≡ 0
 when_zero true = refl
 when_zero false = refl
 
-when_add : (b : Bool) (m n : ℕ) → when b (m + n) ≡ when b m + when b n
+pub when_add : (b : Bool) (m n : ℕ) → when b (m + n) ≡ when b m + when b n
 when_add true m n = refl
 when_add false m n = refl
 
-when_sum : (b : Bool) (n : ℕ) (g : ℕ → ℕ) → sum_to n (λ k. when b (g k)) ≡ when b (sum_to n g)
+pub when_sum : (b : Bool) (n : ℕ) (g : ℕ → ℕ) → sum_to n (λ k. when b (g k)) ≡ when b (sum_to n g)
 when_sum true n g = refl
 when_sum false n g = sum_zero n
 
@@ -44,7 +44,7 @@ ones [] = refl
 ones (x ∷ xs) = let r = ones xs in omega arith
 
 -- two pipes of each link
-sum_pairs : (n : ℕ) (g : ℕ → ℕ) → sum_to (2 * n) g ≡ sum_to n (λ l. g (2 * l) + g (2 * l + 1))
+pub sum_pairs : (n : ℕ) (g : ℕ → ℕ) → sum_to (2 * n) g ≡ sum_to n (λ l. g (2 * l) + g (2 * l + 1))
 sum_pairs zero g = refl
 sum_pairs (suc n) g =
     let is : 2 * suc n ≡ suc (suc (2 * n)) = omega arith in
