@@ -55,7 +55,7 @@ module _ {X Y Z : Type 0} where
   read_other f g h same (x ∷ xs) (suc i) y at = read_other f g h same xs i y at
 
 module _ {X Y : Type 0} where
-  found_at : (f : X → Y) (xs : List X) (i : ℕ) (y : Y) → slice_get (map f xs) i ≡ Some y → (x : X) × ((slice_get xs i ≡ Some x) × (f x ≡ y))
+  pub found_at : (f : X → Y) (xs : List X) (i : ℕ) (y : Y) → slice_get (map f xs) i ≡ Some y → (x : X) × ((slice_get xs i ≡ Some x) × (f x ≡ y))
   found_at f [] i y at = absurd cc
   found_at f (x ∷ xs) zero y at = (x, (refl, cc))
   found_at f (x ∷ xs) (suc i) y at = found_at f xs i y at

@@ -36,6 +36,7 @@ use Rattle.router_run.specs.Run.{HasRun, Run}
 use Rattle.run_report.proofs.PartedLemmas.{rows_long}
 use Rattle.router_run.proofs.Came.{crews_return, map_twice}
 use Rattle.router_run.proofs.Crews.{PipesEnd}
+use Rattle.router_run.proofs.Promised.{promised}
 
 one_of : {X : Type 0} (xs : List X) → length xs ≡ 1 → (x : X) × (xs ≡ x ∷ [])
 one_of [] e = absurd (omega arith)
@@ -125,15 +126,19 @@ module _ {S G K : Type 0} where
         → IsCrew r.config r.pipes r.crew → IsBack same_source same_sink r.crew w → HasKept told shown failed w → HasSettled r.pipes w → w.slow ≡ a ∷ []
         → shares ≡ shares_in w → totals ≡ totals_of shares → sent ≡ map (λ (f : Forwarding K). forwarded f.side.share) w.forwarders → sources ≡ map (λ (x : Receiving S). x.source) w.receivers → sinks ≡ map (λ (f : Forwarding K). f.side.sink) w.forwarders
         → HasRun told shown failed same_source same_sink r totals sent sources sinks
-    has_run same_source same_sink runs r w a totals shares sent sources sinks is back kept set one same counts sends reads writes = let plain = without_devices same_source same_sink r.crew w back in record {
+    has_run same_source same_sink runs r w a totals shares sent sources sinks is back kept set one same counts sends reads writes =
+        let plain = without_devices same_source same_sink r.crew w back in
+        let ran = runs told_of r.config (back_of told shown failed w a) _ (crews_return told shown failed r.config r.pipes r.crew w a is plain kept set one) in
+        let totals_are = counts ∙ ap totals_of (same ∙ shares_same w a one) in record {
+      promises = promised told shown failed r.config w a r.crew.shutters totals sent sources sinks ran back.shutters totals_are sends reads writes;
       crew = w;
       slow = a;
       one = one;
       back = back;
       settled = set;
       asked = asked_quietly told r.crew.receivers w.receivers plain.receivers kept.quiet;
-      ran = runs told_of r.config (back_of told shown failed w a) _ (crews_return told shown failed r.config r.pipes r.crew w a is plain kept set one);
-      totals_are = counts ∙ ap totals_of (same ∙ shares_same w a one);
+      ran = ran;
+      totals_are = totals_are;
       sent_are = sends;
       sources_are = reads;
       sinks_are = writes;

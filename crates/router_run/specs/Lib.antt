@@ -1,6 +1,7 @@
 pub mod WorkerParts
 pub mod Wiring
 pub mod Back
+pub mod Promises
 pub mod Run
 pub mod Starting
 pub mod Teams

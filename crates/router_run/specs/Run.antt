@@ -16,6 +16,7 @@ use Rattle.pipe_ends.specs.Shutting.{closed_at}
 use Rattle.run_report.specs.Crew.{Crew}
 use Rattle.router_pipes.specs.Piping.{Piping}
 use Rattle.router_run.specs.Back.{IsBack, HasSettled, back_of}
+use Rattle.router_run.specs.Promises.{KeepsItsPromises}
 
 -- a run: its configuration, its pipes, the ends that filled those of free buffers, and its workers and the controller's ends as
 -- they began
@@ -39,6 +40,8 @@ module _ {S G K : Type 0} (told : S → Option (List Heard)) (shown : K → Opti
   -- Its workers came back, each the same over the same device, and ended, and what they did is what the running theorem says. The report has their totals,
   -- what each sink took, and the sources and sinks, in the order of the links.
   pub record HasRun (r : Run S G K) (totals : Totals) (sent : List ℕ) (sources : List S) (sinks : List K) : Type 0 where
+    -- to be read aloud; what follows is finer
+    pub promises : KeepsItsPromises told shown r.config (closed_at r.crew.shutters) totals sent sources sinks
     pub crew : Crew S G K
     pub slow : Answering
     pub one : crew.slow ≡ slow ∷ []

@@ -702,6 +702,37 @@ module _ (c : Config) (v : Views kinds) (s : SlowViews kinds) (went : ℕ → Li
       balance = kept.totals.balance;
     }
 
+-- the same links' pipes, by another name
+pub closed_as : (c : Config) (closed other : ℕ → Bool) → ((j : ℕ) → closed j ≡ other j) → (received : ℕ → List (Arrival kinds)) (handed : ℕ → List (Handed kinds)) (t : Totals)
+    → KeepsPromises c closed received handed t → KeepsPromises c other received handed t
+closed_as c closed other same received handed t k = record {
+  drops = k.drops;
+  order = k.order;
+  numbered = k.numbered;
+  once = k.once;
+  others = k.others;
+  reasons = each_map (λ (d : Fate kinds) h. record { packet = h.packet; there = h.there; link = h.link; number = h.number; reason = by h.packet d.cause h.reason }) k.drops k.reasons;
+  received_are = k.received_are;
+  sent_are = k.sent_are;
+  answered_are = k.answered_are;
+  dropped_are = k.dropped_are;
+  balance = k.balance;
+}
+  where
+    either : (l : ℕ) → (closed (2 * l) ≡ true) ⊎ (closed (2 * l + 1) ≡ true) → (other (2 * l) ≡ true) ⊎ (other (2 * l + 1) ≡ true)
+    either l (inl e) = inl (sym (same (2 * l)) ∙ e)
+    either l (inr e) = inr (sym (same (2 * l + 1)) ∙ e)
+
+    by : (x : Arrival kinds) (why : Cause kinds) → IsReason c closed x why → IsReason c other x why
+    by x (Cause.Ruled why) is = is
+    by x Cause.ProcessorFull is = is
+    by x Cause.LinkFull is = is
+    by x Cause.AnswerFull is = is
+    by x Cause.NoMemory is = is
+    by x Cause.Closed is = (is.0, is.1, either is.0 is.2)
+    by x Cause.SendFailed is = is
+    by x Cause.NoBuffer is = is
+
 pub promises_are_kept : {T : Type 0} → PromisesAreKept T
 promises_are_kept shows c b closed run =
     let v = views_of (rules c) run.workers in
@@ -712,4 +743,5 @@ promises_are_kept shows c b closed run =
       promises = keeps_promises c v s (went_at run.workers) closed (totals_of (shares_of b)) (record { lawful = run.lawful; ended = run.keeps; follows = run.ended; once = run.once; reasons = run.reasons; bands = run.bands; totals = run.totals });
       sources = run.sources;
       sinks = run.sinks;
+      sent = run.sent;
     }

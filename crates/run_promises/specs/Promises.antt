@@ -13,6 +13,7 @@ use Rattle.order_laws.specs.Rules.{Asks, Drops, Replies, Sends, Withholds}
 use Rattle.order_laws.specs.Settled.{AreNumbered, In}
 use Rattle.order_laws.specs.Cause.{Cause}
 use Rattle.replay_laws.specs.World.{Fate}
+use Rattle.packet_ledger.specs.Share.{forwarded}
 use Rattle.process_packet.specs.Totals.{dropped_for}
 use Rattle.process_packet.specs.declared.cause.Cause.{Cause as RouterCause}
 use Rattle.process_packet.specs.declared.config.Config.{Config}
@@ -112,6 +113,7 @@ pub record IsPromised {T : Type 0} (shows : Handed kinds → T) (c : Config) (b 
   pub promises : KeepsPromises c closed received handed (totals_of (shares_of b))
   pub sources : (a : ℕ) (r : ReceiverBack) → slice_get b.receivers a ≡ Some r → TellsOf a (interface_at c a) r.told (received a)
   pub sinks : (l : ℕ) (f : ForwarderBack T) → slice_get b.forwarders l ≡ Some f → (ts : List T) → f.told ≡ Some ts → ts ≡ map shows (handed l)
+  pub sent : (l : ℕ) (f : ForwarderBack T) → slice_get b.forwarders l ≡ Some f → forwarded f.share ≡ count (λ (h : Handed kinds). h.took) (handed l)
 
 abbrev pub PromisesAreKept : Type 0 → Type 0
 PromisesAreKept T = (shows : Handed kinds → T) (c : Config) (b : Returned T) (closed : ℕ → Bool) → HasRun shows c b closed → IsPromised shows c b closed

@@ -44,7 +44,7 @@ module _ {A B : Type 0} where
   read_is f (y ∷ xs) zero x at = ap f (some_same y x at)
   read_is f (y ∷ xs) (suc k) x at = read_is f xs k x at
 
-  map_get : (f : A → B) (xs : List A) (k : ℕ) (x : A) → slice_get xs k ≡ Some x → slice_get (map f xs) k ≡ Some (f x)
+  pub map_get : (f : A → B) (xs : List A) (k : ℕ) (x : A) → slice_get xs k ≡ Some x → slice_get (map f xs) k ≡ Some (f x)
   map_get f [] k x at = absurd cc
   map_get f (y ∷ xs) zero x at = ap Some (ap f (some_same y x at))
   map_get f (y ∷ xs) (suc k) x at = map_get f xs k x at
