@@ -4,8 +4,10 @@ pub mod Counts
 pub mod Rules
 pub mod Pipes
 pub mod Cause
+pub mod Fate
 pub mod Expected
 pub mod Departures
+pub mod Less
 pub mod Deeds
 pub mod Merge
 pub mod Settled

@@ -5,7 +5,7 @@ use Rattle.std.specs.List.{filter, sum, sum_by}
 use Rattle.std.proofs.lemmas.List.Sums.{sum-map, sum_by-cons}
 use Rattle.order_laws.specs.Counts.{count, total}
 use Rattle.order_laws.specs.Cause.{Cause}
-use Rattle.replay_laws.specs.World.{Fate}
+use Rattle.order_laws.specs.Fate.{Fate}
 use Rattle.order_laws.proofs.Sums.{total-agree, total-plus}
 use Rattle.process_packet.specs.Cause.{number_of}
 use Rattle.process_packet.specs.declared.cause.Cause.{Cause as RouterCause}

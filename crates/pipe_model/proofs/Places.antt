@@ -9,7 +9,8 @@ use Rattle.replay_laws.specs.Marks.{is_named}
 use Rattle.replay_laws.specs.Pipe.{Entry, Pipe, items}
 use Rattle.replay_laws.specs.Place.{Place, InHand, Dropped, here_if, in_fates, in_hands, in_pipe, in_pipes, in_sent, place_at, worker_at}
 use Rattle.order_laws.specs.Rules.{Rules}
-use Rattle.replay_laws.specs.World.{Fate, Hand, Empty, Got, Owes}
+use Rattle.order_laws.specs.Fate.{Fate}
+use Rattle.replay_laws.specs.World.{Hand, Empty, Got, Owes}
 use Rattle.router_rules.specs.Rules.{kinds}
 use Rattle.pipe_model.specs.Finding.{has_in_hand, has_in_pipe, is_among}
 use Rattle.pipe_parts.specs.Sent.{place_of_sent}

@@ -7,7 +7,8 @@ use Rattle.order_laws.specs.Kinds.{Kinds}
 use Rattle.order_laws.specs.Rules.{IsLawful, Rules}
 use Rattle.replay_laws.specs.Start.{HasArrival, IsLawfulFor}
 use Rattle.order_laws.specs.Cause.{Cause}
-use Rattle.replay_laws.specs.World.{Fate, World}
+use Rattle.order_laws.specs.Fate.{Fate}
+use Rattle.replay_laws.specs.World.{World}
 use Rattle.replay_laws.proofs.ByRules.{keeps_rules}
 use Rattle.replay_laws.proofs.Close.{keeps_close}
 use Rattle.replay_laws.proofs.Full.{keeps_full_law}

@@ -14,7 +14,8 @@ use Rattle.replay_laws.specs.Start.{HasArrival, Reached}
 use Rattle.replay_laws.specs.Totals.{answered_count, dropped_count, received_count, sent_count, waiting_count}
 use Rattle.order_laws.specs.Rules.{Asks, Drops, Withholds}
 use Rattle.order_laws.specs.Cause.{Cause}
-use Rattle.replay_laws.specs.World.{Fate, World}
+use Rattle.order_laws.specs.Fate.{Fate}
+use Rattle.replay_laws.specs.World.{World}
 use Rattle.process_packet.specs.declared.cause.Cause.{Cause as RouterCause}
 use Rattle.process_packet.specs.declared.config.Config.{Config}
 use Rattle.process_packet.specs.declared.decision.Problem.{Problem}

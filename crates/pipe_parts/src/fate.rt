@@ -19,7 +19,7 @@ pub struct Fate {
 }
 
 impl Model for Fate {
-    ghost use Rattle.replay_laws.specs.World.{Fate};
+    ghost use Rattle.order_laws.specs.Fate.{Fate};
     ghost use Rattle.router_rules.specs.Rules.{kinds};
     ghost use Rattle.pipe_parts.specs.Causes.{cause_in};
 
@@ -35,7 +35,7 @@ pub struct Fates {
 
 impl Model for Fates {
     ghost use Rattle.std.specs.Prelude.{List};
-    ghost use Rattle.replay_laws.specs.World.{Fate};
+    ghost use Rattle.order_laws.specs.Fate.{Fate};
     ghost use Rattle.router_rules.specs.Rules.{kinds};
 
     ghost Value = { List (Fate kinds) };

@@ -14,7 +14,8 @@ use Rattle.order_laws.specs.Rules.{Decision, Reply, Replies, Withholds, IsLawful
 use Rattle.replay_laws.specs.Start.{HasArrival, IsStart, Numbered}
 use Rattle.replay_laws.specs.Worker.{Worker}
 use Rattle.order_laws.specs.Cause.{Cause}
-use Rattle.replay_laws.specs.World.{Empty, Fate, Got, Hand, Owes, World, fate_of, hand, pipe, sent_with, with_fate, with_hand, with_looks, with_pipe}
+use Rattle.order_laws.specs.Fate.{Fate}
+use Rattle.replay_laws.specs.World.{Empty, Got, Hand, Owes, World, fate_of, hand, pipe, sent_with, with_fate, with_hand, with_looks, with_pipe}
 use Rattle.order_laws.specs.Pipes.{home}
 use Rattle.replay_laws.specs.Full.{is_received}
 use Rattle.replay_laws.proofs.Runs.{run_keeps}

@@ -9,7 +9,8 @@ use Rattle.replay_laws.specs.Marks.{is_close, is_named, has_close, before_close,
 use Rattle.order_laws.specs.Counts.{total, count}
 use Rattle.replay_laws.specs.Pipe.{Pipe, empty_pipe, front, gone, held, items, is_shut, one_taken, pushed, refused, refusal_of}
 use Rattle.order_laws.specs.Rules.{Rules, Decision, Reply, Replies, Withholds, IsLawful}
-use Rattle.replay_laws.specs.World.{World, Hand, Empty, Owes, Fate, pipe, with_pipe, with_fate, fate_of, pipe_of}
+use Rattle.order_laws.specs.Fate.{Fate}
+use Rattle.replay_laws.specs.World.{World, Hand, Empty, Owes, pipe, with_pipe, with_fate, fate_of, pipe_of}
 use Rattle.order_laws.specs.Cause.{Cause}
 use Rattle.order_laws.specs.Pipes.{home}
 use Rattle.replay_laws.specs.Step.{Step}

@@ -14,7 +14,8 @@ use Rattle.order_laws.specs.Rules.{Decision, Reply, Replies, Withholds, IsLawful
 use Rattle.replay_laws.specs.Start.{HasArrival, IsStart}
 use Rattle.replay_laws.specs.Worker.{Worker}
 use Rattle.order_laws.specs.Cause.{Cause}
-use Rattle.replay_laws.specs.World.{Empty, Fate, Hand, Owes, World, fate_of, pipe, hand, with_fate, with_hand, with_looks, with_pipe}
+use Rattle.order_laws.specs.Fate.{Fate}
+use Rattle.replay_laws.specs.World.{Empty, Hand, Owes, World, fate_of, pipe, hand, with_fate, with_hand, with_looks, with_pipe}
 use Rattle.order_laws.specs.Pipes.{home, pipe_count}
 use Rattle.replay_laws.proofs.Moves.{Move, Receives, Starves, Offers, Refuses, Takes, Looks, Works, Lacks, Marks, Sends, Fails, Sweeps, work}
 use Rattle.replay_laws.proofs.Parts.{pipe_cases, pipe_same, held_front, held_pushed}

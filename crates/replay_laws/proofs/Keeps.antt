@@ -7,7 +7,7 @@ use Rattle.std.proofs.lemmas.List.Elements.{All-push, All-get_or}
 use Rattle.std.proofs.lemmas.Option.{slice_get_within, get_or_from_slice_get}
 use Rattle.std.proofs.lemmas.Bool.{eq-eqb, ne_eqb, eqb-true, cases_Bool, cases_eq}
 use Rattle.order_laws.specs.Expected.{Departure, departure_if, only, sent_to}
-use Rattle.replay_laws.specs.Less.{is_early, less}
+use Rattle.order_laws.specs.Less.{is_early, less}
 use Rattle.order_laws.specs.Item.{Arrival, Arrived, Request, Close, End, Item, Out, Outgoing, Packet}
 use Rattle.order_laws.specs.Kinds.{Kinds}
 use Rattle.replay_laws.specs.Next.{decided, replied, Ends, Makes, Outcome, ended, full_of, hand_after, offered, received, taken_from}
@@ -16,7 +16,8 @@ use Rattle.replay_laws.specs.Pipe.{Pipe, Refusal, front, held, is_shut, items, o
 use Rattle.order_laws.specs.Rules.{Decision, Reply, Replies, Withholds, Rules}
 use Rattle.replay_laws.specs.Worker.{Worker}
 use Rattle.order_laws.specs.Cause.{Cause}
-use Rattle.replay_laws.specs.World.{Empty, Fate, Got, Hand, Owes, World, hand, pipe, seat_count, sent_with, with_fate, with_hand, with_looks, with_pipe}
+use Rattle.order_laws.specs.Fate.{Fate}
+use Rattle.replay_laws.specs.World.{Empty, Got, Hand, Owes, World, hand, pipe, seat_count, sent_with, with_fate, with_hand, with_looks, with_pipe}
 use Rattle.order_laws.specs.Pipes.{home, link_pipe, pipe_count, slow_seat}
 use Rattle.replay_laws.proofs.Moves.{Move, Receives, Starves, Offers, Refuses, Takes, Looks, Works, Lacks, Marks, Sends, Fails, Sweeps, Serves, work, is_work, is_mark}
 use Rattle.replay_laws.proofs.Parts.{hand_cases, hand_other, hand_same, pipe_cases, pipe_other, pipe_same, hand_there, pipe_there, items_pushed}

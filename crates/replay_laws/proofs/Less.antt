@@ -6,10 +6,10 @@ use Rattle.std.proofs.lemmas.List.Elements.{filter_agree}
 use Rattle.std.proofs.lemmas.List.Folds.{list_any-append}
 use Rattle.std.proofs.lemmas.Bool.{eq-eqb, ne_eqb, cases_eq}
 use Rattle.order_laws.specs.Expected.{Departure}
-use Rattle.replay_laws.specs.Less.{is_drop_of, is_dropped, is_early, less}
+use Rattle.order_laws.specs.Less.{is_drop_of, is_dropped, is_early, less}
 use Rattle.order_laws.specs.Kinds.{Kinds}
 use Rattle.order_laws.specs.Cause.{Cause}
-use Rattle.replay_laws.specs.World.{Fate}
+use Rattle.order_laws.specs.Fate.{Fate}
 use Rattle.replay_laws.proofs.Lists.{taken_out, filter-filter, filter_filter_le}
 
 module _ {K : Kinds} where

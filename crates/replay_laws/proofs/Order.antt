@@ -5,7 +5,7 @@ use Rattle.std.specs.List.{flat_map, filter, All, Contains}
 use Rattle.std.proofs.lemmas.List.Elements.{All-contains_itself, All-nil, All-cons, All-head, All-tail, All-take, filter-append}
 use Rattle.std.proofs.lemmas.Bool.{and_parts, eq-eqb, ne_eqb, cases_Bool, cases_eq, cases_lt}
 use Rattle.order_laws.specs.Expected.{Departure, Flow, departure_if, expected, has_key, is_of, only, sent_to}
-use Rattle.replay_laws.specs.Less.{less}
+use Rattle.order_laws.specs.Less.{less}
 use Rattle.order_laws.specs.Item.{Arrival, Arrived, Request, Close, End, Item, Out, Packet}
 use Rattle.order_laws.specs.Kinds.{Kinds}
 use Rattle.order_laws.proofs.Bands.{both_same, same_link, other_band}
@@ -16,7 +16,8 @@ use Rattle.order_laws.specs.Rules.{Decision, IsLawful, Rules}
 use Rattle.replay_laws.specs.Run.{run}
 use Rattle.replay_laws.specs.Start.{IsStart, Numbered, HasArrival, arrivals}
 use Rattle.replay_laws.specs.Step.{Step}
-use Rattle.replay_laws.specs.World.{Fate, World, pipe}
+use Rattle.order_laws.specs.Fate.{Fate}
+use Rattle.replay_laws.specs.World.{World, pipe}
 use Rattle.order_laws.specs.Pipes.{link_pipe, slow_seat}
 use Rattle.replay_laws.proofs.Runs.{run_keeps, keeps_arrivals}
 use Rattle.replay_laws.proofs.Parts.{All-before_close}

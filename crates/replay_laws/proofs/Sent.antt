@@ -13,7 +13,8 @@ use Rattle.replay_laws.specs.Marks.{before_close}
 use Rattle.order_laws.specs.Counts.{total}
 use Rattle.replay_laws.specs.Pipe.{Pipe, front, gone, items, passed}
 use Rattle.order_laws.specs.Rules.{Rules, Decision, Reply, Replies, Withholds, IsLawful}
-use Rattle.replay_laws.specs.World.{World, Hand, Empty, Got, Owes, Fate, hand, pipe, fate_of, sent_with, with_looks, with_hand, with_fate}
+use Rattle.order_laws.specs.Fate.{Fate}
+use Rattle.replay_laws.specs.World.{World, Hand, Empty, Got, Owes, hand, pipe, fate_of, sent_with, with_looks, with_hand, with_fate}
 use Rattle.order_laws.specs.Cause.{Cause}
 use Rattle.order_laws.specs.Pipes.{link_pipe, slow_seat}
 use Rattle.replay_laws.specs.Step.{Step}

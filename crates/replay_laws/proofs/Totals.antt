@@ -7,7 +7,8 @@ use Rattle.order_laws.specs.Item.{Item, Arrived, Outgoing}
 use Rattle.order_laws.specs.Counts.{total, count}
 use Rattle.replay_laws.specs.Pipe.{Pipe, empty_pipe, gone, held}
 use Rattle.order_laws.specs.Rules.{Rules, IsLawful}
-use Rattle.replay_laws.specs.World.{World, Hand, Empty, Got, Owes, Fate, pipe}
+use Rattle.order_laws.specs.Fate.{Fate}
+use Rattle.replay_laws.specs.World.{World, Hand, Empty, Got, Owes, pipe}
 use Rattle.replay_laws.specs.Start.{arrivals, HasArrival, IsStart, Numbered}
 use Rattle.replay_laws.specs.Totals.{is_packet, packets_in_hand, received_count, sent_count, answered_count, waiting_count, dropped_count, KeepsTotals}
 use Rattle.order_laws.proofs.Sums.{below-agree, total-agree, total-plus, total-take, total-below, count-total}

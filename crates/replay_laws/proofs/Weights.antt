@@ -17,7 +17,8 @@ use Rattle.order_laws.specs.Rules.{Decision, Reply, Replies, Withholds, IsLawful
 use Rattle.replay_laws.specs.Start.{IsStart, HasArrival}
 use Rattle.replay_laws.specs.Worker.{Worker}
 use Rattle.order_laws.specs.Cause.{Cause}
-use Rattle.replay_laws.specs.World.{Empty, Fate, Got, Hand, Owes, World, fate_of, hand, pipe, seat_count, sent_with, with_fate, with_hand, with_looks, with_pipe}
+use Rattle.order_laws.specs.Fate.{Fate}
+use Rattle.replay_laws.specs.World.{Empty, Got, Hand, Owes, World, fate_of, hand, pipe, seat_count, sent_with, with_fate, with_hand, with_looks, with_pipe}
 use Rattle.order_laws.specs.Pipes.{home, link_pipe, pipe_count}
 use Rattle.order_laws.proofs.Sums.{total-set, total-append, total-drop}
 use Rattle.replay_laws.proofs.Moves.{Move, Receives, Starves, Offers, Refuses, Takes, Looks, Works, Lacks, Marks, Sends, Fails, Sweeps, Serves, work, is_mark}

@@ -5,7 +5,8 @@ use Rattle.order_laws.specs.Kinds.{Kinds}
 use Rattle.order_laws.specs.Item.{Arrival, Outgoing, Item, Arrived, Packet, Request, Out, Close, End}
 use Rattle.replay_laws.specs.Pipe.{items}
 use Rattle.order_laws.specs.Rules.{Rules, Sends, Asks, Drops, Replies, Withholds}
-use Rattle.replay_laws.specs.World.{World, Hand, Empty, Got, Owes, Fate, hand, pipe}
+use Rattle.order_laws.specs.Fate.{Fate}
+use Rattle.replay_laws.specs.World.{World, Hand, Empty, Got, Owes, hand, pipe}
 use Rattle.order_laws.specs.Cause.{Cause}
 use Rattle.order_laws.specs.Pipes.{home}
 use Rattle.replay_laws.specs.Start.{HasArrival, Reached, IsLawfulFor}

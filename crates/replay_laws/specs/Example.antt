@@ -4,7 +4,8 @@ use Rattle.order_laws.specs.Item.{Arrived}
 use Rattle.replay_laws.specs.Worker.{Receiver, Processor, Slow, Forwarder, Controller, Of, High}
 use Rattle.replay_laws.specs.Pipe.{Entry, empty_pipe}
 use Rattle.order_laws.specs.Example.{Sample, samples, rules, plain, other_flow, expedited, expired}
-use Rattle.replay_laws.specs.World.{World, Fate, pipe}
+use Rattle.order_laws.specs.Fate.{Fate}
+use Rattle.replay_laws.specs.World.{World, pipe}
 use Rattle.order_laws.specs.Cause.{Cause}
 use Rattle.replay_laws.specs.Step.{Step}
 use Rattle.replay_laws.specs.Run.{run, skipped_from}

@@ -5,7 +5,8 @@ use Rattle.order_laws.specs.Kinds.{Kinds}
 use Rattle.order_laws.specs.Item.{Item, Arrived}
 use Rattle.replay_laws.specs.Pipe.{Refusal, held}
 use Rattle.order_laws.specs.Rules.{Rules}
-use Rattle.replay_laws.specs.World.{World, Fate, pipe, fate_of}
+use Rattle.order_laws.specs.Fate.{Fate}
+use Rattle.replay_laws.specs.World.{World, pipe, fate_of}
 use Rattle.order_laws.specs.Cause.{Cause}
 use Rattle.order_laws.specs.Pipes.{home}
 use Rattle.replay_laws.specs.Next.{full_of}

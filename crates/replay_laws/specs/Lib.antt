@@ -6,7 +6,6 @@ pub mod Step
 pub mod Next
 pub mod Run
 pub mod Start
-pub mod Less
 pub mod Order
 pub mod ByRules
 pub mod Place

@@ -10,7 +10,7 @@ use Rattle.replay_laws.specs.World.{World, pipe}
 use Rattle.order_laws.specs.Pipes.{link_pipe}
 use Rattle.replay_laws.specs.Start.{arrivals, Reached, IsLawfulFor}
 use Rattle.order_laws.specs.Expected.{Departure, Flow, expected, is_of, has_key}
-use Rattle.replay_laws.specs.Less.{less}
+use Rattle.order_laws.specs.Less.{less}
 
 module _ {K : Kinds} where
   abbrev pub IsPrefixOf : List (Departure K) → List (Departure K) → Type 0

@@ -7,7 +7,8 @@ use Rattle.replay_laws.specs.Marks.{is_named}
 use Rattle.replay_laws.specs.Worker.{Worker, Receiver, Processor, Slow, Forwarder}
 use Rattle.replay_laws.specs.Pipe.{Pipe, held}
 use Rattle.order_laws.specs.Rules.{Rules}
-use Rattle.replay_laws.specs.World.{World, Hand, Empty, Got, Owes, Fate, pipe}
+use Rattle.order_laws.specs.Fate.{Fate}
+use Rattle.replay_laws.specs.World.{World, Hand, Empty, Got, Owes, pipe}
 use Rattle.order_laws.specs.Cause.{Cause}
 use Rattle.order_laws.specs.Pipes.{slow_seat}
 use Rattle.replay_laws.specs.Start.{Reached, IsLawfulFor}

@@ -7,7 +7,8 @@ use Rattle.replay_laws.specs.Worker.{Forwarder}
 use Rattle.replay_laws.specs.Pipe.{passed}
 use Rattle.order_laws.specs.Merge.{IsMerge}
 use Rattle.order_laws.specs.Rules.{Rules}
-use Rattle.replay_laws.specs.World.{World, Hand, Got, Fate, hand, pipe, seat_of}
+use Rattle.order_laws.specs.Fate.{Fate}
+use Rattle.replay_laws.specs.World.{World, Hand, Got, hand, pipe, seat_of}
 use Rattle.order_laws.specs.Cause.{Cause}
 use Rattle.order_laws.specs.Pipes.{link_pipe}
 use Rattle.replay_laws.specs.Step.{Step}

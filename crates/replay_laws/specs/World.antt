@@ -5,6 +5,7 @@ use Rattle.order_laws.specs.Item.{Outgoing, Item, Arrived, Packet, Request, Out,
 use Rattle.replay_laws.specs.Worker.{Worker, Receiver, Processor, Slow, Forwarder, Controller, Queue, Of, High}
 use Rattle.replay_laws.specs.Pipe.{Pipe, empty_pipe}
 use Rattle.order_laws.specs.Cause.{Cause}
+use Rattle.order_laws.specs.Fate.{Fate}
 use Rattle.order_laws.specs.Pipes.{slow_seat, pipe_count, link_pipe}
 use Rattle.order_laws.specs.Rules.{Rules}
 
@@ -14,11 +15,6 @@ pub data Hand (K : Kinds) : Type 0 where
   Owes : Item K → Hand K  -- to be pushed
 
 -- A packet, or the answer to it, that ended without being sent.
-pub record Fate (K : Kinds) : Type 0 where
-  pub link : ℕ
-  pub number : ℕ
-  pub cause : Cause K
-
 pub record World (K : Kinds) : Type 0 where
   pub hands : List (Hand K)  -- of receivers, processors, the slow path, forwarders
   pub pipes : List (Pipe K)  -- arrivals of each link, processors' pipes, the slow path's, two of each link

@@ -9,7 +9,7 @@ use Rattle.order_laws.specs.Item.{Arrival, Outgoing}
 use Rattle.order_laws.specs.Rules.{Rules}
 use Rattle.order_laws.specs.Settled.{SlowPathRequest, Views}
 use Rattle.order_laws.specs.Cause.{Cause}
-use Rattle.replay_laws.specs.World.{Fate}
+use Rattle.order_laws.specs.Fate.{Fate}
 use Rattle.order_laws.proofs.Counted.{sum_below}
 use Rattle.order_laws.proofs.SettledOrder.{each_join}
 use Rattle.order_laws.proofs.Sums.{total-append}

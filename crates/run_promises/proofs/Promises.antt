@@ -6,14 +6,14 @@ use Rattle.order_laws.specs.Counts.{total, count}
 use Rattle.order_laws.specs.Counted.{sum_to, SlowViews, place_of, link_pipes}
 use Rattle.order_laws.specs.Deeds.{Ending, Accepted, Refused, Lacked, Counted, Deed, Each, if_counted, if_lacked, if_refused, lacked, refused}
 use Rattle.order_laws.specs.Expected.{Departure, Flow, departure_if, is_of, only, sent_to}
-use Rattle.replay_laws.specs.Less.{is_drop_of, is_dropped, is_early, less}
+use Rattle.order_laws.specs.Less.{is_drop_of, is_dropped, is_early, less}
 use Rattle.order_laws.specs.Item.{Arrival, Arrived, Outgoing, Out, is_one}
 use Rattle.order_laws.specs.Departures.{numbers_of}
 use Rattle.order_laws.specs.Rules.{Rules, Decision, Sends, Asks, Drops, Withholds, IsLawful}
 use Rattle.order_laws.specs.Merge.{IsMerge}
 use Rattle.order_laws.specs.Settled.{SlowPathRequest, if_so, to_processor, to_link, Views, told, IsTold, IsLinkPipe, expected_of, seen, dropped, has_number, numbers, without, HandsInOrder}
 use Rattle.order_laws.specs.Cause.{Cause}
-use Rattle.replay_laws.specs.World.{Fate}
+use Rattle.order_laws.specs.Fate.{Fate}
 use Rattle.order_laws.specs.Pipes.{home, is_high, link_pipe}
 use Rattle.order_laws.proofs.Counted.{sum_below, sum_add, sum_zero}
 use Rattle.order_laws.proofs.Kept.{numbers-append}

@@ -6,13 +6,13 @@ use Rattle.order_laws.specs.Counted.{sum_to}
 use Rattle.order_laws.specs.Counts.{count, total}
 use Rattle.order_laws.specs.Deeds.{Each}
 use Rattle.order_laws.specs.Expected.{Departure, Flow, expected, is_of}
-use Rattle.replay_laws.specs.Less.{less}
+use Rattle.order_laws.specs.Less.{less}
 use Rattle.order_laws.specs.Item.{Arrival, Arrived, Out, is_one}
 use Rattle.order_laws.specs.Departures.{numbers_of, sends_of}
 use Rattle.order_laws.specs.Rules.{Asks, Drops, Replies, Sends, Withholds}
 use Rattle.order_laws.specs.Settled.{AreNumbered, In}
 use Rattle.order_laws.specs.Cause.{Cause}
-use Rattle.replay_laws.specs.World.{Fate}
+use Rattle.order_laws.specs.Fate.{Fate}
 use Rattle.packet_ledger.specs.Share.{forwarded}
 use Rattle.process_packet.specs.Totals.{dropped_for}
 use Rattle.process_packet.specs.declared.cause.Cause.{Cause as RouterCause}

@@ -4,7 +4,7 @@ use Rattle.std.specs.List.{filter, list_any}
 use Rattle.order_laws.specs.Cause.{Cause}
 use Rattle.order_laws.specs.Expected.{Departure}
 use Rattle.order_laws.specs.Kinds.{Kinds}
-use Rattle.replay_laws.specs.World.{Fate}
+use Rattle.order_laws.specs.Fate.{Fate}
 
 module _ {K : Kinds} where
   -- causes that end a packet before a forwarder took it for sending
