@@ -1,0 +1,2 @@
+pub mod CursorLemmas
+pub mod WalkLemmas

@@ -1,0 +1,7 @@
+//! Path authorisation against an attacker: the laws of any datagram, whoever made it, on its way through a net of border
+//! routers. Nothing here runs.
+#![tactic(auto)]
+
+mod laws;
+
+pub use laws::links_are_few;
