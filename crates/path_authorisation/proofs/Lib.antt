@@ -1,2 +1,5 @@
 pub mod CursorLemmas
 pub mod WalkLemmas
+pub mod NextLemmas
+pub mod ExitLemmas
+pub mod WayLemmas

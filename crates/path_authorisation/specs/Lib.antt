@@ -1,2 +1,3 @@
 pub mod Sendings
 pub mod Links
+pub mod Ways

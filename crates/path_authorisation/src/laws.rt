@@ -1,8 +1,16 @@
 //! The laws; nothing here runs.
 
 ghost use Rattle.path_authorisation.specs.Links.{LinksAreFew};
+ghost use Rattle.path_authorisation.specs.Ways.{WalksAreValleyFree};
 
 /// Whatever the net and whoever made it, a packet crosses at most 63 links.
 pub fn links_are_few()
     ensures { LinksAreFew }
+{}
+
+/// In a net that agrees a packet goes up to parents, then over the core, then down to children, whoever made it: never
+/// up again once it went over the core or down, and never over the core once it went down. At each AS the link by which
+/// it comes and the one by which it leaves are a lawful pair, also where two routers have them.
+pub fn walks_are_valley_free()
+    ensures { WalksAreValleyFree }
 {}
