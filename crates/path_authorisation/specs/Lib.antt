@@ -1,3 +1,5 @@
 pub mod Sendings
 pub mod Links
 pub mod Ways
+pub mod Beaconed
+pub mod Chained

@@ -1,5 +1,6 @@
 //! The laws; nothing here runs.
 
+ghost use Rattle.path_authorisation.specs.Chained.{WalksGoAsBeaconed};
 ghost use Rattle.path_authorisation.specs.Links.{LinksAreFew};
 ghost use Rattle.path_authorisation.specs.Ways.{WalksAreValleyFree};
 
@@ -13,4 +14,11 @@ pub fn links_are_few()
 /// it comes and the one by which it leaves are a lawful pair, also where two routers have them.
 pub fn walks_are_valley_free()
     ensures { WalksAreValleyFree }
+{}
+
+/// If no MAC is forged, each hop field at which a packet comes over a link on its segment was chained, in beaconing, to
+/// the one by which it left the AS before; and if no identifiers collide, both stand one after the other in one segment
+/// that was beaconed.
+pub fn walks_go_as_beaconed()
+    ensures { WalksGoAsBeaconed }
 {}

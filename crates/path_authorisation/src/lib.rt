@@ -4,4 +4,4 @@
 
 mod laws;
 
-pub use laws::{links_are_few, walks_are_valley_free};
+pub use laws::{links_are_few, walks_are_valley_free, walks_go_as_beaconed};
