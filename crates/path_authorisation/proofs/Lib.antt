@@ -6,3 +6,4 @@ pub mod WayLemmas
 pub mod AcceptedLemmas
 pub mod MacLemmas
 pub mod ChainLemmas
+pub mod StretchLemmas

@@ -3,3 +3,4 @@ pub mod Links
 pub mod Ways
 pub mod Beaconed
 pub mod Chained
+pub mod Stretches

@@ -2,6 +2,7 @@
 
 ghost use Rattle.path_authorisation.specs.Chained.{WalksGoAsBeaconed};
 ghost use Rattle.path_authorisation.specs.Links.{LinksAreFew};
+ghost use Rattle.path_authorisation.specs.Stretches.{SegmentsAreBeaconed};
 ghost use Rattle.path_authorisation.specs.Ways.{WalksAreValleyFree};
 
 /// Whatever the net and whoever made it, a packet crosses at most 63 links.
@@ -21,4 +22,10 @@ pub fn walks_are_valley_free()
 /// that was beaconed.
 pub fn walks_go_as_beaconed()
     ensures { WalksGoAsBeaconed }
+{}
+
+/// If no MAC is forged and no identifiers collide, all hop fields at which a packet comes on one segment of its path,
+/// from the one by which it left an AS on, are entries of one beaconed segment, in its order.
+pub fn segments_are_beaconed()
+    ensures { SegmentsAreBeaconed }
 {}
