@@ -7,3 +7,4 @@ pub mod AcceptedLemmas
 pub mod MacLemmas
 pub mod ChainLemmas
 pub mod StretchLemmas
+pub mod DeliveredLemmas

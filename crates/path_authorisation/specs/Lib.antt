@@ -4,3 +4,4 @@ pub mod Ways
 pub mod Beaconed
 pub mod Chained
 pub mod Stretches
+pub mod Delivered

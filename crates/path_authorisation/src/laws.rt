@@ -1,6 +1,7 @@
 //! The laws; nothing here runs.
 
 ghost use Rattle.path_authorisation.specs.Chained.{WalksGoAsBeaconed};
+ghost use Rattle.path_authorisation.specs.Delivered.{DeliveriesAreAuthorised};
 ghost use Rattle.path_authorisation.specs.Links.{LinksAreFew};
 ghost use Rattle.path_authorisation.specs.Stretches.{SegmentsAreBeaconed};
 ghost use Rattle.path_authorisation.specs.Ways.{WalksAreValleyFree};
@@ -28,4 +29,10 @@ pub fn walks_go_as_beaconed()
 /// from the one by which it left an AS on, are entries of one beaconed segment, in its order.
 pub fn segments_are_beaconed()
     ensures { SegmentsAreBeaconed }
+{}
+
+/// If no MAC is forged, a packet from outside that is delivered came by a link for which this AS made its last hop
+/// field.
+pub fn deliveries_are_authorised()
+    ensures { DeliveriesAreAuthorised }
 {}
