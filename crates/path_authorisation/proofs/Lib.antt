@@ -8,3 +8,4 @@ pub mod MacLemmas
 pub mod ChainLemmas
 pub mod StretchLemmas
 pub mod DeliveredLemmas
+pub mod ExampleLemmas

@@ -5,3 +5,4 @@ pub mod Beaconed
 pub mod Chained
 pub mod Stretches
 pub mod Delivered
+pub mod Example

@@ -2,6 +2,7 @@
 
 ghost use Rattle.path_authorisation.specs.Chained.{WalksGoAsBeaconed};
 ghost use Rattle.path_authorisation.specs.Delivered.{DeliveriesAreAuthorised};
+ghost use Rattle.path_authorisation.specs.Example.{PremiseIsMet};
 ghost use Rattle.path_authorisation.specs.Links.{LinksAreFew};
 ghost use Rattle.path_authorisation.specs.Stretches.{SegmentsAreBeaconed};
 ghost use Rattle.path_authorisation.specs.Ways.{WalksAreValleyFree};
@@ -35,4 +36,10 @@ pub fn segments_are_beaconed()
 /// field.
 pub fn deliveries_are_authorised()
     ensures { DeliveriesAreAuthorised }
+{}
+
+/// The premise can be met: in a net of five routers a packet goes over two beaconed segments, sent on at each of four
+/// stops, with no MAC forged and no identifiers that collide; and with one byte of a MAC changed it isn't sent.
+pub fn premise_is_met()
+    ensures { PremiseIsMet }
 {}
