@@ -9,3 +9,4 @@ pub mod ChainLemmas
 pub mod StretchLemmas
 pub mod DeliveredLemmas
 pub mod ExampleLemmas
+pub mod OneHopLemmas

@@ -6,3 +6,4 @@ pub mod Chained
 pub mod Stretches
 pub mod Delivered
 pub mod Example
+pub mod OneHops

@@ -4,6 +4,7 @@ ghost use Rattle.path_authorisation.specs.Chained.{WalksGoAsBeaconed};
 ghost use Rattle.path_authorisation.specs.Delivered.{DeliveriesAreAuthorised};
 ghost use Rattle.path_authorisation.specs.Example.{PremiseIsMet};
 ghost use Rattle.path_authorisation.specs.Links.{LinksAreFew};
+ghost use Rattle.path_authorisation.specs.OneHops.{OneHopsCrossOneLink};
 ghost use Rattle.path_authorisation.specs.Stretches.{SegmentsAreBeaconed};
 ghost use Rattle.path_authorisation.specs.Ways.{WalksAreValleyFree};
 
@@ -36,6 +37,12 @@ pub fn segments_are_beaconed()
 /// field.
 pub fn deliveries_are_authorised()
     ensures { DeliveriesAreAuthorised }
+{}
+
+/// A packet on a path of one hop crosses one link: from inside it leaves by one with its AS's MAC for that link, and
+/// what comes by a link goes to a host or service of the AS, if it is sent at all.
+pub fn one_hops_cross_one_link()
+    ensures { OneHopsCrossOneLink }
 {}
 
 /// The premise can be met: in a net of five routers a packet goes over two beaconed segments, sent on at each of four
