@@ -10,3 +10,4 @@ pub mod StretchLemmas
 pub mod DeliveredLemmas
 pub mod ExampleLemmas
 pub mod OneHopLemmas
+pub mod AnswerLemmas

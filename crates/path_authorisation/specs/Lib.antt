@@ -7,3 +7,4 @@ pub mod Stretches
 pub mod Delivered
 pub mod Example
 pub mod OneHops
+pub mod Answers

@@ -1,5 +1,6 @@
 //! The laws; nothing here runs.
 
+ghost use Rattle.path_authorisation.specs.Answers.{AnswersGoBack};
 ghost use Rattle.path_authorisation.specs.Chained.{WalksGoAsBeaconed};
 ghost use Rattle.path_authorisation.specs.Delivered.{DeliveriesAreAuthorised};
 ghost use Rattle.path_authorisation.specs.Example.{PremiseIsMet};
@@ -43,6 +44,13 @@ pub fn deliveries_are_authorised()
 /// what comes by a link goes to a host or service of the AS, if it is sent at all.
 pub fn one_hops_cross_one_link()
     ensures { OneHopsCrossOneLink }
+{}
+
+/// What a datagram makes a router answer goes back by the link by which it came, or within the AS to the underlay
+/// address from which it came. An SCMP message goes to the source that it claims and tells the problem with it, BFD to
+/// the neighbour that the configuration names.
+pub fn answers_go_back()
+    ensures { AnswersGoBack }
 {}
 
 /// The premise can be met: in a net of five routers a packet goes over two beaconed segments, sent on at each of four

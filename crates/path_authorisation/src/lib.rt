@@ -5,6 +5,6 @@
 mod laws;
 
 pub use laws::{
-    deliveries_are_authorised, links_are_few, one_hops_cross_one_link, premise_is_met,
-    segments_are_beaconed, walks_are_valley_free, walks_go_as_beaconed,
+    answers_go_back, deliveries_are_authorised, links_are_few, one_hops_cross_one_link,
+    premise_is_met, segments_are_beaconed, walks_are_valley_free, walks_go_as_beaconed,
 };
