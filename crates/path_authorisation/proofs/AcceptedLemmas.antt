@@ -1,6 +1,6 @@
 -- The hop fields that a router accepts: where a packet comes and where it leaves they carry their MACs, and over a link they follow one
 -- another.
-use Rattle.std.proofs.Common.{◌≡◌, ◌≢◌, ◌⊎◌, ◌+◌, ◌&&◌, not, ℕ, Bool, true, false, List, Option, Some, None, refl, sym, ap, ap₂, subst, ◌∙◌, inl, inr, if◌then◌else◌}
+use Rattle.std.proofs.Common.{◌≡◌, ◌⊎◌, ◌+◌, ◌&&◌, not, ℕ, Bool, true, false, List, Option, Some, None, refl, sym, ap, subst, ◌∙◌, inl, inr, if◌then◌else◌}
 use Rattle.scion_packet.specs.Packet.{Packet, packet_of}
 use Rattle.scion_packet.specs.Path.{Place, place_at}
 use Rattle.process_packet.specs.declared.decision.Decision.TheVariants as decision
@@ -10,15 +10,15 @@ use Rattle.process_packet.specs.Conditions.{CarriesMac}
 use Rattle.process_packet.specs.Decide.{decide}
 use Rattle.process_packet.specs.Laws.{LeftLawfully, changes}
 use Rattle.process_packet.specs.Network.{Network, is_local}
-use Rattle.process_packet.specs.PacketState.{PacketState, arrives, changed_over, hop, info, is_authentic, is_external, is_followed, is_last_of_segment, next_segment, past_switch}
-use Rattle.process_packet.specs.Shown.{StandsToLeave, turned}
+use Rattle.process_packet.specs.PacketState.{PacketState, arrives, changed_over, hop, info, is_authentic, is_followed, is_last_of_segment, next_segment, past_switch}
+use Rattle.process_packet.specs.Shown.{StandsToLeave}
 use Rattle.process_packet.proofs.ChainingLemmas.{not_spliced}
 use Rattle.process_packet.proofs.ConditionLemmas.{authentic_here, carries_mac, is_here, refuted}
 use Rattle.process_packet.proofs.LawLemmas.{left_lawfully, told}
 use Rattle.process_packet.proofs.RowsPassed.{turned_is}
 use Rattle.process_packet.proofs.TurningLemmas.{turned_stays}
 use Rattle.walk_laws.specs.Configured.{AreNumbered}
-use Rattle.walk_laws.specs.Net.{Agrees, AreOfOneAS, Net}
+use Rattle.walk_laws.specs.Net.{Agrees, Net}
 use Rattle.path_authorisation.specs.Sendings.{ComesFrom, IsOnLongPath, IsSending, Sending, arrival, at_entry, at_exit, left}
 use Rattle.path_authorisation.proofs.NextLemmas.{IsOverWire, IsWithin, over_wire, within}
 use Rattle.path_authorisation.proofs.WayLemmas.{authorised, elsewhere, next_packet, sent_by_link, state, whole}

@@ -1,5 +1,5 @@
 -- Answers go back by the way that the datagram came.
-use Rattle.std.proofs.Common.{◌≡◌, ◌≢◌, ◌⊎◌, ◌==◌, ℕ, Bool, true, false, List, slice_index, drop, Option, Some, None, refl, sym, ap, ◌∙◌, if◌then◌else◌, inl, inr}
+use Rattle.std.proofs.Common.{◌≡◌, ◌≢◌, ◌⊎◌, ◌==◌, ℕ, Bool, true, false, List, slice_index, drop, Option, None, sym, ap, ◌∙◌, if◌then◌else◌, inl, inr}
 use Rattle.std.proofs.lemmas.Bool.{cases_Bool, cases_eq, eq-eqb, eqb-true, ne_eqb}
 use Rattle.bfd_answer.specs.Answer as bfd
 use Rattle.bfd_answer.proofs.CrossingLemmas as crossing
@@ -22,7 +22,7 @@ use Rattle.process_packet.proofs.KindLemmas.{decided_as_scion}
 use Rattle.process_packet.proofs.PassingLemmas.{both_true}
 use Rattle.process_packet.proofs.ProblemLemmas.{problems_lawful}
 use Rattle.packet_answer.specs.Answer.{answered, bfd_outcome}
-use Rattle.scmp_answer.specs.Outcome.{Leaves, Outcome, outcome}
+use Rattle.scmp_answer.specs.Outcome.{Leaves, outcome}
 use Rattle.scmp_answer.specs.Reply as answers
 use Rattle.scmp_answer.specs.Reply.{Reply, local_address, reply}
 use Rattle.scmp_answer.proofs.TellingLemmas.{answers_tell}

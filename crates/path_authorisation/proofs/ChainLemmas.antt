@@ -1,24 +1,25 @@
 -- A hop field that follows another one over a link was made after it, or before it.
-use Rattle.std.proofs.Common.{◌≡◌, ℕ, suc, true, false, List, ◌∷◌, slice_get, Some, None, refl, sym, ap, ◌∙◌}
+use Rattle.std.proofs.Common.{◌≡◌, ℕ, suc, true, false, List, ◌∷◌, slice_get, Some, None, sym, ap, ◌∙◌, arith}
+use Rattle.std.proofs.lemmas.Bool.{ne_eqb}
 use Rattle.scion_packet.specs.Path.{InfoField}
 use Rattle.process_packet.specs.Chaining.{FollowsOn}
-use Rattle.process_packet.specs.PacketState.{PacketState, hop, info, is_along, is_last_of_segment}
+use Rattle.process_packet.specs.PacketState.{PacketState, hop, info, is_along}
 use Rattle.walk_laws.specs.Configured.{AreNumbered}
 use Rattle.walk_laws.specs.Net.{Agrees, Net, Router}
 use Rattle.walk_laws.specs.PathSegments.{PathSegment}
 use Rattle.path_authorisation.specs.Beaconed.{AreAllBeaconed, IsAfter, IsMade, LooksAt, NoIdentifierCollides, NoMacIsForged}
 use Rattle.path_authorisation.specs.Chained.{AreChained, AreConsecutive, WalksGoAsBeaconed}
-use Rattle.path_authorisation.specs.Sendings.{IsOnLongPath, IsSending, IsWalk, Sending, at_entry, at_exit}
+use Rattle.path_authorisation.specs.Sendings.{IsOnItsWay, IsOnLongPath, IsSending, IsWalk, Sending, at_entry, at_exit}
 use Rattle.path_authorisation.proofs.AcceptedLemmas.{carries_entry, carries_exit, follows_on}
 use Rattle.path_authorisation.proofs.MacLemmas.{chains_to, is_before, is_next}
-use Rattle.path_authorisation.proofs.WalkLemmas.{long_at, long_next}
+use Rattle.path_authorisation.proofs.WalkLemmas.{long_at}
 
 module _ (net : Net) (set : List PathSegment) (agrees : Agrees net) (numbered : AreNumbered net) (beaconed : AreAllBeaconed net set) (first : Sending) (rest : List Sending)
     (is : IsWalk net (first ∷ rest)) (long : IsOnLongPath first) (unforged : NoMacIsForged set (first ∷ rest)) where
   abbrev walk : List Sending
   walk = first ∷ rest
 
-  module _ (i : ℕ) (s t : Sending) (at_s : slice_get walk i ≡ Some s) (at_t : slice_get walk (suc i) ≡ Some t) (none : s.to ≡ None) (more : is_last_of_segment (at_exit s) ≡ false) where
+  module _ (i : ℕ) (s t : Sending) (at_s : slice_get walk i ≡ Some s) (at_t : slice_get walk (suc i) ≡ Some t) (none : s.to ≡ None) (more : IsOnItsWay (at_exit s)) where
     here : IsSending net s
     here = is.sent i s at_s
 
@@ -32,7 +33,7 @@ module _ (net : Net) (set : List PathSegment) (agrees : Agrees net) (numbered : 
     next_long = long_at net first rest is long (suc i) t at_t
 
     follows : FollowsOn (at_exit s) (at_entry t)
-    follows = follows_on net agrees numbered s t here next here_long (is.next i s t at_s at_t) none more
+    follows = follows_on net agrees numbered s t here next here_long (is.next i s t at_s at_t) none (ne_eqb _ _ (λ last. absurd (omega arith)))
 
     exit_made : IsMade set s.here (info (at_exit s)) (hop (at_exit s))
     exit_made = unforged i s (at_exit s) at_s LooksAt.where_it_leaves (carries_exit net s here here_long)

@@ -1,5 +1,5 @@
 -- How far the cursor of a packet moves: each link that it crosses takes it to a later hop.
-use Rattle.std.proofs.Common.{◌≡◌, ◌≤◌, ◌<◌, ◌+◌, ◌&&◌, not, ℕ, Bool, true, false, List, length, Option, Some, None, refl, sym, ap, ◌∙◌, arith, if◌then◌else◌}
+use Rattle.std.proofs.Common.{◌≡◌, ◌≤◌, ◌<◌, ◌+◌, ◌&&◌, not, ℕ, Bool, true, false, List, length, Option, Some, None, refl, ap, arith, if◌then◌else◌}
 use Rattle.std.proofs.lemmas.Bool.{eqb-true}
 use Rattle.std.proofs.lemmas.Bool.Decides.{Decides-ltb}
 use Rattle.std.proofs.lemmas.List.Sums.{sum_by_more}
@@ -18,8 +18,7 @@ use Rattle.process_packet.specs.declared.underlay.Underlay.{Underlay}
 use Rattle.process_packet.specs.Decide.{scion_decide, scion_moved, verdict}
 use Rattle.process_packet.specs.Laws.{IsAuthorised}
 use Rattle.process_packet.specs.Network.{Network}
-use Rattle.process_packet.specs.PacketState.{PacketState, arrives, chained_id, is_along, is_external, next_segment, packet}
-use Rattle.process_packet.specs.PacketView.{with_id}
+use Rattle.process_packet.specs.PacketState.{PacketState, arrives, chained_id, is_along, is_external, next_segment}
 use Rattle.process_packet.specs.Shown.{StandsToLeave, sent_along, turned}
 use Rattle.process_packet.specs.Ways.{IsSentBy}
 use Rattle.process_packet.specs.WhatLeaves.{LeavesWhole}

@@ -1,17 +1,17 @@
 -- A delivery from outside is authorised.
-use Rattle.std.proofs.Common.{◌≡◌, ◌≢◌, ◌&&◌, not, Bool, true, List, [], ◌∷◌, refl, sym, ap, ap₂, ◌∙◌, if◌then◌else◌}
+use Rattle.std.proofs.Common.{◌≡◌, ◌&&◌, not, Bool, true, refl, sym, ap, ap₂, ◌∙◌, if◌then◌else◌}
 use Rattle.std.proofs.lemmas.Bool.{ne_eqb}
 use Rattle.scion_packet.specs.Packet.{packet_of}
 use Rattle.scion_packet.specs.Path.{HopField}
 use Rattle.process_packet.specs.Laws.{IsAuthorised}
-use Rattle.process_packet.specs.PacketState.{PacketState, arrives, hop, info, ingress, is_along}
+use Rattle.process_packet.specs.PacketState.{PacketState, hop, info, ingress}
 use Rattle.process_packet.specs.Shown.{is_for_us}
 use Rattle.process_packet.proofs.ConditionLemmas.{ingress_alone, is_here}
 use Rattle.process_packet.proofs.DeliveredLemmas.{to_its_host}
 use Rattle.process_packet.proofs.TurningLemmas.{turned_along, turned_hop}
 use Rattle.path_authorisation.specs.Beaconed.{IsMade, LooksAt}
 use Rattle.path_authorisation.specs.Delivered.{DeliveriesAreAuthorised}
-use Rattle.path_authorisation.specs.Sendings.{Sending, at_entry}
+use Rattle.path_authorisation.specs.Sendings.{at_entry}
 use Rattle.path_authorisation.proofs.AcceptedLemmas.{carries_entry}
 use Rattle.path_authorisation.proofs.WayLemmas.{authorised, state, whole}
 

@@ -1,5 +1,5 @@
 -- The example's sendings are a walk, and no MAC of theirs is forged.
-use Rattle.std.proofs.Common.{◌≡◌, ◌≢◌, ◌⊎◌, ◌<◌, ℕ, zero, suc, Bool, true, false, List, [], ◌∷◌, length, nat_lt, slice_get, slice_index_or, Contains, Some, None, refl, sym, ap, subst, ◌∙◌, arith, inl, inr}
+use Rattle.std.proofs.Common.{◌≡◌, ◌≢◌, ◌⊎◌, ◌<◌, ℕ, zero, suc, true, List, [], ◌∷◌, length, nat_lt, slice_get, slice_index_or, Contains, Some, None, refl, sym, ap, subst, ◌∙◌, arith, inl, inr}
 use Rattle.std.specs.List.{list_all}
 use Rattle.std.proofs.lemmas.Bool.Decides.{Decides-ltb}
 use Rattle.std.proofs.lemmas.Option.{same_Some}
@@ -23,13 +23,13 @@ use Rattle.walk_laws.specs.Configured.{AreNumbered}
 use Rattle.walk_laws.specs.Example.{address, link_to}
 use Rattle.walk_laws.specs.Examples.{moment}
 use Rattle.walk_laws.specs.ExampleTurn.{descent, down, family, neighbour, one_child, other_child, over, parent, second_parent}
-use Rattle.walk_laws.specs.Net.{Router, router_at}
+use Rattle.walk_laws.specs.Net.{Router}
 use Rattle.walk_laws.specs.PathSegments.{IsBeaconed, PathSegment}
 use Rattle.walk_laws.specs.Stop.{IsCarried}
 use Rattle.walk_laws.proofs.ExampleDescent.{agrees, descent_is}
-use Rattle.path_authorisation.specs.Beaconed.{AreAllBeaconed, IsAfter, IsEntry, IsMade, LooksAt, NoIdentifierCollides, NoMacIsForged, identifier_at}
+use Rattle.path_authorisation.specs.Beaconed.{AreAllBeaconed, IsAfter, IsMade, LooksAt, NoIdentifierCollides, identifier_at}
 use Rattle.path_authorisation.specs.Example.{PremiseIsMet, datagram, first_sending, from_host, last_sending, later_sendings, second_sending, third_sending}
-use Rattle.path_authorisation.specs.Sendings.{ComesFrom, IsSending, IsWalk, Sending, at_entry, at_exit, left}
+use Rattle.path_authorisation.specs.Sendings.{ComesFrom, IsSending, Sending, at_entry, at_exit, left}
 
 -- ---- what each router does
 

@@ -1,16 +1,15 @@
 -- How a router sends a packet on: the hop by which it leaves, and what this one says of the links.
-use Rattle.std.proofs.Common.{◌≡◌, ◌≢◌, ℕ, Bool, true, false, List, Option, Some, None, refl, sym, ap, ap₂, subst, ◌∙◌, is_some}
+use Rattle.std.proofs.Common.{◌≡◌, ℕ, Bool, true, false, Option, Some, None, refl, sym, ap, ap₂, ◌∙◌, is_some}
 use Rattle.segment_switch.specs.declared.kind.LinkKind.{LinkKind}
 use Rattle.scion_packet.specs.Packet.{Packet}
-use Rattle.scion_packet.specs.Path.{HopField, InfoField}
-use Rattle.scion_packet.specs.Places.{hop_there, info_there}
+use Rattle.scion_packet.specs.Path.{HopField}
 use Rattle.process_packet.specs.declared.neighbours.Link.{Link}
 use Rattle.process_packet.specs.declared.neighbours.Sibling.{Sibling}
 use Rattle.process_packet.specs.declared.underlay.Underlay.{Underlay}
 use Rattle.process_packet.specs.Conditions.{HasItsPair, MayFollow}
 use Rattle.process_packet.specs.Laws.{changes}
 use Rattle.process_packet.specs.Network.{Network, interface_kind, kind_or, own_link, sibling}
-use Rattle.process_packet.specs.PacketState.{PacketState, arrival_kind, changed_over, egress, egress_of, hop, info, is_along, turned_back}
+use Rattle.process_packet.specs.PacketState.{PacketState, arrival_kind, changed_over, egress, egress_of, info}
 use Rattle.process_packet.specs.Shown.{StandsToLeave, is_for_us, turned}
 use Rattle.process_packet.specs.Ways.{IsSentBy, LeavesByLink, LeavesBySibling}
 use Rattle.process_packet.proofs.ConditionLemmas.{from_inside}

@@ -1,5 +1,5 @@
 -- A packet on a path of one hop crosses one link.
-use Rattle.std.proofs.Common.{◌≡◌, ◌≢◌, List, None, sym, ap, subst, ◌∙◌}
+use Rattle.std.proofs.Common.{◌≡◌, ◌≢◌, sym, subst}
 use Rattle.scion_packet.specs.Header.{one_hop_path}
 use Rattle.scion_packet.proofs.HeaderSpelled.{header_passes}
 use Rattle.scion_packet.proofs.OneHopLaws.{one_hop_both_pass}

@@ -1,12 +1,11 @@
 -- Over the whole of a segment the hop fields are entries of one beaconed segment.
-use Rattle.std.proofs.Common.{◌≡◌, ◌⊎◌, ◌≤◌, ◌+◌, ℕ, zero, suc, Bool, true, false, List, [], ◌∷◌, slice_get, Contains, Option, Some, None, refl, sym, ap, subst, ◌∙◌, arith, inl, inr}
+use Rattle.std.proofs.Common.{◌≡◌, ◌≤◌, ◌+◌, ℕ, zero, suc, true, false, List, [], ◌∷◌, slice_get, Contains, Some, refl, sym, ap, subst, ◌∙◌, arith, inl, inr}
 use Rattle.std.proofs.lemmas.Bool.{cases_Bool}
 use Rattle.std.proofs.lemmas.Option.{same_Some}
 use Rattle.scion_packet.specs.Path.{HopField, InfoField, Place}
 use Rattle.process_packet.specs.Chaining.{FollowsOn, IsSameHop}
 use Rattle.process_packet.specs.PacketState.{PacketState, hop, info, is_along, is_last_of_segment}
 use Rattle.walk_laws.specs.Configured.{AreNumbered}
-use Rattle.walk_laws.specs.Domain.{IsOf}
 use Rattle.walk_laws.specs.Net.{Agrees, AreOfOneAS, Net, Router}
 use Rattle.walk_laws.specs.PathSegments.{PathSegment}
 use Rattle.path_authorisation.specs.Beaconed.{AreAllBeaconed, IsAfter, IsEntry, IsMade, LooksAt, NoIdentifierCollides, NoMacIsForged}

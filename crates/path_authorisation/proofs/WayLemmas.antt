@@ -1,7 +1,9 @@
 -- Which way a packet goes: at each AS over a lawful pair of links, and so without a valley.
-use Rattle.std.proofs.Common.{◌≡◌, ◌≢◌, ◌≤◌, ◌<◌, ℕ, zero, suc, Bool, true, false, List, [], ◌∷◌, Option, Some, None, slice_get, refl, sym, ap, ap₂, subst, ◌∙◌, arith, inl, inr}
-use Rattle.std.proofs.lemmas.Bool.{cases_eq}
+use Rattle.std.proofs.Common.{◌≡◌, ◌≢◌, ◌≤◌, ◌<◌, ◌+◌, ◌==◌, ◌&&◌, Decides, length, nat_lt, ℕ, zero, suc, Bool, true, false, List, [], ◌∷◌, Option, Some, None, slice_get, refl, sym, ap, ap₂, subst, ◌∙◌, arith, inl, inr}
+use Rattle.std.proofs.lemmas.Bool.{cases_eq, eq-eqb, eqb-true}
+use Rattle.std.proofs.lemmas.Bool.Decides.{Decides-ltb}
 use Rattle.std.proofs.lemmas.Option.{same_Some}
+use Rattle.scion_packet.specs.Path.{hops_in}
 use Rattle.scion_packet.specs.Header.{HeaderFields}
 use Rattle.scion_packet.specs.Packet.{Packet, packet_of}
 use Rattle.segment_switch.specs.declared.kind.LinkKind.{LinkKind}
@@ -12,20 +14,20 @@ use Rattle.process_packet.specs.Conditions.{HasItsPair, IsHere, MayFollow}
 use Rattle.process_packet.specs.Decide.{scion_moved, verdict}
 use Rattle.process_packet.specs.Laws.{IsAuthorised, changes}
 use Rattle.process_packet.specs.Network.{Network, interface_kind, own_link}
-use Rattle.process_packet.specs.PacketState.{PacketState, arrival_kind, arrives, egress, packet, turned_back}
+use Rattle.process_packet.specs.PacketState.{PacketState, arrival_kind, arrives, egress, packet}
 use Rattle.process_packet.specs.Shown.{StandsToLeave, is_for_us, turned}
 use Rattle.process_packet.specs.Ways.{IsSentBy}
 use Rattle.process_packet.specs.WhatLeaves.{LeavesWhole}
 use Rattle.process_packet.proofs.ConditionLemmas.{came_by, is_here}
-use Rattle.process_packet.proofs.LawfulLemmas.{IsMovedFrom, moved_from}
+use Rattle.process_packet.proofs.LawfulLemmas.{moved_from}
 use Rattle.process_packet.proofs.PassingLemmas.{both_true}
 use Rattle.process_packet.proofs.RowsPassed.{turned_is}
 use Rattle.walk_laws.specs.Configured.{AreNumbered}
 use Rattle.walk_laws.specs.Net.{Agrees, AreOfOneAS, Net, Router, opposite, router_at}
 use Rattle.walk_laws.proofs.LeavesLemmas.{same_router}
 use Rattle.walk_laws.proofs.NetLemmas.{ListsAt, listed_at}
-use Rattle.path_authorisation.specs.Sendings.{ComesFrom, IsOnLongPath, IsSending, IsWalk, Sending, arrival, at_entry}
-use Rattle.path_authorisation.specs.Ways.{EntersBy, IsValleyFree, LeavesBy, MayComeLater, WalksAreValleyFree}
+use Rattle.path_authorisation.specs.Sendings.{ChangesSegment, ComesFrom, IsOnLongPath, IsSending, IsWalk, Sending, arrival, at_entry}
+use Rattle.path_authorisation.specs.Ways.{EntersBy, LeavesBy, MayComeLater, WalksAreValleyFree}
 use Rattle.path_authorisation.proofs.CursorLemmas as cursor
 use Rattle.path_authorisation.proofs.ExitLemmas.{IsAtExit, IsLink, SentByLink, SentBySibling, by_link, by_sibling, listed_kind, own_kind, same_egress, some_link, stands_at_exit}
 use Rattle.path_authorisation.proofs.NextLemmas.{IsOverWire, IsWithin, one_through, over_wire, within}
@@ -323,9 +325,27 @@ module _ (net : Net) (agrees : Agrees net) (numbered : AreNumbered net) where
   owns (v ∷ walk) s is long (suc i) t at none =
       owns walk v (rest_is net s (v ∷ walk) is) (long_next net s v (is.sent 0 s refl) long (is.next 0 s v refl refl)) i t at none
 
+-- which of both it does is what the router's decision asks
+changes_so : (u : PacketState) → Decides (changes u) (ChangesSegment u)
+changes_so u =
+    let at = u.path.place in
+    let ss = u.path.segments in
+    let last = at.position + 1 == hops_in ss at.segment in
+    let followed = nat_lt (at.segment + 1) (length ss) in (
+      λ is. let both = both_true last followed is in record { ends = eqb-true (at.position + 1) (hops_in ss at.segment) both.0; followed = (Decides-ltb (at.segment + 1) (length ss)).0 both.1 },
+      λ is. ap₂ (λ (a b : Bool). a && b) (eq-eqb (at.position + 1) (hops_in ss at.segment) is.ends) ((Decides-ltb (at.segment + 1) (length ss)).1 is.followed),
+    )
+
+same_test : {P : Type 0} (a b : Bool) → Decides a P → Decides b P → a ≡ b
+same_test true b one other = sym (other.1 (one.0 refl))
+same_test false true one other = one.1 (other.0 refl)
+same_test false false one other = refl
+
 pub valley_free : WalksAreValleyFree
 valley_free net s walk agrees numbered is long = record {
   own = owns net agrees numbered walk s is long;
-  pair = pairs net agrees numbered walk s is long;
+  pair = λ i j a t from to below first last stays enters leaves changed says.
+      subst (λ (b : Bool). MayFollow b (Some from.kind) to.kind) (same_test (changes (at_entry a)) changed (changes_so (at_entry a)) says)
+      (pairs net agrees numbered walk s is long i j a t from to below first last stays enters leaves);
   order = orders net agrees numbered walk s is long;
 }

@@ -1,12 +1,12 @@
 -- Within a segment a datagram goes from hop field to hop field as they were beaconed.
-use Rattle.std.specs.Prelude.{◌≡◌, ◌<◌, ◌+◌, ℕ, suc, true, false, List, ◌∷◌, Contains, Some, None}
+use Rattle.std.specs.Prelude.{◌≡◌, ℕ, suc, true, false, List, ◌∷◌, Contains, Some, None}
 use Rattle.std.specs.List.{slice_get}
-use Rattle.process_packet.specs.PacketState.{PacketState, hop, info, is_along, is_last_of_segment}
+use Rattle.process_packet.specs.PacketState.{PacketState, hop, info, is_along}
 use Rattle.walk_laws.specs.Configured.{AreNumbered}
 use Rattle.walk_laws.specs.Net.{Agrees, Net, Router}
 use Rattle.walk_laws.specs.PathSegments.{PathSegment}
 use Rattle.path_authorisation.specs.Beaconed.{AreAllBeaconed, IsEntry, IsMade, NoIdentifierCollides, NoMacIsForged, identifier_at}
-use Rattle.path_authorisation.specs.Sendings.{IsOnLongPath, IsWalk, Sending, at_entry, at_exit}
+use Rattle.path_authorisation.specs.Sendings.{IsOnItsWay, IsOnLongPath, IsWalk, Sending, at_entry, at_exit}
 
 -- Both hop fields were made, and the one chains to the other's identifier, with the same timestamp.
 pub record AreChained (set : List PathSegment) (x y : Router) (u v : PacketState) : Type 0 where
@@ -26,14 +26,14 @@ pub record AreConsecutive (set : List PathSegment) (x y : Router) (u v : PacketS
 -- Where a datagram crosses a link on its segment, from the hop field by which it leaves one AS to the one at which it comes to the
 -- next: in the direction of construction the first of them was made first, against it the second.
 pub record GoesAsBeaconed (set : List PathSegment) (walk : List Sending) : Type 0 where
-  pub along : (i : ℕ) (s t : Sending) → slice_get walk i ≡ Some s → slice_get walk (suc i) ≡ Some t → s.to ≡ None → is_last_of_segment (at_exit s) ≡ false
+  pub along : (i : ℕ) (s t : Sending) → slice_get walk i ≡ Some s → slice_get walk (suc i) ≡ Some t → s.to ≡ None → IsOnItsWay (at_exit s)
       → is_along (at_exit s) ≡ true → AreChained set s.here t.here (at_exit s) (at_entry t)
-  pub against : (i : ℕ) (s t : Sending) → slice_get walk i ≡ Some s → slice_get walk (suc i) ≡ Some t → s.to ≡ None → is_last_of_segment (at_exit s) ≡ false
+  pub against : (i : ℕ) (s t : Sending) → slice_get walk i ≡ Some s → slice_get walk (suc i) ≡ Some t → s.to ≡ None → IsOnItsWay (at_exit s)
       → is_along (at_exit s) ≡ false → AreChained set t.here s.here (at_entry t) (at_exit s)
   pub consecutive_along : NoIdentifierCollides set → (i : ℕ) (s t : Sending) → slice_get walk i ≡ Some s → slice_get walk (suc i) ≡ Some t → s.to ≡ None
-      → is_last_of_segment (at_exit s) ≡ false → is_along (at_exit s) ≡ true → AreConsecutive set s.here t.here (at_exit s) (at_entry t)
+      → IsOnItsWay (at_exit s) → is_along (at_exit s) ≡ true → AreConsecutive set s.here t.here (at_exit s) (at_entry t)
   pub consecutive_against : NoIdentifierCollides set → (i : ℕ) (s t : Sending) → slice_get walk i ≡ Some s → slice_get walk (suc i) ≡ Some t → s.to ≡ None
-      → is_last_of_segment (at_exit s) ≡ false → is_along (at_exit s) ≡ false → AreConsecutive set t.here s.here (at_entry t) (at_exit s)
+      → IsOnItsWay (at_exit s) → is_along (at_exit s) ≡ false → AreConsecutive set t.here s.here (at_entry t) (at_exit s)
 
 abbrev pub WalksGoAsBeaconed : Type 0
 WalksGoAsBeaconed =

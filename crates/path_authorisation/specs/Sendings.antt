@@ -1,9 +1,10 @@
 -- The walk of any datagram through a net, whoever made it, from whatever router it comes to first.
-use Rattle.std.specs.Prelude.{◌≡◌, ◌≢◌, ℕ, suc, List, Option, Some, slice_index}
+use Rattle.std.specs.Prelude.{◌≡◌, ◌≢◌, ◌<◌, ◌+◌, ℕ, suc, List, length, Option, Some, slice_index}
 use Rattle.std.specs.List.{slice_get}
 use Rattle.field_rows.specs.Place.{IsBytes}
 use Rattle.scion_packet.specs.Header.{one_hop_path}
 use Rattle.scion_packet.specs.Packet.{packet_of}
+use Rattle.scion_packet.specs.Path.{hops_in}
 use Rattle.process_packet.specs.declared.decision.Decision.TheVariants as decision
 use Rattle.process_packet.specs.declared.underlay.Underlay.{Underlay}
 use Rattle.process_packet.specs.Chaining as chaining
@@ -62,3 +63,11 @@ at_entry s = chaining.at_entry s.here.network s.link s.source s.moment s.bytes
 
 abbrev pub at_exit : Sending → PacketState
 at_exit s = chaining.at_exit s.here.network s.link s.source s.moment s.bytes
+
+-- Its segment goes on after the hop field at which it stands, or ends there and another one follows.
+abbrev pub IsOnItsWay : PacketState → Type 0
+IsOnItsWay u = u.path.place.position + 1 < hops_in u.path.segments u.path.place.segment
+
+pub record ChangesSegment (u : PacketState) : Type 0 where
+  pub ends : u.path.place.position + 1 ≡ hops_in u.path.segments u.path.place.segment
+  pub followed : u.path.place.segment + 1 < length u.path.segments

@@ -1,15 +1,15 @@
 -- Which way a datagram goes through a net that agrees: up to parents, then over the core, then down to children.
+use Rattle.std.specs.Bool.{Decides}
 use Rattle.std.specs.Prelude.{◌≡◌, ◌≢◌, ◌≤◌, ◌<◌, ℕ, Bool, List, ◌∷◌, Some, None}
 use Rattle.std.specs.List.{slice_get}
 use Rattle.segment_switch.specs.declared.kind.LinkKind.{LinkKind}
 use Rattle.segment_switch.specs.declared.kind.LinkKind.TheVariants.{Core, Parent, Child}
 use Rattle.process_packet.specs.declared.neighbours.Link.{Link}
 use Rattle.process_packet.specs.Conditions.{MayFollow}
-use Rattle.process_packet.specs.Laws.{changes}
 use Rattle.process_packet.specs.Network.{own_link}
 use Rattle.walk_laws.specs.Configured.{AreNumbered}
 use Rattle.walk_laws.specs.Net.{Agrees, Net}
-use Rattle.path_authorisation.specs.Sendings.{IsOnLongPath, IsWalk, Sending, at_entry}
+use Rattle.path_authorisation.specs.Sendings.{ChangesSegment, IsOnLongPath, IsWalk, Sending, at_entry}
 
 -- The datagram leaves by this link of the router.
 pub record LeavesBy (s : Sending) (l : Link) : Type 0 where
@@ -33,10 +33,11 @@ pub data MayComeLater : LinkKind → LinkKind → Type 0 where
 pub record IsValleyFree (walk : List Sending) : Type 0 where
   -- what is sent to no address within the AS leaves by a link of the router
   pub own : (i : ℕ) (s : Sending) → slice_get walk i ≡ Some s → s.to ≡ None → (l : Link) × LeavesBy s l
-  -- the link by which it comes into an AS and the one by which it leaves it are a lawful pair, also where these are of two routers
+  -- the link by which it comes into an AS and the one by which it leaves it are a lawful pair, for a packet that
+  -- changes its segment there or for one that doesn't, also where the links are of two routers
   pub pair : (i j : ℕ) (s t : Sending) (from to : Link) → i ≤ j → slice_get walk i ≡ Some s → slice_get walk j ≡ Some t
       → ((k : ℕ) (u : Sending) → i ≤ k → k < j → slice_get walk k ≡ Some u → u.to ≢ None)
-      → EntersBy s from → LeavesBy t to → MayFollow (changes (at_entry s)) (Some from.kind) to.kind
+      → EntersBy s from → LeavesBy t to → (changed : Bool) → Decides changed (ChangesSegment (at_entry s)) → MayFollow changed (Some from.kind) to.kind
   -- over the whole walk
   pub order : (i j : ℕ) (s t : Sending) (l m : Link) → i < j → slice_get walk i ≡ Some s → slice_get walk j ≡ Some t → LeavesBy s l → LeavesBy t m
       → MayComeLater l.kind m.kind
