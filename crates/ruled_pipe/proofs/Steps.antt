@@ -8,11 +8,12 @@ use Rattle.std.proofs.Math.Seq.{take-length}
 use Rattle.crossbeam_queue.specs.Fifo.{Pushes, Pops, Forks, Merges, Learns, Held}
 use Rattle.ruled_pipe.specs.declared.entry.Entry.{Entry}
 use Rattle.ruled_pipe.specs.declared.entry.Refusal.{Refusal}
+use Rattle.ruled_pipe.specs.declared.rule.Left.{Left}
 use Rattle.ruled_pipe.specs.declared.rule.Size.{Size}
 use Rattle.ruled_pipe.specs.declared.rule.View.{View}
-use Rattle.ruled_pipe.specs.Rule.{size_of, producer, consumer, nobody, Piped, Placed, Ended}
+use Rattle.ruled_pipe.specs.Rule.{size_of, producer, consumer, keeper, both_of, left, nobody, Piped, Placed, Ended}
 use Rattle.ruled_pipe.specs.Producer.{WasFull, AllFull, refusal}
-use Rattle.ruled_pipe.proofs.Moves.{opens, adds, pushes, refused, takes, leaves, whole}
+use Rattle.ruled_pipe.proofs.Moves.{opens, adds, pushes, refused, takes, leaves, takes_in, whole}
 
 module _ {T : Type 0} where
   pub pushes_from : (n : Size) (port p : ℕ) (v : View T) (offers : List (Entry T)) (x : Entry T) → v ≡ producer p n offers → x.from ≡ p
@@ -21,11 +22,11 @@ module _ {T : Type 0} where
       let P : View T → Type 0 = λ u. Pushes Piped n.capacity port u x (λ w. w ≡ producer u.from u.size (u.offers ++ x ∷ [])) × Learns Piped port u (λ held. Placed u.size.producers u.from u.offers held) in
       subst P (sym is) (pushes n port p offers x own, refused port p n offers)
 
-  pub takes_from : (n : Size) (port made : ℕ) (v : View T) (taken : List (Entry T)) → v ≡ consumer made n taken []
-      → Pops Piped port v (λ x w. (x.from < v.made) × (w ≡ consumer v.made v.size (v.taken ++ x ∷ []) v.known)) × Learns Piped port v (λ held. ⊤)
-  takes_from n port made v taken is =
-      let P : View T → Type 0 = λ u. Pops Piped port u (λ x w. (x.from < u.made) × (w ≡ consumer u.made u.size (u.taken ++ x ∷ []) u.known)) × Learns Piped port u (λ held. ⊤) in
-      subst P (sym is) (takes port made n taken [], λ held views h at. tt)
+  pub takes_from : (n : Size) (port : ℕ) (v : View T) (taken : List (Entry T)) → v ≡ consumer n taken
+      → Pops Piped port v (λ x w. (x.from < v.size.producers) × (w ≡ consumer v.size (v.taken ++ x ∷ []))) × Learns Piped port v (λ held. ⊤)
+  takes_from n port v taken is =
+      let P : View T → Type 0 = λ u. Pops Piped port u (λ x w. (x.from < u.size.producers) × (w ≡ consumer u.size (u.taken ++ x ∷ []))) × Learns Piped port u (λ held. ⊤) in
+      subst P (sym is) (takes port n taken, λ held views h at. tt)
 
   -- what a refusal says stays true when more is offered
   stays_full : (m p n : ℕ) (offers : List (Entry T)) (e : Entry T) (r : Refusal T) → WasFull m p n offers r → WasFull m p n (offers ++ e ∷ []) r
@@ -79,20 +80,27 @@ module _ {T : Type 0} where
       let Q : List (Refusal T) → Type 0 = λ l. AllFull w.size.producers p n w.offers l in
       subst Q (ap (λ (e : Entry T). rs ++ refusal e (length w.offers) ∷ []) (sym entry) ∙ sym noted) now
 
-  pub opens_from : (port : ℕ) (n : Size) (v : View T) → v ≡ consumer 0 (size_of 0 0) [] [] → Forks Piped port v (consumer v.made n v.taken v.known) nobody
-  opens_from port n v is = let P : View T → Type 0 = λ u. Forks Piped port u (consumer u.made n u.taken u.known) nobody in subst P (sym is) (opens port n)
+  pub opens_from : (port : ℕ) (n : Size) (v : View T) → v ≡ both_of 0 (size_of 0 0) [] [] → Forks Piped port v (keeper v.made n v.known) (consumer n v.taken)
+  opens_from port n v is = let P : View T → Type 0 = λ u. Forks Piped port u (keeper u.made n u.known) (consumer n u.taken) in subst P (sym is) (opens port n)
 
-  pub adds_from : (port made : ℕ) (n : Size) (v : View T) → made < n.producers → v ≡ consumer made n [] [] → Forks Piped port v (consumer (v.made + 1) v.size v.taken v.known) (producer v.made v.size [])
-  adds_from port made n v below is = let P : View T → Type 0 = λ u. Forks Piped port u (consumer (u.made + 1) u.size u.taken u.known) (producer u.made u.size []) in subst P (sym is) (adds port made n below)
+  pub adds_from : (port made : ℕ) (n : Size) (v : View T) → made < n.producers → v ≡ keeper made n [] → Forks Piped port v (keeper (v.made + 1) v.size v.known) (producer v.made v.size [])
+  adds_from port made n v below is = let P : View T → Type 0 = λ u. Forks Piped port u (keeper (u.made + 1) u.size u.known) (producer u.made u.size []) in subst P (sym is) (adds port made n below)
 
-  pub leaves_from : (port made : ℕ) (n : Size) (taken : List (Entry T)) (known : List (List (Entry T))) (other p : ℕ) (cap : Size) (offers : List (Entry T)) (v w : View T)
-      → v ≡ consumer made n taken known → w ≡ producer p cap offers → p ≡ length known
-      → Merges Piped port v other w (consumer v.made v.size v.taken (v.known ++ w.offers ∷ [])) nobody
-  leaves_from port made n taken known other p cap offers v w is leaver next =
-      let P : View T → Type 0 = λ u. Merges Piped port u other w (consumer u.made u.size u.taken (u.known ++ w.offers ∷ [])) nobody in
-      let Q : View T → Type 0 = λ u. Merges Piped port (consumer made n taken known) other u (consumer made n taken (known ++ u.offers ∷ [])) nobody in
-      subst P (sym is) (subst Q (sym leaver) (leaves port made n taken known other p cap offers next))
+  pub leaves_from : (port made : ℕ) (n : Size) (known : List (Left T)) (other p : ℕ) (cap : Size) (offers : List (Entry T)) (refusals : List (Refusal T)) (v w : View T)
+      → v ≡ keeper made n known → w ≡ producer p cap offers → p ≡ length known
+      → Merges Piped port v other w (keeper v.made v.size (v.known ++ left w.from w.offers refusals ∷ [])) nobody
+  leaves_from port made n known other p cap offers refusals v w is leaver next =
+      let P : View T → Type 0 = λ u. Merges Piped port u other w (keeper u.made u.size (u.known ++ left w.from w.offers refusals ∷ [])) nobody in
+      let Q : View T → Type 0 = λ u. Merges Piped port (keeper made n known) other u (keeper made n (known ++ left u.from u.offers refusals ∷ [])) nobody in
+      subst P (sym is) (subst Q (sym leaver) (leaves port made n known other p cap offers refusals next))
 
-  pub whole_from : (port made : ℕ) (n : Size) (taken : List (Entry T)) (known : List (List (Entry T))) (v : View T) → v ≡ consumer made n taken known
+  pub takes_in_from : (port made : ℕ) (n : Size) (known : List (Left T)) (other : ℕ) (cap : Size) (taken : List (Entry T)) (v w : View T)
+      → v ≡ keeper made n known → w ≡ consumer cap taken → Merges Piped port v other w (both_of v.made v.size w.taken v.known) nobody
+  takes_in_from port made n known other cap taken v w is leaver =
+      let P : View T → Type 0 = λ u. Merges Piped port u other w (both_of u.made u.size w.taken u.known) nobody in
+      let Q : View T → Type 0 = λ u. Merges Piped port (keeper made n known) other u (both_of made n u.taken known) nobody in
+      subst P (sym is) (subst Q (sym leaver) (takes_in port made n known other cap taken))
+
+  pub whole_from : (port made : ℕ) (n : Size) (taken : List (Entry T)) (known : List (Left T)) (v : View T) → v ≡ both_of made n taken known
       → Learns Piped port v (λ held. Ended v.made v.size.capacity v.known v.taken held)
   whole_from port made n taken known v is = let P : View T → Type 0 = λ u. Learns Piped port u (λ held. Ended u.made u.size.capacity u.known u.taken held) in subst P (sym is) (whole port made n taken known)

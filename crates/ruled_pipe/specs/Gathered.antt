@@ -14,6 +14,9 @@ pub record Views (T : Type 0) : Type 0 where
   pub taker : Taker T
 
 module _ {T : Type 0} where
+  abbrev pub views : List (Sender T) → Taker T → Views T
+  views senders taker = record { senders = senders; taker = taker }
+
   -- The whole pipe. What was ever pushed is what was taken and then what is held
   pub record IsWhole (capacity : ℕ) (senders : List (Sender T)) (taken held : List (Entry T)) : Type 0 where
     -- no more are held than the capacity

@@ -1,21 +1,15 @@
 //! The consumer's end.
 
-ghost use Rattle.std.specs.Prelude.{◌≡◌, ℕ, ◌<◌, ◌++◌, ◌∷◌, List, [], IfOk, IfSome, MatchOption, length};
+ghost use Rattle.std.specs.Prelude.{◌≡◌, ℕ, ◌<◌, ◌++◌, ◌∷◌, [], IfOk, IfSome, MatchOption, length};
 ghost use Rattle.std.specs.Arc.{arc_value};
 ghost use Rattle.crossbeam_queue.specs.Passes.{IsPassOf, IsSamePass, ruled_capacity};
 ghost use Rattle.ruled_pipe.specs.Rule.{known_by, consumer, size_of};
 ghost use Rattle.ruled_pipe.specs.Consumer.{looked, new_taker, took};
-ghost use Rattle.ruled_pipe.specs.Gathered.{IsWhole};
-ghost use Rattle.ruled_pipe.specs.Pipe.{AreAllOf};
-ghost use Rattle.ruled_pipe.specs.declared.entry.Entry.{Entry};
 
 use crate::entry::Entry;
-use crate::gathered::take_all;
 use crate::notes::{Added, Notes};
 use crate::pace::{Pace, ROOM};
-use crate::pipe::Pipe;
-use crate::producer::Producer;
-use crate::rule::{Queue, Seat, Takes, Whole};
+use crate::rule::{Queue, Seat, Takes};
 use std::alloc::{AllocError, Global};
 use std::marker::{Brand, Model};
 use std::sync::{Arc, Wait};
@@ -41,7 +35,7 @@ impl<T> Model for Consumer<T> {
 
     ghost view = { λ c. record { pipe = c.seat.table_id; producers = c.producers; capacity = ruled_capacity (arc_value c.queue); taken = (known_by c.seat).taken; looks = c.looks } };
 
-    ghost invariant = { λ c. IsPassOf (arc_value c.queue) c.seat × (known_by c.seat ≡ consumer c.producers (size_of (ruled_capacity (arc_value c.queue)) c.producers) (known_by c.seat).taken []) };
+    ghost invariant = { λ c. IsPassOf (arc_value c.queue) c.seat × (known_by c.seat ≡ consumer (size_of (ruled_capacity (arc_value c.queue)) c.producers) (known_by c.seat).taken) };
 }
 
 // Not derived: a derived drop is proved again in each crate that drops one.
@@ -76,21 +70,19 @@ impl<T: Drop> Consumer<T> {
         }
     }
 
-    // It leaves its pipe, and takes in the producers, which have left too.
-    pub(crate) fn leave(self, pipe: &Pipe<T>, producers: Vec<Producer<T>>)
-        requires { AreAllOf pipe.now producers.items self }
-        ensures { (held : List (Entry T)) × IsWhole pipe.now.capacity producers.items self.taken held }
+    // Its right to take, once it takes no more.
+    pub(crate) fn into_seat(self) -> Seat<T>
+        ensures queue { (result.table_id ≡ self.pipe) × (result.me.1 ≡ []) }
+        ensures known { known_by result ≡ consumer (size_of self.capacity self.producers) self.taken }
     {
         let Consumer {
             queue: _,
-            mut seat,
+            seat,
             looks: _,
             pace: _,
             producers: _,
         } = self;
-        let queue: &Queue<T> = &pipe.queue;
-        take_all(queue, &mut seat, producers);
-        queue.learn_as::<Whole>(&mut seat);
+        seat
     }
 }
 
@@ -101,7 +93,7 @@ fn keep_apart<T: Drop, R: Wait>(
     seat: &mut Seat<T>,
     pace: &mut Pace,
 )
-    requires { IsPassOf (arc_value queue.now) seat.old × (n p : ℕ) × (known_by seat.old ≡ consumer p (size_of n p) (known_by seat.old).taken []) }
+    requires { IsPassOf (arc_value queue.now) seat.old × (n p : ℕ) × (known_by seat.old ≡ consumer (size_of n p) (known_by seat.old).taken) }
     ensures { IsSamePass seat.old seat.new × (known_by seat.new ≡ known_by seat.old) }
 {
     if queue.capacity() < ROOM {
@@ -123,14 +115,14 @@ fn note_look<T, K: Added<usize>, R: Wait>(rt: &R, looks: &mut Notes<usize>, seat
     looks.append::<K, R>(rt);
 }
 
-// The consumer's end, of a seat that has made its producers.
+// The consumer's end, of its seat.
 pub(crate) fn consumer_of<T: Drop>(
     alloc: Global,
     queue: &Arc<Queue<T>, Global>,
     seat: Seat<T>,
     producers: usize,
 ) -> Result<Consumer<T>, AllocError>
-    requires { IsPassOf (arc_value queue.now) seat × (known_by seat ≡ consumer producers (size_of (ruled_capacity (arc_value queue.now)) producers) [] []) }
+    requires { IsPassOf (arc_value queue.now) seat × (known_by seat ≡ consumer (size_of (ruled_capacity (arc_value queue.now)) producers) []) }
     ensures { IfOk result (λ c. c ≡ new_taker (arc_value queue.now).table.shared.table_id producers (ruled_capacity (arc_value queue.now))) }
 {
     let looks = Notes::new(alloc)?;

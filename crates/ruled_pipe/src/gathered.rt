@@ -1,36 +1,34 @@
 //! The ends of a pipe gathered, and what then holds of the whole.
 
-ghost use Rattle.std.specs.Prelude.{◌≡◌, ◌++◌, ◌∷◌, [], List, length};
-ghost use Rattle.crossbeam_queue.specs.Passes.{IsPassOf};
+ghost use Rattle.std.specs.Prelude.{◌≡◌, [], List, length};
 ghost use Rattle.ruled_pipe.specs.declared.entry.Entry.{Entry};
-ghost use Rattle.ruled_pipe.specs.Rule.{known_by, consumer};
-ghost use Rattle.ruled_pipe.specs.Pipe.{AreAllOf, AreOrdered, EachFull, offers_of};
+ghost use Rattle.ruled_pipe.specs.Pipe.{AreAllOf};
 ghost use Rattle.ruled_pipe.specs.Gathered.{IsWhole, IsSettled, EachEndsWithMark, ends_in};
 
 use crate::consumer::Consumer;
+use crate::keeper::Keeper;
 use crate::pipe::Pipe;
 use crate::producer::Producer;
-use crate::rule::{Queue, Seat};
 use std::marker::Model;
 use std::snapshot::Snapshot;
 
 /// What the ends of a pipe had seen when they were gathered. It has no bytes.
 #[derive(Drop)]
 pub struct Gathered<T> {
-    producers: Snapshot<Vec<Producer<T>>>,
-    consumer: Snapshot<Consumer<T>>,
+    pub(crate) keeper: Snapshot<Keeper<T>>,
+    pub(crate) taker: Snapshot<Consumer<T>>,
 }
 
 impl<T> Model for Gathered<T> {
     ghost use Rattle.std.specs.Prelude.{List};
     ghost use Rattle.ruled_pipe.specs.declared.entry.Entry.{Entry};
-    ghost use Rattle.ruled_pipe.specs.Gathered.{Views, IsWhole};
+    ghost use Rattle.ruled_pipe.specs.Gathered.{Views, views, IsWhole};
 
     ghost Value = { Views T };
 
-    ghost view = { λ g. record { senders = g.producers.value.items; taker = g.consumer.value } };
+    ghost view = { λ g. views g.keeper.value.senders g.taker.value };
 
-    ghost invariant = { λ g. (held : List (Entry T)) × IsWhole g.consumer.value.capacity g.producers.value.items g.consumer.value.taken held };
+    ghost invariant = { λ g. (held : List (Entry T)) × IsWhole g.taker.value.capacity g.keeper.value.senders g.taker.value.taken held };
 }
 
 impl<T> Gathered<T> {
@@ -43,7 +41,7 @@ impl<T> Gathered<T> {
         ensures empty { (held : List (Entry T)) → IsWhole self.now.taker.capacity self.now.senders self.now.taker.taken held → held ≡ [] }
         ensures settled { IsSettled self.now.senders self.now.taker.taken }
     {
-        let _ = &self.producers;
+        let _ = &self.keeper;
     }
 }
 
@@ -55,25 +53,10 @@ impl<T: Drop> Pipe<T> {
         ensures views { (result.senders ≡ producers.items) × (result.taker ≡ consumer) }
         ensures whole { (held : List (Entry T)) × IsWhole self.capacity result.senders result.taker.taken held }
     {
-        let gathered = (Snapshot::of(&producers), Snapshot::of(&consumer));
-        consumer.leave(&self, producers);
-        Gathered {
-            producers: gathered.0,
-            consumer: gathered.1,
+        let mut keeper = self.into_keeper();
+        for producer in producers {
+            keeper.absorb(producer);
         }
-    }
-}
-
-// Takes in the producers, in the order of their numbers.
-pub(crate) fn take_all<T: Drop>(queue: &Queue<T>, seat: &mut Seat<T>, producers: Vec<Producer<T>>)
-    requires queue { IsPassOf queue.now seat.old }
-    requires producers { AreOrdered seat.old.table_id producers.items }
-    requires fresh { let v = known_by seat.old in v ≡ consumer v.made v.size v.taken [] }
-    ensures queue { IsPassOf queue.now seat.new }
-    ensures known { let v = known_by seat.old in known_by seat.new ≡ consumer v.made v.size v.taken (offers_of producers.items) }
-    ensures full { EachFull producers.items }
-{
-    for producer in producers {
-        producer.leave(queue, seat);
+        keeper.settle(consumer)
     }
 }

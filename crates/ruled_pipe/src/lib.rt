@@ -18,6 +18,7 @@
 mod consumer;
 mod entry;
 mod gathered;
+mod keeper;
 mod notes;
 mod pace;
 mod pipe;
@@ -27,5 +28,6 @@ mod rule;
 pub use consumer::Consumer;
 pub use entry::{Entry, Load, Mark, Refusal};
 pub use gathered::Gathered;
+pub use keeper::Keeper;
 pub use pipe::Pipe;
 pub use producer::{Full, Producer};

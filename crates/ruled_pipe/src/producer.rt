@@ -3,7 +3,7 @@
 ghost use Rattle.std.specs.Prelude.{◌≡◌, ◌<◌, ◌≤◌, ◌+◌, ◌++◌, ◌∷◌, [], IfOk, IfErr, MatchResult, length};
 ghost use Rattle.std.specs.Arc.{arc_value};
 ghost use Rattle.crossbeam_queue.specs.Passes.{IsPassOf, ruled_capacity};
-ghost use Rattle.ruled_pipe.specs.Rule.{known_by, consumer, size_of};
+ghost use Rattle.ruled_pipe.specs.Rule.{known_by, keeper, left, size_of};
 ghost use Rattle.ruled_pipe.specs.Producer.{entry, refusal, offered, refused, AllFull, WasFull, new_sender};
 
 use crate::entry::{Entry, Load, Mark, Refusal};
@@ -102,11 +102,12 @@ impl<T: Drop> Producer<T> {
     }
 
     // It leaves its pipe: the seat of another end takes it in.
-    pub(crate) fn leave(self, queue: &Queue<T>, seat: &mut Seat<T>)
+    pub(crate) fn leave<K: Added<Refusal<T>>>(self, queue: &Queue<T>, seat: &mut Seat<T>)
+        requires picked { K.added ≡ self.refusals }
         requires queue { IsPassOf queue.now seat.old × (self.pipe ≡ seat.old.table_id) }
-        requires next { let v = known_by seat.old in (v ≡ consumer v.made v.size v.taken v.known) × (length v.known ≡ self.number) }
+        requires next { let v = known_by seat.old in (v ≡ keeper v.made v.size v.known) × (length v.known ≡ self.number) }
         ensures queue { IsPassOf queue.now seat.new × (seat.new.table_id ≡ seat.old.table_id) }
-        ensures known { let v = known_by seat.old in known_by seat.new ≡ consumer v.made v.size v.taken (v.known ++ self.offers ∷ []) }
+        ensures known { let v = known_by seat.old in known_by seat.new ≡ keeper v.made v.size (v.known ++ left self.number self.offers self.refusals ∷ []) }
         ensures full { AllFull self.producers self.number self.capacity self.offers self.refusals }
     {
         let Producer {
@@ -115,7 +116,7 @@ impl<T: Drop> Producer<T> {
             notes: _,
             number: _,
         } = self;
-        queue.absorb::<Leaves>(seat, own);
+        queue.absorb::<Leaves<K>>(seat, own);
     }
 }
 
@@ -135,7 +136,7 @@ fn note_refusal<T, K: Added<Refusal<T>>, R: Wait>(
     notes.append::<K, R>(rt);
 }
 
-// The next producer, made at the consumer's seat.
+// The next producer, made at the keeper's seat.
 pub(crate) fn add<T: Drop>(
     alloc: Global,
     queue: &Arc<Queue<T>, Global>,
@@ -144,9 +145,9 @@ pub(crate) fn add<T: Drop>(
     number: usize,
 ) -> Result<Producer<T>, AllocError>
     requires below { number < producers }
-    requires seat { IsPassOf (arc_value queue.now) seat.old × (known_by seat.old ≡ consumer number (size_of (ruled_capacity (arc_value queue.now)) producers) [] []) }
+    requires seat { IsPassOf (arc_value queue.now) seat.old × (known_by seat.old ≡ keeper number (size_of (ruled_capacity (arc_value queue.now)) producers) []) }
     ensures seat { IsPassOf (arc_value queue.now) seat.new }
-    ensures made { IfOk result (λ p. (p ≡ new_sender seat.old.table_id number producers (ruled_capacity (arc_value queue.now))) × (known_by seat.new ≡ consumer (number + 1) (size_of (ruled_capacity (arc_value queue.now)) producers) [] [])) }
+    ensures made { MatchResult result (λ p. (p ≡ new_sender seat.old.table_id number producers (ruled_capacity (arc_value queue.now))) × (known_by seat.new ≡ keeper (number + 1) (size_of (ruled_capacity (arc_value queue.now)) producers) [])) (λ _. known_by seat.new ≡ known_by seat.old) }
 {
     let notes = Notes::new(alloc)?;
     let shared = Arc::try_clone(queue)?;
