@@ -1,3 +1,6 @@
+pub mod Lists
+pub mod OpenedLemmas
 pub mod RowLemmas
 pub mod SettledLemmas
 pub mod ShuttingLemmas
+pub mod TakenBackLemmas
