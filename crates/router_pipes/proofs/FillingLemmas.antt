@@ -1,21 +1,17 @@
--- The pipes of free buffers, dealt and filled.
-use Rattle.std.proofs.Common.{◌≡◌, ℕ, suc, ◌+◌, ◌-◌, List, [], ◌∷◌, ◌++◌, length, map, refl, sym, ◌∙◌, ap, subst, arith, length-append}
+-- Pipes of free buffers, filled one after another.
+use Rattle.std.proofs.Common.{◌≡◌, ℕ, suc, ◌+◌, List, [], ◌∷◌, ◌++◌, length, map, refl, sym, ◌∙◌, ap, subst, length-append}
 use Rattle.std.proofs.lemmas.Grind.{flat_map-append}
 use Rattle.std.proofs.lemmas.List.{map-append}
-use Rattle.process_packet.specs.declared.config.Config.{Config}
 use Rattle.order_laws.specs.Deeds.{Pushed, payload_of, payloads}
 use Rattle.ruled_pipe.specs.declared.entry.Entry.{Entry}
 use Rattle.ruled_pipe.specs.declared.entry.Load.TheVariants.{Payload}
-use Rattle.ruled_pipe.specs.Consumer.{Taker}
 use Rattle.ruled_pipe.specs.Producer.{Sender, entry, offered}
 use Rattle.ruled_pipe.specs.Pipe.{Shape}
-use Rattle.router_rules.specs.Links.{link_count}
 use Rattle.stage_laws.specs.Ends.{pushed_in, pushes}
 use Rattle.stage_parts.specs.Back.{AreBack}
 use Rattle.stage_parts.specs.Same.{IsSameEnd}
-use Rattle.pipe_ends.specs.Rows.{AreDealt, AreFor, AreWide, DealsLast, Row, fresh_ends, new_takers}
-use Rattle.router_pipes.specs.Dealing.{AreFilled, AreFree}
-use Rattle.router_pipes.proofs.Fresh.{bundles_are}
+use Rattle.pipe_ends.specs.Rows.{fresh_ends}
+use Rattle.router_pipes.specs.Filling.{AreFilled}
 
 -- one payload more
 pub payload_more : {T : Type 0} (es : List (Entry T)) (n : ℕ) (x : T) → length (payloads (pushes (es ++ entry n (Payload x) ∷ []))) ≡ length (payloads (pushes es)) + 1
@@ -51,18 +47,3 @@ put_all number buffers (s ∷ ss) (f ∷ fs) all = ((all.0.0, all.0.1), put_all 
 
 pub filled : (number buffers : ℕ) (ss : List Shape) (es fs : List (Sender (List ℕ))) → es ≡ fresh_ends number ss → AreBack (HasPut buffers) es fs → AreFilled number buffers ss fs
 filled number buffers ss es fs is all = put_all number buffers ss fs (subst (λ (xs : List (Sender (List ℕ))). AreBack (HasPut buffers) xs fs) is all)
-
-pub free_are : (c : Config) (pipes : List Shape) (n b : ℕ) (ts : List (Taker (List ℕ))) (all bs : List (Row (List ℕ))) (last : Row (List ℕ)) (fs : List (Sender (List ℕ))) → DealsLast (List ℕ)
-    → length pipes ≡ link_count c → AreWide c.buffers pipes → AreFor n pipes → n ≡ c.processors + 2 + link_count c → b ≡ c.buffers - 1 → ts ≡ new_takers pipes → length all ≡ n → AreDealt pipes 0 all → all ≡ bs ++ last ∷ []
-    → ((number : ℕ) (ss : List Shape) → last.ends ≡ fresh_ends number ss → AreFilled number b ss fs) → AreFree c pipes ts bs fs
-free_are c pipes n b ts all bs last fs deals links wide for count some are long dealt split fills =
-    let apart = deals pipes bs last (subst (λ (xs : List (Row (List ℕ))). AreDealt pipes 0 xs) split dealt) in
-    let number : length bs ≡ c.processors + 1 + link_count c = let x = ap length split in let y = length-append bs (last ∷ []) in omega arith in
-    let put : AreFilled (length bs) b pipes fs = fills (length bs) pipes apart.1 in record {
-      measure = subst (λ (k : ℕ). AreFor k pipes) count for;
-      count = links;
-      wide = wide;
-      untaken = are;
-      dealt = bundles_are pipes (c.processors + 1 + link_count c) bs number apart.0;
-      full = subst (λ (k : ℕ). AreFilled (c.processors + 1 + link_count c) k pipes fs) some (subst (λ (k : ℕ). AreFilled k b pipes fs) number put);
-    }

@@ -1,5 +1,5 @@
--- Bundles in the workers' hands.
-use Rattle.std.proofs.Common.{◌≡◌, ℕ, zero, suc, ◌+◌, ◌<◌, ◌≤◌, Bool, true, false, List, [], ◌∷◌, ◌++◌, length, slice_get, Some, refl, sym, ap, subst, ◌∙◌, arith, append_assoc, append-nil, length-append}
+-- Ends in the workers' hands.
+use Rattle.std.proofs.Common.{◌≡◌, ℕ, zero, suc, ◌+◌, ◌<◌, ◌≤◌, Bool, true, false, List, [], ◌∷◌, ◌++◌, length, slice_get, Some, refl, sym, ap, subst, ◌∙◌, arith, length-append}
 use Rattle.std.proofs.lemmas.List.{map-append}
 use Rattle.order_laws.specs.Deeds.{closes, has_mark}
 use Rattle.ruled_pipe.specs.declared.entry.Entry.{Entry}
@@ -18,15 +18,6 @@ use Rattle.router_pipes.specs.Handing.{AreMarked, Finishes, HaveEvents, NeverClo
 new_ends : (T : Type 0) (p : ℕ) (shapes : List Shape) → AreEndsOf {T = T} p shapes (fresh_ends {T = T} p shapes)
 new_ends T p [] = tt
 new_ends T p (s ∷ ss) = ((refl, refl, refl, refl), new_ends T p ss)
-
--- what is taken of a list: one more, and all
-module _ {X : Type 0} where
-  pub one_taken : (xs old new all : List X) (x : X) → old ≡ x ∷ new → xs ++ old ≡ all → (xs ++ x ∷ []) ++ new ≡ all
-  one_taken xs old new all x is split = append_assoc xs (x ∷ []) new ∙ (ap (λ (l : List X). xs ++ l) (sym is) ∙ split)
-
-  pub all_taken : (xs old all given : List X) (n : ℕ) → xs ++ old ≡ all → n ≡ length old → n ≡ 0 → all ≡ given → xs ≡ given
-  all_taken xs [] all given n split long none same = sym (append-nil xs) ∙ (split ∙ same)
-  all_taken xs (y ∷ old) all given n split long none same = absurd (omega arith)
 
 module _ {T : Type 0} where
   fresh_mid : (p : ℕ) (shapes : List Shape) (xs rest : List (Sender T)) (e : Sender T) → xs ++ e ∷ rest ≡ fresh_ends p shapes → (e.offers ≡ []) × (e.refusals ≡ [])
@@ -71,13 +62,6 @@ module _ {T : Type 0} where
   marked_more [] o a is = (is, tt)
   marked_more (x ∷ os) o a is = (a.0, marked_more os o a.1 is)
 
-  pub bare_more : (os : List (Offering T)) (row next : List (Sender T)) (o : Offering T) (e : Sender T) → row ≡ senders os → AreMarked os → next ≡ row ++ e ∷ [] → e ≡ o.sender → IsMarked e o.ended
-      → (next ≡ senders (os ++ o ∷ [])) × AreMarked (os ++ o ∷ [])
-  bare_more os row next o e same marked put is one = (
-    put ∙ (ap (λ (l : List (Sender T)). l ++ e ∷ []) same ∙ (ap (λ (x : Sender T). senders os ++ x ∷ []) is ∙ sym (senders_more os o))),
-    marked_more os o marked (subst (λ (x : Sender T). IsMarked x o.ended) is one),
-  )
-
   pub senders_long : (os : List (Offering T)) → length (senders os) ≡ length os
   senders_long [] = refl
   senders_long (o ∷ os) = ap suc (senders_long os)
@@ -89,10 +73,6 @@ module _ {T : Type 0} where
   pub one_fewer : (os : List (Offering T)) (xs old new all : List (Sender T)) (e : Sender T) → senders os ≡ xs → old ≡ e ∷ new → xs ++ old ≡ all → length os < length all
   one_fewer os xs old new all e were is split =
       let a = ap length were in let b = senders_long os in let c = ap length is in let d = ap length split in omega (arith, length-append xs old)
-
-  pub one_short : (all os rest : List (Offering T)) (o : Offering T) (row : List (Sender T)) (room : ℕ) → os ++ o ∷ rest ≡ all → row ≡ senders os → length all ≤ room → length row < room
-  one_short all os rest o row room split same fits =
-      let a = ap length split in let b = ap length same in let c = senders_long os in omega (arith, length-append os (o ∷ rest))
 
   closes_as : (l : Load T) → closes (load_in l) ≡ is_closing l
   closes_as (Payload x) = refl

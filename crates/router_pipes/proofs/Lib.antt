@@ -1,5 +1,6 @@
 pub mod ClosingLemmas
-pub mod FreeLemmas
+pub mod FillingLemmas
 pub mod Fresh
 pub mod HandingLemmas
 pub mod OkLemmas
+pub mod PipesLemmas

@@ -1,5 +1,6 @@
 pub mod Piping
+pub mod Pipes
 pub mod Rest
-pub mod Dealing
+pub mod Filling
 pub mod Handing
 pub mod Closing

@@ -1,54 +1,50 @@
--- The pipes of a router, dealt.
-use Rattle.std.specs.Prelude.{◌≡◌, ◌+◌, ◌-◌, ℕ, List, [], ◌∷◌, length, Some, slice_get}
-use Rattle.process_packet.specs.declared.config.Config.{Config}
+-- The router's pipes: the workers get their ends one by one, and the pipes take them back.
+use Rattle.std.specs.Prelude.{◌≡◌, ℕ, List, []}
+use Rattle.order_laws.specs.Item.{Arrival, Outgoing}
+use Rattle.order_laws.specs.Settled.{SlowPathRequest}
 use Rattle.ruled_pipe.specs.Producer.{Sender}
-use Rattle.ruled_pipe.specs.Consumer.{Taker, new_taker}
-use Rattle.ruled_pipe.specs.Pipe.{Shape, IsEndOf}
-use Rattle.router_rules.specs.Links.{link_count}
-use Rattle.order_laws.specs.Deeds.{payloads}
-use Rattle.stage_laws.specs.Ends.{pushes}
-use Rattle.pipe_ends.specs.Rows.{AreDealt, AreFor, AreWide, HaveLeft, Row, fresh_ends, new_takers}
+use Rattle.ruled_pipe.specs.Pipe.{Keeping, shape_of}
+use Rattle.router_rules.specs.Rules.{kinds}
+use Rattle.pipe_ends.specs.Opened.{AreMade, shapes_of}
+use Rattle.pipe_ends.specs.TakenBack.{AreAllMade, AreColumns}
 use Rattle.router_pipes.specs.Piping.{Piping}
-use Rattle.router_pipes.specs.Rest.{IsRest}
 
-module _ {T : Type 0} where
-  -- A number of pipes, each for a number of producers, with what is dealt of them.
-  pub record IsDealing (producers number : ℕ) (pipes : List Shape) (rooms : List (Row T)) (takers : List (Taker T)) (bundles : List (Row T)) : Type 0 where
-    pub measure : AreFor producers pipes
-    pub count : length pipes ≡ number
-    pub emptied : HaveLeft producers 0 pipes rooms
-    pub untaken : takers ≡ new_takers pipes
-    pub dealt : (length bundles ≡ producers) × AreDealt pipes 0 bundles
+pub record Keepers : Type 0 where
+  pub inner : List (Keeping (Arrival kinds))
+  pub middle : Keeping (SlowPathRequest kinds)
+  pub outer : List (Keeping (Outgoing kinds))
+  pub free : List (Keeping (List ℕ))
 
-  -- worker p's producers of these pipes
-  abbrev pub IsBundleOf : List Shape → ℕ → Row T → Type 0
-  IsBundleOf pipes p b = b.ends ≡ fresh_ends p pipes
+abbrev pub keepers : List (Keeping (Arrival kinds)) → Keeping (SlowPathRequest kinds) → List (Keeping (Outgoing kinds)) → List (Keeping (List ℕ)) → Keepers
+keepers inner middle outer free = record { inner = inner; middle = middle; outer = outer; free = free }
 
-  -- a new producer of a pipe
-  abbrev pub IsNewEnd : Shape → ℕ → Sender T → Type 0
-  IsNewEnd pipe p s = IsEndOf pipe p s × (s.offers ≡ []) × (s.refusals ≡ [])
+abbrev pub piping_of : Keepers → Piping
+piping_of k = record { inner = shapes_of k.inner; middle = shape_of k.middle; outer = shapes_of k.outer; free = shapes_of k.free }
 
--- the consumer of the pipe of a number, which took nothing yet
-pub record IsTakerThere {T : Type 0} (pipes : List Shape) (i : ℕ) (t : Taker T) : Type 0 where
-  pub own : Shape
-  pub there : slice_get pipes i ≡ Some own
-  pub fresh : t ≡ new_taker own.pipe own.producers own.capacity
+-- Of each of these pipes so many producers were made, and none is back.
+pub record HaveMade (a m o f : ℕ) (p : Piping) (k : Keepers) : Type 0 where
+  pub piping : piping_of k ≡ p
+  pub inner : AreMade a k.inner
+  pub middle : (k.middle.made ≡ m) × (k.middle.senders ≡ [])
+  pub outer : AreMade o k.outer
+  pub free : AreMade f k.free
 
--- the producer of this number of each pipe put so many buffers into it
-abbrev pub AreFilled : (number buffers : ℕ) → List Shape → List (Sender (List ℕ)) → Type 0
-AreFilled number buffers [] [] = Unit {0}
-AreFilled number buffers (s ∷ ss) (f ∷ fs) = (IsEndOf s number f × (length (payloads (pushes f.offers)) ≡ buffers)) × AreFilled number buffers ss fs
-AreFilled number buffers _ _ = ⊥
+-- the ends that workers had, by workers: the receivers', the processors' of the slow path's pipe, and those of the links' pipes
+abbrev pub ReceiverRows : Type 0
+ReceiverRows = List (List (Sender (Arrival kinds)))
 
--- The pipes of free buffers, one a link: their consumers, and the producers of processors, slow path and forwarders. The last producer
--- of each put all buffers of its link but one into it; the receiver begins with that one.
-pub record AreFree (c : Config) (pipes : List Shape) (takers : List (Taker (List ℕ))) (bundles : List (Row (List ℕ))) (fillers : List (Sender (List ℕ))) : Type 0 where
-  pub measure : AreFor (c.processors + 2 + link_count c) pipes
-  pub count : length pipes ≡ link_count c
-  pub wide : AreWide c.buffers pipes
-  pub untaken : takers ≡ new_takers pipes
-  pub dealt : IsRest (IsBundleOf pipes) 0 (c.processors + 1 + link_count c) bundles
-  pub full : AreFilled (c.processors + 1 + link_count c) (c.buffers - 1) pipes fillers
+abbrev pub RequestRow : Type 0
+RequestRow = List (Sender (SlowPathRequest kinds))
 
-abbrev pub piping : List Shape → Shape → List Shape → List Shape → Piping
-piping inner middle outer free = record { inner = inner; middle = middle; outer = outer; free = free }
+abbrev pub LinkRows : Type 0
+LinkRows = List (List (Sender (Outgoing kinds)))
+
+-- All producers were made, and these are back.
+pub record HaveBack (receiver_rows : ReceiverRows) (request_row : RequestRow) (link_rows : LinkRows) (p : Piping) (k : Keepers) : Type 0 where
+  pub piping : piping_of k ≡ p
+  pub inner_made : AreAllMade k.inner
+  pub middle_made : k.middle.made ≡ k.middle.producers
+  pub outer_made : AreAllMade k.outer
+  pub inner : AreColumns 0 receiver_rows k.inner
+  pub middle : k.middle.senders ≡ request_row
+  pub outer : AreColumns 0 link_rows k.outer

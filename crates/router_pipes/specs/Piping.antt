@@ -1,7 +1,7 @@
 -- The pipes of a router.
-use Rattle.std.specs.Prelude.{◌≡◌, ◌+◌, ◌*◌, ℕ, List, length, if◌then◌else◌}
+use Rattle.std.specs.Prelude.{◌≡◌, ◌+◌, ◌*◌, ℕ, List, Some, length, slice_get, if◌then◌else◌}
 use Rattle.process_packet.specs.declared.config.Config.{Config}
-use Rattle.ruled_pipe.specs.Consumer.{Taker}
+use Rattle.ruled_pipe.specs.Consumer.{Taker, new_taker}
 use Rattle.ruled_pipe.specs.Pipe.{Shape}
 use Rattle.router_rules.specs.Links.{link_count}
 use Rattle.stage_parts.specs.Outlets.{are_used}
@@ -33,6 +33,8 @@ pub record IsPiping (c : Config) (p : Piping) : Type 0 where
   pub free_links : length p.free ≡ link_count c
   pub free_wide : AreWide c.buffers p.free
 
--- the consumer of this pipe
-abbrev pub IsTakerOf : {T : Type 0} → Shape → Taker T → Type 0
-IsTakerOf s t = (t.pipe ≡ s.pipe) × (t.producers ≡ s.producers) × (t.capacity ≡ s.capacity)
+-- the consumer of the pipe of a number, which took nothing yet
+pub record IsTakerThere {T : Type 0} (pipes : List Shape) (i : ℕ) (t : Taker T) : Type 0 where
+  pub own : Shape
+  pub there : slice_get pipes i ≡ Some own
+  pub fresh : t ≡ new_taker own.pipe own.producers own.capacity

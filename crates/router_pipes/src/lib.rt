@@ -1,8 +1,9 @@
-//! The pipes of a run with all their ends dealt, the events on which workers sleep, and the ends as workers
-//! have them and as the controller does, which closes links by them.
+//! The pipes of a run, the events on which workers sleep, and the ends of the pipes as workers have them and as
+//! the controller does, which closes links by them.
 #![tactic(auto)]
 
 mod closing;
+mod filling;
 mod handing;
 mod laws;
 mod pipes;
@@ -10,8 +11,9 @@ mod shutting;
 mod waking;
 
 pub use closing::{CloseFault, Controller};
-pub use handing::{bare, outlets};
+pub use filling::fill;
+pub use handing::outlets;
 pub use laws::finishes;
-pub use pipes::{AllPipes, Inputs, Pipes, all_pipes};
+pub use pipes::{Pipes, Takers, open_all};
 pub use shutting::shutters;
 pub use waking::{Events, events_for, notify_all, notify_one};

@@ -1,34 +1,40 @@
 //! The pipes of a router.
 
-ghost use Rattle.std.specs.Prelude.{◌≡◌, ◌+◌, ◌-◌, ◌*◌, ◌<◌, ◌≤◌, ℕ, List, IfOk, [], length};
-ghost use Rattle.order_laws.specs.Deeds.{payloads};
-ghost use Rattle.stage_laws.specs.Ends.{pushes};
-ghost use Rattle.pipe_ends.specs.Rows.{AreWide, AreWideAs, IsBundle, fresh_ends};
-ghost use Rattle.ruled_pipe.specs.Pipe.{Shape};
+ghost use Rattle.std.specs.Prelude.{◌≡◌, ◌+◌, ◌*◌, ◌<◌, ◌≤◌, ◌++◌, ◌∷◌, ℕ, List, IfOk, [], length};
+ghost use Rattle.ruled_pipe.specs.Consumer.{new_taker};
+ghost use Rattle.ruled_pipe.specs.Pipe.{IsNext, IsTakerOf, shape_of};
 ghost use Rattle.router_rules.specs.Links.{link_count};
-ghost use Rattle.router_pipes.specs.Piping.{IsTakerOf, outer_capacity};
-ghost use Rattle.router_pipes.specs.Dealing.{AreFilled, AreFree, IsDealing, IsNewEnd};
-ghost use Rattle.router_pipes.specs.Rest.{IsRest};
-ghost use Rattle.stage_parts.specs.Same.{IsSameEnd};
+ghost use Rattle.stage_parts.specs.Outlet.{IsMarked};
+ghost use Rattle.stage_parts.specs.Outlets.{senders};
+ghost use Rattle.pipe_ends.specs.Rows.{fresh_end, fresh_ends, new_takers};
+ghost use Rattle.pipe_ends.specs.Opened.{AreNewPipes, HaveNext, shapes_of};
+ghost use Rattle.pipe_ends.specs.TakenBack.{AreNext};
+ghost use Rattle.pipe_ends.specs.Settled.{IsDone};
+ghost use Rattle.pipe_ends.specs.Finished.{AreDone, AreReady, IsReady};
+ghost use Rattle.pipe_ends.specs.Shutting.{AreMarking, PushMarks, shutter_ends};
+ghost use Rattle.router_pipes.specs.Piping.{IsPiping, Piping, outer_capacity};
+ghost use Rattle.router_pipes.specs.Pipes.{HaveBack, HaveMade, LinkRows, ReceiverRows, RequestRow, piping_of};
+ghost use Rattle.router_pipes.specs.Handing.{AreMarked, NeverClosed};
 
+use crate::handing::take_back_outlets;
 use crate::shutting::is_used;
-use pipe_ends::{Dealt, Ends, Opened, deal, deals_last, open_pipes, take_last};
+use pipe_ends::{NewPipes, Shutter, mint_row, new_pipes, settle, settle_all, take_back_shutters};
 use router_rules::{Shared, link_count};
-use ruled_pipe::{Consumer, Pipe, Producer};
-use stage_parts::{Buffer, EgressPacket, Packet, Router, SlowPathRequest, both};
+use ruled_pipe::{Consumer, Keeper, Producer};
+use stage_parts::{Buffer, EgressPacket, Outlet, Packet, Router, SlowPathRequest, both};
 use std::alloc::{AllocError, Global};
-use std::sync::Wait;
+use std::marker::Model;
 
 /// The processors' pipes, with the receivers as their producers.
-fn inner_pipes<N: Router>(alloc: Global, shared: &Shared) -> Result<Dealt<Packet<N>>, AllocError>
-    ensures wide { IfOk result (λ d. AreWide shared.now.config.capacity d.pipes.items) }
-    ensures dealing { IfOk result (λ d. IsDealing (link_count shared.now.config) shared.now.config.processors d.pipes.items d.rooms.items d.takers.items d.bundles.items) }
+fn inner_pipes<N: Router>(alloc: Global, shared: &Shared) -> Result<NewPipes<Packet<N>>, AllocError>
+    ensures new { IfOk result (λ n. AreNewPipes (λ _. shared.now.config.capacity) (link_count shared.now.config) 0 n.pipes.items n.takers.items) }
+    ensures count { IfOk result (λ n. length n.pipes.items ≡ shared.now.config.processors) }
 {
     let links = link_count(&shared.config);
     let processors = usize::from(shared.config.processors);
     let capacity = shared.config.capacity as usize;
-    let opened = open_pipes(alloc, processors, capacity, links)?;
-    deal(alloc, opened)
+    let opened = new_pipes(alloc, processors, capacity, links)?;
+    Ok(opened)
 }
 
 // The capacity of the pipe at a place. One that isn't used holds one entry.
@@ -44,213 +50,218 @@ fn capacity_at(shared: &Shared, at: usize) -> usize
     }
 }
 
-fn open_outer<N: Router>(
-    alloc: Global,
-    shared: &Shared,
-) -> Result<Opened<EgressPacket<N>>, AllocError>
-    ensures producers { IfOk result (λ o. o.producers ≡ shared.now.config.processors + 2) }
-    ensures count { IfOk result (λ o. length o.pipes ≡ 2 * link_count shared.now.config) }
-    ensures wide { IfOk result (λ o. AreWideAs (outer_capacity shared.now.config) 0 o.pipes) }
-{
-    let links = link_count(&shared.config);
-    let processors = usize::from(shared.config.processors);
-    let mut opened = Opened::new(alloc, processors + 2);
-    for at in 0..2 * links {
-        opened = opened.with_pipe(alloc, capacity_at(shared, at))?;
-    }
-    Ok(opened)
-}
-
 /// The links' pipes, two of each, with processors, slow path and controller as their producers. The high
 /// band's of a link with one band isn't used.
 fn outer_pipes<N: Router>(
     alloc: Global,
     shared: &Shared,
-) -> Result<Dealt<EgressPacket<N>>, AllocError>
-    ensures wide { IfOk result (λ d. AreWideAs (outer_capacity shared.now.config) 0 d.pipes.items) }
-    ensures dealing { IfOk result (λ d. IsDealing (shared.now.config.processors + 2) (2 * link_count shared.now.config) d.pipes.items d.rooms.items d.takers.items d.bundles.items) }
+) -> Result<NewPipes<EgressPacket<N>>, AllocError>
+    ensures new { IfOk result (λ n. AreNewPipes (outer_capacity shared.now.config) (shared.now.config.processors + 2) 0 n.pipes.items n.takers.items) }
+    ensures count { IfOk result (λ n. length n.pipes.items ≡ 2 * link_count shared.now.config) }
 {
-    let opened = open_outer(alloc, shared)?;
-    deal(alloc, opened)
+    let links = link_count(&shared.config);
+    let producers = usize::from(shared.config.processors) + 2;
+    let mut opened = NewPipes::none(alloc);
+    for at in 0..2 * links {
+        opened = opened.with_pipe(alloc, capacity_at(shared, at), producers)?;
+    }
+    Ok(opened)
 }
 
-// The pipes of free buffers, one a link, with their consumers, the bundles of the processors, the slow path
-// and the forwarders, and the ends that filled them. All buffers of a link but one are there.
-#[derive(Drop)]
-struct FreePipes {
-    pipes: Vec<Pipe<Buffer>>,
-    takers: Vec<Consumer<Buffer>>,
-    bundles: Vec<Ends<Buffer>>,
-    fillers: Vec<Producer<Buffer>>,
-}
-
-/// The pipes of free buffers, filled.
-fn free_pipes<R: Wait>(rt: &R, alloc: Global, shared: &Shared) -> Result<FreePipes, AllocError>
-    ensures { IfOk result (λ f. AreFree shared.now.config f.pipes.items f.takers.items f.bundles.items f.fillers.items) }
+/// The pipes of free buffers, one a link, with processors, slow path, forwarders and whoever fills them as
+/// their producers.
+fn free_pipes(alloc: Global, shared: &Shared) -> Result<NewPipes<Buffer>, AllocError>
+    ensures new { IfOk result (λ n. AreNewPipes (λ _. shared.now.config.buffers) (shared.now.config.processors + 2 + link_count shared.now.config) 0 n.pipes.items n.takers.items) }
+    ensures count { IfOk result (λ n. length n.pipes.items ≡ link_count shared.now.config) }
 {
     let links = link_count(&shared.config);
     let processors = usize::from(shared.config.processors);
     let buffers = shared.config.buffers as usize;
-    let opened = open_pipes(alloc, links, buffers, processors + 2 + links)?;
-    let Dealt {
-        pipes,
-        rooms: _,
-        takers,
-        mut bundles,
-    } = deal(alloc, opened)?;
-    let last = take_last(&mut bundles);
-    deals_last::<Buffer>();
-    let fillers = fill(rt, alloc, last, buffers - 1)?;
-    Ok(FreePipes {
-        pipes,
-        takers,
-        bundles,
-        fillers,
-    })
-}
-
-// Puts a number of buffers into each pipe, by these new ends.
-fn fill<R: Wait>(
-    rt: &R,
-    alloc: Global,
-    ends: Ends<Buffer>,
-    buffers: usize,
-) -> Result<Vec<Producer<Buffer>>, AllocError>
-    requires { IsBundle ends.ends }
-    ensures { IfOk result (λ f. (number : ℕ) (pipes : List Shape) → ends.ends ≡ fresh_ends number pipes → AreFilled number buffers pipes f.items) }
-{
-    let items = ends.into_items();
-    let mut fillers = Vec::with_capacity(alloc, items.len())?;
-    for end in items {
-        let filler = fill_one(rt, alloc, end, buffers)?;
-        fillers.push_reserved(filler);
-    }
-    Ok(fillers)
-}
-
-fn fill_one<R: Wait>(
-    rt: &R,
-    alloc: Global,
-    end: Producer<Buffer>,
-    buffers: usize,
-) -> Result<Producer<Buffer>, AllocError>
-    requires { end.offers ≡ [] }
-    ensures same { IfOk result (λ f. IsSameEnd end f) }
-    ensures filled { IfOk result (λ f. length (payloads (pushes f.offers)) ≡ buffers) }
-{
-    let mut end = end;
-    for put in 0..buffers {
-        let _ = put;
-        let buffer = Buffer::new(alloc)?;
-        // Nobody else pushes yet, so none is refused; a pool that lacks one would be no pool of this size.
-        if end.offer(rt, buffer).is_err() {
-            return Err(AllocError);
-        }
-    }
-    Ok(end)
-}
-
-/// The pipes: those that are gathered in the end, with room for the ends of each, and those of free buffers
-/// with the ends that filled them.
-#[derive(Drop)]
-pub struct Pipes<N: Router> {
-    pub inner: Vec<Pipe<Packet<N>>>,
-    pub inner_rooms: Vec<Ends<Packet<N>>>,
-    pub middle: Pipe<SlowPathRequest<N>>,
-    pub outer: Vec<Pipe<EgressPacket<N>>>,
-    pub outer_rooms: Vec<Ends<EgressPacket<N>>>,
-    pub free: Vec<Pipe<Buffer>>,
-    pub fillers: Vec<Producer<Buffer>>,
+    let opened = new_pipes(alloc, links, buffers, processors + 2 + links)?;
+    Ok(opened)
 }
 
 /// The slow path's pipe, with the processors as its producers.
 fn middle_pipe<N: Router>(
     alloc: Global,
     shared: &Shared,
-) -> Result<
-    (
-        Pipe<SlowPathRequest<N>>,
-        Vec<Producer<SlowPathRequest<N>>>,
-        Consumer<SlowPathRequest<N>>,
-    ),
-    AllocError,
->
+) -> Result<(Keeper<SlowPathRequest<N>>, Consumer<SlowPathRequest<N>>), AllocError>
     ensures pipe { IfOk result (λ r. (r.0.producers ≡ shared.now.config.processors) × (r.0.capacity ≡ shared.now.config.capacity)) }
-    ensures ends { IfOk result (λ r. IsRest (IsNewEnd r.0) 0 shared.now.config.processors r.1.items) }
-    ensures taker { IfOk result (λ r. IsTakerOf r.0 r.2 × (r.2.taken ≡ [])) }
+    ensures new { IfOk result (λ r. (r.0.made ≡ 0) × (r.0.senders ≡ [])) }
+    ensures taker { IfOk result (λ r. IsTakerOf (shape_of r.0) r.1 × (r.1.taken ≡ [])) }
 {
     let processors = usize::from(shared.config.processors);
     let capacity = shared.config.capacity as usize;
-    let made = Pipe::new(alloc, capacity, processors)?;
+    let made = Keeper::new(alloc, capacity, processors)?;
     Ok(made)
 }
 
-/// What the processors and the slow path take from, and how the processors ask the slow path.
+/// The consumers of the router's pipes.
 #[derive(Drop)]
-pub struct Inputs<N: Router> {
-    /// The processors' consumers.
+pub struct Takers<N: Router> {
+    /// The processors'.
     pub packets: Vec<Consumer<Packet<N>>>,
-    /// The processors' ends of the slow path's pipe.
-    pub asking: Vec<Producer<SlowPathRequest<N>>>,
-    /// The slow path's consumer.
-    pub asked: Consumer<SlowPathRequest<N>>,
-}
-
-/// The pipes, with all their ends before any worker has them.
-#[derive(Drop)]
-pub struct AllPipes<N: Router> {
-    pub pipes: Pipes<N>,
-    /// The receivers' ends.
-    pub to_processors: Vec<Ends<Packet<N>>>,
-    pub inputs: Inputs<N>,
-    /// The processors', the slow path's and the controller's ends of the links' pipes.
-    pub to_links: Vec<Ends<EgressPacket<N>>>,
-    /// The forwarders' consumers.
+    /// The slow path's.
+    pub requests: Consumer<SlowPathRequest<N>>,
+    /// The forwarders', two of each.
     pub egress_packets: Vec<Consumer<EgressPacket<N>>>,
-    /// The receivers' consumers of free buffers.
+    /// The receivers', of free buffers.
     pub free_buffers: Vec<Consumer<Buffer>>,
-    /// The processors', the slow path's and the forwarders' ends of the pipes of free buffers.
-    pub to_free: Vec<Ends<Buffer>>,
 }
 
-/// Opens them all.
-pub fn all_pipes<N: Router, R: Wait>(
-    rt: &R,
+/// The pipes of a router. Before a run each worker gets the next of their ends, and after it they take these
+/// back, in the same order.
+#[derive(Drop)]
+pub struct Pipes<N: Router> {
+    inner: Vec<Keeper<Packet<N>>>,
+    middle: Keeper<SlowPathRequest<N>>,
+    outer: Vec<Keeper<EgressPacket<N>>>,
+    free: Vec<Keeper<Buffer>>,
+}
+
+impl<N: Router> Model for Pipes<N> {
+    ghost use Rattle.router_pipes.specs.Pipes.{Keepers, keepers};
+
+    ghost Value = { Keepers };
+
+    ghost view = { λ p. keepers p.inner.items p.middle p.outer.items p.free.items };
+}
+
+/// New pipes, and their consumers.
+pub fn open_all<N: Router>(
     alloc: Global,
     shared: &Shared,
-) -> Result<AllPipes<N>, AllocError>
-    ensures inner { IfOk result (λ a. IsDealing (link_count shared.now.config) shared.now.config.processors a.pipes.inner.items a.pipes.inner_rooms.items a.inputs.packets.items a.to_processors.items) }
-    ensures inner_wide { IfOk result (λ a. AreWide shared.now.config.capacity a.pipes.inner.items) }
-    ensures middle { IfOk result (λ a. (a.pipes.middle.producers ≡ shared.now.config.processors) × (a.pipes.middle.capacity ≡ shared.now.config.capacity)) }
-    ensures asking { IfOk result (λ a. IsRest (IsNewEnd a.pipes.middle) 0 shared.now.config.processors a.inputs.asking.items) }
-    ensures asked { IfOk result (λ a. IsTakerOf a.pipes.middle a.inputs.asked × (a.inputs.asked.taken ≡ [])) }
-    ensures outer { IfOk result (λ a. IsDealing (shared.now.config.processors + 2) (2 * link_count shared.now.config) a.pipes.outer.items a.pipes.outer_rooms.items a.egress_packets.items a.to_links.items) }
-    ensures outer_wide { IfOk result (λ a. AreWideAs (outer_capacity shared.now.config) 0 a.pipes.outer.items) }
-    ensures free { IfOk result (λ a. AreFree shared.now.config a.pipes.free.items a.free_buffers.items a.to_free.items a.pipes.fillers.items) }
+) -> Result<(Pipes<N>, Takers<N>), AllocError>
+    ensures piping { IfOk result (λ r. IsPiping shared.now.config (piping_of r.0)) }
+    ensures made { IfOk result (λ r. HaveMade 0 0 0 0 (piping_of r.0) r.0) }
+    ensures packets { IfOk result (λ r. r.1.packets.items ≡ new_takers (shapes_of r.0.inner)) }
+    ensures requests { IfOk result (λ r. IsTakerOf (shape_of r.0.middle) r.1.requests × (r.1.requests.taken ≡ [])) }
+    ensures egress_packets { IfOk result (λ r. r.1.egress_packets.items ≡ new_takers (shapes_of r.0.outer)) }
+    ensures free_buffers { IfOk result (λ r. r.1.free_buffers.items ≡ new_takers (shapes_of r.0.free)) }
 {
-    let free = free_pipes(rt, alloc, shared)?;
-    let (middle, asking, asked) = middle_pipe(alloc, shared)?;
+    let free = free_pipes(alloc, shared)?;
+    let (middle, requests) = middle_pipe(alloc, shared)?;
     let inner = inner_pipes(alloc, shared);
     let (inner, outer) = both(inner, outer_pipes(alloc, shared))?;
-    Ok(AllPipes {
-        pipes: Pipes {
-            inner: inner.pipes,
-            inner_rooms: inner.rooms,
-            middle,
-            outer: outer.pipes,
-            outer_rooms: outer.rooms,
-            free: free.pipes,
-            fillers: free.fillers,
-        },
-        to_processors: inner.bundles,
-        inputs: Inputs {
-            packets: inner.takers,
-            asking,
-            asked,
-        },
-        to_links: outer.bundles,
+    let pipes = Pipes {
+        inner: inner.pipes,
+        middle,
+        outer: outer.pipes,
+        free: free.pipes,
+    };
+    let takers = Takers {
+        packets: inner.takers,
+        requests,
         egress_packets: outer.takers,
         free_buffers: free.takers,
-        to_free: free.bundles,
-    })
+    };
+    Ok((pipes, takers))
+}
+
+impl<N: Router> Pipes<N> {
+    /// The next receiver's ends of the processors' pipes.
+    pub fn receiver_ends(&mut self, alloc: Global) -> Result<Vec<Producer<Packet<N>>>, AllocError>
+        requires { HaveNext self.old.inner }
+        ensures made { IfOk result (λ r. (a m o f : ℕ) (p : Piping) → HaveMade a m o f p self.old → HaveMade (a + 1) m o f p self.new) }
+        ensures ends { IfOk result (λ r. (a m o f : ℕ) (p : Piping) → HaveMade a m o f p self.old → r.items ≡ fresh_ends a p.inner) }
+    {
+        let ends = mint_row(alloc, &mut self.inner)?;
+        Ok(ends)
+    }
+
+    /// The next processor's end of the slow path's pipe.
+    pub fn request_end(&mut self, alloc: Global) -> Result<Producer<SlowPathRequest<N>>, AllocError>
+        requires { (self.old.middle.made < self.old.middle.producers) × (self.old.middle.senders ≡ []) }
+        ensures made { IfOk result (λ r. (a m o f : ℕ) (p : Piping) → HaveMade a m o f p self.old → HaveMade a (m + 1) o f p self.new) }
+        ensures end { IfOk result (λ r. (a m o f : ℕ) (p : Piping) → HaveMade a m o f p self.old → r ≡ fresh_end m p.middle) }
+    {
+        let end = self.middle.producer(alloc)?;
+        Ok(end)
+    }
+
+    /// The next worker's ends of the links' pipes: the processors', the slow path's, the controller's.
+    pub fn link_ends(&mut self, alloc: Global) -> Result<Vec<Producer<EgressPacket<N>>>, AllocError>
+        requires { HaveNext self.old.outer }
+        ensures made { IfOk result (λ r. (a m o f : ℕ) (p : Piping) → HaveMade a m o f p self.old → HaveMade a m (o + 1) f p self.new) }
+        ensures ends { IfOk result (λ r. (a m o f : ℕ) (p : Piping) → HaveMade a m o f p self.old → r.items ≡ fresh_ends o p.outer) }
+    {
+        let ends = mint_row(alloc, &mut self.outer)?;
+        Ok(ends)
+    }
+
+    /// The next ends of the pipes of free buffers: the processors', the slow path's, the forwarders', and
+    /// those that fill them.
+    pub fn free_ends(&mut self, alloc: Global) -> Result<Vec<Producer<Buffer>>, AllocError>
+        requires { HaveNext self.old.free }
+        ensures made { IfOk result (λ r. (a m o f : ℕ) (p : Piping) → HaveMade a m o f p self.old → HaveMade a m o (f + 1) p self.new) }
+        ensures ends { IfOk result (λ r. (a m o f : ℕ) (p : Piping) → HaveMade a m o f p self.old → r.items ≡ fresh_ends f p.free) }
+    {
+        let ends = mint_row(alloc, &mut self.free)?;
+        Ok(ends)
+    }
+
+    /// Takes back the next receiver's ends. It takes no memory.
+    pub fn take_back_receiver_ends(&mut self, ends: Vec<Outlet<Packet<N>>>)
+        requires { AreNext (senders ends.items) self.old.inner }
+        ensures back { (rs : ReceiverRows) (ms : RequestRow) (ls : LinkRows) (p : Piping) → HaveBack rs ms ls p self.old → HaveBack (rs ++ senders ends.items ∷ []) ms ls p self.new }
+        ensures marks { AreMarked ends.items }
+        ensures unclosed { NeverClosed (senders ends.items) }
+    {
+        take_back_outlets(&mut self.inner, ends);
+    }
+
+    /// Takes back the next processor's end of the slow path's pipe. It takes no memory.
+    pub fn take_back_request_end(&mut self, end: Outlet<SlowPathRequest<N>>)
+        requires { IsNext self.old.middle end.sender }
+        ensures back { (rs : ReceiverRows) (ms : RequestRow) (ls : LinkRows) (p : Piping) → HaveBack rs ms ls p self.old → HaveBack rs (ms ++ end.sender ∷ []) ls p self.new }
+        ensures marks { IsMarked end.sender end.ended }
+    {
+        let end = end.into_producer();
+        self.middle.absorb(end);
+    }
+
+    /// Takes back the next worker's ends of the links' pipes. It takes no memory.
+    pub fn take_back_link_ends(&mut self, ends: Vec<Outlet<EgressPacket<N>>>)
+        requires { AreNext (senders ends.items) self.old.outer }
+        ensures back { (rs : ReceiverRows) (ms : RequestRow) (ls : LinkRows) (p : Piping) → HaveBack rs ms ls p self.old → HaveBack rs ms (ls ++ senders ends.items ∷ []) p self.new }
+        ensures marks { AreMarked ends.items }
+        ensures unclosed { NeverClosed (senders ends.items) }
+    {
+        take_back_outlets(&mut self.outer, ends);
+    }
+
+    /// Takes back the controller's ends. It takes no memory.
+    pub fn take_back_shutters(&mut self, shutters: Vec<Shutter<EgressPacket<N>>>)
+        requires { AreNext (shutter_ends shutters.items) self.old.outer }
+        ensures back { (rs : ReceiverRows) (ms : RequestRow) (ls : LinkRows) (p : Piping) → HaveBack rs ms ls p self.old → HaveBack rs ms (ls ++ shutter_ends shutters.items ∷ []) p self.new }
+        ensures marking { AreMarking shutters.items }
+        ensures marks { PushMarks shutters.items }
+    {
+        take_back_shutters(&mut self.outer, shutters);
+    }
+
+    /// Settles the pipes, each with its consumer. It takes no memory.
+    pub fn settle(
+        self,
+        packets: Vec<Consumer<Packet<N>>>,
+        requests: Consumer<SlowPathRequest<N>>,
+        egress_packets: Vec<Consumer<EgressPacket<N>>>,
+    )
+        requires inner { AreReady self.inner packets.items }
+        requires middle { IsReady self.middle requests }
+        requires outer { AreReady self.outer egress_packets.items }
+        ensures inner { AreDone self.inner packets.items }
+        ensures middle { IsDone (shape_of self.middle) self.middle.senders requests }
+        ensures outer { AreDone self.outer egress_packets.items }
+    {
+        let Pipes {
+            inner,
+            middle,
+            outer,
+            free: _,
+        } = self;
+        settle_all(inner, packets);
+        settle(middle, requests);
+        settle_all(outer, egress_packets);
+    }
 }

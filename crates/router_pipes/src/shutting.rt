@@ -6,8 +6,9 @@ ghost use Rattle.pipe_ends.specs.Shutting.{AreNew, AreUnended, AreShutters};
 ghost use Rattle.ruled_pipe.specs.Pipe.{Shape};
 ghost use Rattle.stage_parts.specs.Outlets.{are_used};
 
-use pipe_ends::{Ends, Shutter};
+use pipe_ends::Shutter;
 use router_rules::Shared;
+use ruled_pipe::Producer;
 use std::alloc::{AllocError, Global};
 
 /// Whether the pipe at this place is used: the low band's of a link, or the high band's of one with two.
@@ -21,21 +22,20 @@ pub(crate) fn is_used(shared: &Shared, at: usize) -> bool
     shared.ports.two_bands((at / 2) as u16)
 }
 
-/// The controller's bundle of new ends. Of a link with one band the high band's pipe is not used.
+/// The controller's new ends. Of a link with one band the high band's pipe is not used.
 pub fn shutters<T: Drop>(
     alloc: Global,
     shared: &Shared,
-    bundle: Ends<T>,
+    ends: Vec<Producer<T>>,
 ) -> Result<Vec<Shutter<T>>, AllocError>
-    requires fresh { IsBundle bundle.ends }
-    requires few { length bundle.ends ≤ 66 }
-    ensures new { IfOk result (λ s. AreNew (are_used shared.now.config) 0 bundle.ends s.items) }
+    requires new { IsBundle ends.items }
+    requires few { length ends.items ≤ 66 }
+    ensures new { IfOk result (λ s. AreNew (are_used shared.now.config) 0 ends.items s.items) }
     ensures unended { IfOk result (λ s. AreUnended s.items) }
-    ensures ends { IfOk result (λ s. (p : ℕ) (shapes : List Shape) → AreEndsOf p shapes bundle.ends → AreShutters (are_used shared.now.config) 0 p shapes s.items) }
+    ensures ends { IfOk result (λ s. (p : ℕ) (shapes : List Shape) → AreEndsOf p shapes ends.items → AreShutters (are_used shared.now.config) 0 p shapes s.items) }
 {
-    let items = bundle.into_items();
-    let mut shutters = Vec::with_capacity(alloc, items.len())?;
-    for end in items {
+    let mut shutters = Vec::with_capacity(alloc, ends.len())?;
+    for end in ends {
         let used = is_used(shared, shutters.len());
         shutters.push_reserved(Shutter::of(end, used));
     }

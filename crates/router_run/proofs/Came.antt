@@ -20,7 +20,6 @@ use Rattle.router_stages.specs.Answering.{Answering}
 use Rattle.router_stages.specs.Forwarding.{Forwarding}
 use Rattle.router_stages.specs.Receiving.{Receiving}
 use Rattle.router_stages.specs.Working.{Working}
-use Rattle.stage_parts.specs.Outlet.{Offering}
 use Rattle.stage_parts.specs.Outlets.{are_used, senders}
 use Rattle.stage_parts.specs.Told.{Told, told_of}
 use Rattle.router_pipes.specs.Handing.{NeverClosed}
@@ -68,9 +67,6 @@ each_at Q (y ∷ xs) all (suc i) x at = each_at Q xs all.1 i x at
 each_all : {X Y : Type 0} (Q : X → Type 0) (W : ℕ → Y → Type 0) (f : X → Y) → ((n : ℕ) (x : X) → Q x → W n (f x)) → (n : ℕ) (xs : List X) → Each Q xs → AllAt W n (map f xs)
 each_all Q W f go n [] all = tt
 each_all Q W f go n (x ∷ xs) all = (go n x all.0, each_all Q W f go (n + 1) xs all.1)
-
-pub long_of : {T : Type 0} (xs : List (Offering T)) → length (senders xs) ≡ length xs
-long_of xs = length-map xs (λ (o : Offering _). o.sender)
 
 -- ---- each worker's law, at its number
 

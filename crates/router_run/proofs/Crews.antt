@@ -11,8 +11,8 @@ use Rattle.router_stages.specs.Answering.{Answering}
 use Rattle.router_stages.specs.Receiving.{Receiving}
 use Rattle.router_stages.specs.Working.{Working}
 use Rattle.stage_parts.specs.Outlets.{are_used, senders}
-use Rattle.pipe_ends.specs.Rows.{Row, rows_of}
-use Rattle.pipe_ends.specs.Settled.{AreBundles, AreTaken, HasTaken, HaveEnded, IsEnded}
+use Rattle.pipe_ends.specs.Finished.{AreRows, HaveFinished}
+use Rattle.pipe_ends.specs.Settled.{AreTaken, HasTaken, IsEnded}
 use Rattle.pipe_ends.specs.Shutting.{shutter_ends}
 use Rattle.stage_parts.specs.Back.{AreBack}
 use Rattle.router_run.proofs.Devices.{any}
@@ -21,14 +21,13 @@ use Rattle.run_report.specs.Crew.{Crew, inner_rows, inner_takers, middle_row, mi
 use Rattle.router_pipes.specs.Piping.{Piping}
 use Rattle.run_report.specs.Parting.{HasMarked}
 use Rattle.router_run.specs.Back.{IsBack}
-use Rattle.run_report.proofs.PartedLemmas.{rows_long}
-use Rattle.router_run.proofs.Rows.{A, P, R, back_long, inner_bundles, inner_taken, last_bundles, middle_ends, outer_bundles, outer_taken, slow_taken, working_long}
+use Rattle.router_run.proofs.Rows.{A, P, R, back_long, inner_ended, inner_taken, last_ended, middle_ends, outer_ended, outer_taken, slow_taken, working_long}
 
 -- All pipes have ended.
 pub record PipesEnd {S G K : Type 0} (p : Piping) (w : Crew S G K) : Type 0 where
-  pub inner : (bundles : List (Row (Arrival kinds))) → rows_of bundles ≡ inner_rows w → HaveEnded p.inner bundles (inner_takers w)
+  pub inner : HaveFinished p.inner (inner_rows w) (inner_takers w)
   pub middle : (t : Taker (SlowPathRequest kinds)) → middle_takers w ≡ t ∷ [] → IsEnded true p.middle (middle_row w) t
-  pub outer : (bundles : List (Row (Outgoing kinds))) → rows_of bundles ≡ outer_rows w → HaveEnded p.outer bundles (takers_of w.forwarders)
+  pub outer : HaveFinished p.outer (outer_rows w) (takers_of w.forwarders)
 
 module _ (c : Config) (p : Piping) where
   one_slow : (xs ys : List Answering) → AreAnswering c p xs → AreBack (A c p) xs ys → length ys ≡ 1
@@ -47,19 +46,17 @@ module _ {S G K : Type 0} (c : Config) (p : Piping) (old new : Crew S G K) (is :
   worked : length new.processors ≡ c.processors
   worked = back_long (P c p) old.processors new.processors back.processors ∙ (working_long c p 0 p.inner old.processors is.processors ∙ is.pipes.processors)
 
-  inner_count : (bs : List (Row (Arrival kinds))) → rows_of bs ≡ inner_rows new → link_count c ≡ length bs
-  inner_count bs same =
-      let a = rows_long bs (inner_rows new) same in
+  inner_count : link_count c ≡ length (inner_rows new)
+  inner_count =
       let b = length-map new.receivers (λ (r : Receiving S). senders r.side.processors) in
       let d = back_long (R c p) old.receivers new.receivers back.receivers in
       let e = is.receiver_count in
       omega arith
 
-  outer_count : (bs : List (Row (Outgoing kinds))) → rows_of bs ≡ outer_rows new → c.processors + 2 ≡ length bs
-  outer_count bs same =
+  outer_count : c.processors + 2 ≡ length (outer_rows new)
+  outer_count =
       let links = map (λ (w : Working G). senders w.side.links) new.processors in
       let slow = map (λ (a : Answering). senders a.side.links) new.slow in
-      let a = rows_long bs (outer_rows new) same in
       let b = length-map new.processors (λ (w : Working G). senders w.side.links) in
       let d = length-map new.slow (λ (a : Answering). senders a.side.links) in
       let e = one_slow c p old.slow new.slow is.slow back.slow in
@@ -68,11 +65,11 @@ module _ {S G K : Type 0} (c : Config) (p : Piping) (old new : Crew S G K) (is :
       let z = worked in
       omega arith
 
-  inner : (bs : List (Row (Arrival kinds))) → rows_of bs ≡ inner_rows new → HaveEnded p.inner bs (inner_takers new)
-  inner bs same = record {
+  inner : HaveFinished p.inner (inner_rows new) (inner_takers new)
+  inner = record {
     uses = λ j. true;
-    theirs = inner_bundles c p 0 old.receivers new.receivers bs is.receivers back.receivers marked.receivers same;
-    taken = subst (λ (n : ℕ). AreTaken (λ j. true) 0 n p.inner (inner_takers new)) (inner_count bs same) (inner_taken c p 0 (link_count c) 0 p.inner old.processors new.processors is.pipes.inner is.processors back.processors);
+    theirs = inner_ended c p 0 old.receivers new.receivers is.receivers back.receivers marked.receivers;
+    taken = subst (λ (n : ℕ). AreTaken (λ j. true) 0 n p.inner (inner_takers new)) inner_count (inner_taken c p 0 (link_count c) 0 p.inner old.processors new.processors is.pipes.inner is.processors back.processors);
   }
 
   middle : (t : Taker (SlowPathRequest kinds)) → middle_takers new ≡ t ∷ [] → IsEnded true p.middle (middle_row new) t
@@ -82,17 +79,16 @@ module _ {S G K : Type 0} (c : Config) (p : Piping) (old new : Crew S G K) (is :
     taker = middle_taken c p old.slow new.slow t is.slow back.slow same;
   }
 
-  last : (cs : List (Row (Outgoing kinds))) → rows_of cs ≡ map (λ (a : Answering). senders a.side.links) new.slow ++ (shutter_ends new.shutters ∷ []) → AreBundles (are_used c) (0 + length p.inner) p.outer cs
-  last cs same =
+  outer : HaveFinished p.outer (outer_rows new) (takers_of new.forwarders)
+  outer =
       let e : c.processors ≡ 0 + length p.inner = let q = is.pipes.processors in omega arith in
-      subst (λ (m : ℕ). AreBundles (are_used c) m p.outer cs) e (last_bundles c p old.slow new.slow old.shutters new.shutters cs is.slow back.slow marked.slow is.shutters back.shutters marked.shutters same)
-
-  outer : (bs : List (Row (Outgoing kinds))) → rows_of bs ≡ outer_rows new → HaveEnded p.outer bs (takers_of new.forwarders)
-  outer bs same = record {
-    uses = are_used c;
-    theirs = outer_bundles c p 0 p.inner old.processors new.processors (map (λ (a : Answering). senders a.side.links) new.slow ++ (shutter_ends new.shutters ∷ [])) bs is.processors back.processors marked.processors same last;
-    taken = subst (λ (n : ℕ). AreTaken (are_used c) 0 n p.outer (takers_of new.forwarders)) (outer_count bs same) (outer_taken c p 0 (c.processors + 2) p.outer old.forwarders new.forwarders is.pipes.outer is.forwarders back.forwarders);
-  }
+      let last = last_ended c p old.slow new.slow old.shutters new.shutters is.slow back.slow marked.slow is.shutters back.shutters marked.shutters in
+      let tail = map (λ (a : Answering). senders a.side.links) new.slow ++ (shutter_ends new.shutters ∷ []) in
+      record {
+        uses = are_used c;
+        theirs = outer_ended c p 0 p.inner old.processors new.processors tail is.processors back.processors marked.processors (subst (λ (m : ℕ). AreRows (are_used c) m p.outer tail) e last);
+        taken = subst (λ (n : ℕ). AreTaken (are_used c) 0 n p.outer (takers_of new.forwarders)) outer_count (outer_taken c p 0 (c.processors + 2) p.outer old.forwarders new.forwarders is.pipes.outer is.forwarders back.forwarders);
+      }
 
   pub crews_end : PipesEnd p new
   crews_end = record { inner = inner; middle = middle; outer = outer }

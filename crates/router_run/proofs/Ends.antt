@@ -9,7 +9,7 @@ use Rattle.router_pipes.specs.Handing.{AreSpared}
 use Rattle.stage_parts.specs.Same.{AreSameEnds, IsSameEnd, IsSameWhere}
 
 module _ {T : Type 0} where
-  same_end : (s : Shape) (p : ℕ) (a b : Sender T) → IsSameEnd a b → IsEndOf s p a → IsEndOf s p b
+  pub same_end : (s : Shape) (p : ℕ) (a b : Sender T) → IsSameEnd a b → IsEndOf s p a → IsEndOf s p b
   same_end s p a b same is = (same.0 ∙ is.0, same.1 ∙ is.1, same.2 ∙ is.2, same.3 ∙ is.3)
 
   same_where : (used : Bool) (s : Shape) (p : ℕ) (a b : Offering T) → IsSameWhere used a b → IsEndOf s p a.sender → IsEndOf s p b.sender

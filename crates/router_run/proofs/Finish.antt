@@ -8,7 +8,7 @@ use Rattle.process_packet.specs.declared.config.Config.{Config}
 use Rattle.process_packet.specs.declared.totals.Totals.{Totals}
 use Rattle.ruled_pipe.specs.Producer.{Sender}
 use Rattle.ruled_pipe.specs.Consumer.{Taker}
-use Rattle.ruled_pipe.specs.Pipe.{Shape}
+use Rattle.ruled_pipe.specs.Pipe.{Shape, shape_of}
 use Rattle.router_laws.specs.Heard.{Heard}
 use Rattle.router_laws.specs.Returned.{ForwarderBack, ProcessorBack, ReceiverBack, RunsAsTold, shares_of}
 use Rattle.router_laws.specs.Totals.{totals_of}
@@ -21,19 +21,20 @@ use Rattle.router_stages.specs.SameReceiver.{IsSameReceiver, ReceiverEnded}
 use Rattle.stage_parts.specs.Back.{AreBack}
 use Rattle.order_laws.specs.Deeds.{Each}
 use Rattle.router_stages.specs.Working.{Working}
-use Rattle.stage_parts.specs.Outlets.{senders}
 use Rattle.stage_parts.specs.Told.{Told, told_of}
-use Rattle.pipe_ends.specs.Rows.{HaveLeft, Row, rows_of}
-use Rattle.pipe_ends.specs.Settled.{AreSettled, HaveEnded, IsDone, IsEnded}
-use Rattle.run_report.specs.Parting.{HasKept, IsParted, IsSized, shares_in}
+use Rattle.pipe_ends.specs.Finished.{AreDone, AreReady, HaveFinished, IsReady}
+use Rattle.pipe_ends.specs.Settled.{AreSettled, IsDone, IsEnded}
+use Rattle.pipe_ends.proofs.TakenBackLemmas.{all_ready, settled_rows}
+use Rattle.run_report.specs.Parting.{HasEnds, HasKept, IsParted, shares_in}
 use Rattle.router_run.proofs.Devices.{any, without_devices}
 use Rattle.router_run.specs.Back.{HasSettled, back_of, forwarder_back, processor_back, receiver_back, IsBack}
-use Rattle.run_report.specs.Crew.{Crew, inner_rows, inner_takers, middle_takers, outer_rows, takers_of}
+use Rattle.run_report.specs.Crew.{Crew, inner_rows, inner_takers, middle_row, middle_takers, outer_rows, takers_of}
 use Rattle.router_run.specs.Wiring.{IsCrew}
 use Rattle.router_pipes.specs.Piping.{Piping}
+use Rattle.router_pipes.specs.Pipes.{HaveBack, Keepers}
 use Rattle.run_report.specs.Room.{HaveSpace, Space}
 use Rattle.router_run.specs.Run.{HasRun, Run}
-use Rattle.run_report.proofs.PartedLemmas.{rows_long}
+use Rattle.router_run.specs.WorkerParts.{AllMade}
 use Rattle.router_run.proofs.Came.{crews_return, map_twice}
 use Rattle.router_run.proofs.Crews.{PipesEnd}
 use Rattle.router_run.proofs.Promised.{promised}
@@ -51,50 +52,42 @@ asked_quietly told [] (y ∷ ys) back quiet = absurd back
 asked_quietly told (x ∷ xs) (y ∷ ys) back quiet = (quiet.0 back.0.1.ended, asked_quietly told xs ys back.1 quiet.1)
 
 -- the only slow path
-pub the_slow : {S G K : Type 0} (links processors : ℕ) (w : Crew S G K) → IsSized links processors w → (a : Answering) × (w.slow ≡ a ∷ [])
-the_slow links processors w sized = one_of w.slow sized.slow.1
+pub the_slow : {S G K : Type 0} (p : Piping) (links processors : ℕ) (w : Crew S G K) → HasEnds p links processors w → (a : Answering) × (w.slow ≡ a ∷ [])
+the_slow p links processors w ends = one_of w.slow ends.slow.1
 
 module _ {S G K : Type 0} where
-  -- the gathered pipes
-  module _ (w : Crew S G K) (inner_bundles : List (Row (Arrival kinds))) (inner : List (Taker (Arrival kinds))) (middle : List (Sender (SlowPathRequest kinds))) (asked : Taker (SlowPathRequest kinds)) (outer_bundles : List (Row (Outgoing kinds))) (outer : List (Taker (Outgoing kinds)))
-      (parted : IsParted w inner_bundles inner middle asked outer_bundles outer) where
-    pub inner_ended : (p : Piping) → PipesEnd p w → HaveEnded p.inner inner_bundles inner
-    inner_ended p ends = subst (λ (ts : List (Taker (Arrival kinds))). HaveEnded p.inner inner_bundles ts) (sym parted.inner_are) (ends.inner inner_bundles parted.inner_bundles_are)
+  -- the pipes can be settled, and then are
+  module _ (w : Crew S G K) (inner : List (Taker (Arrival kinds))) (middle : Taker (SlowPathRequest kinds)) (outer : List (Taker (Outgoing kinds))) (parted : IsParted w inner middle outer)
+      (p : Piping) (k : Keepers) (back : HaveBack (inner_rows w) (middle_row w) (outer_rows w) p k) where
+    pub inner_ready : PipesEnd p w → AreReady k.inner inner
+    inner_ready ends = all_ready (inner_rows w) k.inner inner
+        (subst (λ (ss : List Shape). HaveFinished ss (inner_rows w) inner) (sym (ap (λ (q : Piping). q.inner) back.piping)) (subst (λ (ts : List (Taker (Arrival kinds))). HaveFinished p.inner (inner_rows w) ts) (sym parted.inner_are) ends.inner))
+        back.inner back.inner_made
 
-    pub outer_ended : (p : Piping) → PipesEnd p w → HaveEnded p.outer outer_bundles outer
-    outer_ended p ends = subst (λ (ts : List (Taker (Outgoing kinds))). HaveEnded p.outer outer_bundles ts) (sym parted.outer_are) (ends.outer outer_bundles parted.outer_bundles_are)
+    pub outer_ready : PipesEnd p w → AreReady k.outer outer
+    outer_ready ends = all_ready (outer_rows w) k.outer outer
+        (subst (λ (ss : List Shape). HaveFinished ss (outer_rows w) outer) (sym (ap (λ (q : Piping). q.outer) back.piping)) (subst (λ (ts : List (Taker (Outgoing kinds))). HaveFinished p.outer (outer_rows w) ts) (sym parted.outer_are) ends.outer))
+        back.outer back.outer_made
 
-    pub middle_ended : (p : Piping) (a : Answering) → w.slow ≡ a ∷ [] → PipesEnd p w → IsEnded true p.middle middle asked
-    middle_ended p a one ends =
-        let at : middle_takers w ≡ asked ∷ [] = ap (map (λ (x : Answering). x.taker)) one ∙ ap (λ (t : Taker (SlowPathRequest kinds)). t ∷ []) (sym (parted.asked_is a one)) in
-        subst (λ (row : List (Sender (SlowPathRequest kinds))). IsEnded true p.middle row asked) (sym parted.middle_are) (ends.middle asked at)
+    pub middle_ready : (a : Answering) → w.slow ≡ a ∷ [] → PipesEnd p w → IsReady k.middle middle
+    middle_ready a one ends =
+        let at : middle_takers w ≡ middle ∷ [] = ap (map (λ (x : Answering). x.taker)) one ∙ ap (λ (t : Taker (SlowPathRequest kinds)). t ∷ []) (sym (parted.middle_is a one)) in
+        (back.middle_made, (true, subst (λ (s : Shape). IsEnded true s k.middle.senders middle) (sym (ap (λ (q : Piping). q.middle) back.piping)) (subst (λ (row : List (Sender (SlowPathRequest kinds))). IsEnded true p.middle row middle) (sym back.middle) (ends.middle middle at))))
 
-    pub settled : (p : Piping) (a : Answering) → w.slow ≡ a ∷ [] → AreSettled 0 (rows_of inner_bundles) p.inner inner → IsDone p.middle middle asked → AreSettled 0 (rows_of outer_bundles) p.outer outer → HasSettled p w
-    settled p a one si sm so = record {
-      inner = subst (λ (rows : List (List (Sender (Arrival kinds)))). AreSettled 0 rows p.inner (inner_takers w)) parted.inner_bundles_are (subst (λ (ts : List (Taker (Arrival kinds))). AreSettled 0 (rows_of inner_bundles) p.inner ts) parted.inner_are si);
+    pub settled : (a : Answering) → w.slow ≡ a ∷ [] → AreDone k.inner inner → IsDone (shape_of k.middle) k.middle.senders middle → AreDone k.outer outer → HasSettled p w
+    settled a one si sm so = record {
+      inner = subst (λ (ts : List (Taker (Arrival kinds))). AreSettled 0 (inner_rows w) p.inner ts) parted.inner_are
+          (subst (λ (ss : List Shape). AreSettled 0 (inner_rows w) ss inner) (ap (λ (q : Piping). q.inner) back.piping) (settled_rows (inner_rows w) 0 k.inner inner back.inner si));
       middle = λ t at.
-          let same : asked ≡ t = parted.asked_is a one ∙ (let e = ap (map (λ (x : Answering). x.taker)) (sym one) ∙ at in cc) in
-          subst (λ (row : List (Sender (SlowPathRequest kinds))). IsDone p.middle row t) parted.middle_are (subst (λ (u : Taker (SlowPathRequest kinds)). IsDone p.middle middle u) same sm);
-      outer = subst (λ (rows : List (List (Sender (Outgoing kinds)))). AreSettled 0 rows p.outer (takers_of w.forwarders)) parted.outer_bundles_are (subst (λ (ts : List (Taker (Outgoing kinds))). AreSettled 0 (rows_of outer_bundles) p.outer ts) parted.outer_are so);
+          let same : middle ≡ t = parted.middle_is a one ∙ (let e = ap (map (λ (x : Answering). x.taker)) (sym one) ∙ at in cc) in
+          subst (λ (u : Taker (SlowPathRequest kinds)). IsDone p.middle (middle_row w) u) same (subst (λ (row : List (Sender (SlowPathRequest kinds))). IsDone p.middle row middle) back.middle (subst (λ (s : Shape). IsDone s k.middle.senders middle) (ap (λ (q : Piping). q.middle) back.piping) sm));
+      outer = subst (λ (ts : List (Taker (Outgoing kinds))). AreSettled 0 (outer_rows w) p.outer ts) parted.outer_are
+          (subst (λ (ss : List Shape). AreSettled 0 (outer_rows w) ss outer) (ap (λ (q : Piping). q.outer) back.piping) (settled_rows (outer_rows w) 0 k.outer outer back.outer so));
     }
 
-    pub inner_count : (links processors : ℕ) → IsSized links processors w → length inner_bundles ≡ links
-    inner_count links processors sized = rows_long inner_bundles (inner_rows w) parted.inner_bundles_are ∙ (length-map w.receivers (λ (r : Receiving S). senders r.side.processors) ∙ sized.receivers.1)
-
-    pub outer_count : (links processors : ℕ) → IsSized links processors w → length outer_bundles ≡ processors + 2
-    outer_count links processors sized =
-        let a = rows_long outer_bundles (outer_rows w) parted.outer_bundles_are in
-        let slow = map (λ (x : Answering). senders x.side.links) w.slow in
-        let b = length-map w.processors (λ (q : Working G). senders q.side.links) in
-        let d = length-map w.slow (λ (x : Answering). senders x.side.links) in
-        let x = length-append (map (λ (q : Working G). senders q.side.links) w.processors) (slow ++ map (λ h. h.end) w.shutters ∷ []) in
-        let y = length-append slow (map (λ h. h.end) w.shutters ∷ []) in
-        let n = sized.workers.1 in let m = sized.slow.1 in
-        omega arith
-
   -- as many shares as workers
-  pub shares_count : (links processors : ℕ) (w : Crew S G K) → IsSized links processors w → length (shares_in w) ≡ 2 * links + processors + 1
-  shares_count links processors w sized =
+  pub shares_count : (p : Piping) (links processors : ℕ) (w : Crew S G K) → HasEnds p links processors w → length (shares_in w) ≡ 2 * links + processors + 1
+  shares_count p links processors w sized =
       let rs = map (λ (r : Receiving S). r.side.share) w.receivers in
       let ps = map (λ (q : Working G). q.side.share) w.processors in
       let ss = map (λ (x : Answering). x.side.share) w.slow in
@@ -150,13 +143,13 @@ module _ {S G K : Type 0} (told : S → Option (List Heard)) (shown : K → Opti
   pub run_as : (q r : Run S G K) (totals : Totals) (sent : List ℕ) (sources : List S) (sinks : List K) → q ≡ r → HasRun told shown failed same_source same_sink q totals sent sources sinks → HasRun told shown failed same_source same_sink r totals sent sources sinks
   run_as q r totals sent sources sinks e ran = subst (λ (x : Run S G K). HasRun told shown failed same_source same_sink x totals sent sources sinks) e ran
 
-pub left_as : {T : Type 0} (n m : ℕ) (ss : List Shape) (rs : List (Row T)) → n ≡ m → HaveLeft m 0 ss rs → HaveLeft n 0 ss rs
-left_as n m ss rs e left = subst (λ (k : ℕ). HaveLeft k 0 ss rs) (sym e) left
-
 -- ---- what stands in a running router, by another name of its configuration
 
 pub crew_as : {S G K : Type 0} (a b : Config) (p : Piping) (w : Crew S G K) → a ≡ b → IsCrew b p w → IsCrew a p w
 crew_as a b p w e is = subst (λ (c : Config). IsCrew c p w) (sym e) is
+
+pub all_made_as : (a b : Config) (p : Piping) (k : Keepers) → a ≡ b → AllMade b p k → AllMade a p k
+all_made_as a b p k e made = subst (λ (c : Config). AllMade c p k) (sym e) made
 
 pub space_as : (a b : Config) (r : Space) → a ≡ b → HaveSpace (link_count b) b.processors r → HaveSpace (link_count a) a.processors r
 space_as a b r e have = subst (λ (c : Config). HaveSpace (link_count c) c.processors r) (sym e) have

@@ -5,7 +5,7 @@ use Rattle.order_laws.specs.Item.{Arrival, Outgoing}
 use Rattle.process_packet.specs.declared.config.Config.{Config}
 use Rattle.ruled_pipe.specs.Producer.{Sender}
 use Rattle.ruled_pipe.specs.Consumer.{Taker}
-use Rattle.ruled_pipe.specs.Pipe.{Shape, IsEndOf}
+use Rattle.ruled_pipe.specs.Pipe.{Shape, IsEndOf, IsTakerOf}
 use Rattle.ruled_pipe.specs.Gathered.{ends_in}
 use Rattle.router_rules.specs.Links.{has_two_bands}
 use Rattle.router_rules.specs.Rules.{kinds}
@@ -18,8 +18,9 @@ use Rattle.stage_parts.specs.Outlet.{IsMarked}
 use Rattle.stage_parts.specs.Outlets.{are_used, senders}
 use Rattle.stage_parts.specs.Outlets as outlets
 use Rattle.router_pipes.specs.Handing.{AreMarked, AreSpared}
-use Rattle.pipe_ends.specs.Rows.{AreFor, Row, rows_of}
-use Rattle.pipe_ends.specs.Settled.{AreBundles, AreFinished, AreOfPipe, AreTaken, HasTaken, IsFinal}
+use Rattle.pipe_ends.specs.Rows.{AreFor}
+use Rattle.pipe_ends.specs.Finished.{AreRows}
+use Rattle.pipe_ends.specs.Settled.{AreFinished, AreOfPipe, AreTaken, HasTaken, IsFinal}
 use Rattle.pipe_ends.specs.Shutting.{AreMarking, AreShutters, EachEnds, Shutting, shutter_ends}
 use Rattle.stage_parts.specs.Back.{AreBack}
 use Rattle.stage_parts.specs.Same.{AreSameEnds, IsSameTaker}
@@ -29,7 +30,7 @@ use Rattle.router_stages.specs.SameSlowPath.{IsSameSlowPath, SlowPathEnded}
 use Rattle.router_stages.specs.SameForwarder.{IsSameForwarder}
 use Rattle.router_run.proofs.Devices.{any}
 use Rattle.router_run.specs.Wiring.{IsReceivingAt, AreWorking, AreAnswering, IsForwardingAt, AreForwarding}
-use Rattle.router_pipes.specs.Piping.{Piping, IsTakerOf}
+use Rattle.router_pipes.specs.Piping.{Piping}
 use Rattle.wired_workers.specs.Kits.{IsWorkingAt, IsAnsweringAt}
 use Rattle.run_report.specs.Crew.{takers_of}
 use Rattle.router_run.proofs.Ends.{same_ends, spared}
@@ -63,19 +64,15 @@ module _ {S : Type 0} (c : Config) (p : Piping) where
   receiver_finished n a b is back marked =
       finishes (λ j. true) n p.inner b.side.processors (same_ends (λ j. true) n p.inner a.side.processors b.side.processors back.0.processors is.processors) marked back.1.processors (all_picked (senders b.side.processors))
 
-  pub inner_bundles : (n : ℕ) (xs ys : List (Receiving S)) (bs : List (Row (Arrival kinds))) → AllAt (IsReceivingAt c p) n xs → AreBack R xs ys → Each (λ (r : Receiving S). AreMarked r.side.processors) ys
-      → rows_of bs ≡ map (λ (r : Receiving S). senders r.side.processors) ys → AreBundles (λ j. true) n p.inner bs
-  inner_bundles n [] [] [] all back marked same = tt
-  inner_bundles n [] [] (b ∷ bs) all back marked same = absurd cc
-  inner_bundles n [] (y ∷ ys) bs all back marked same = absurd back
-  inner_bundles n (x ∷ xs) [] bs all back marked same = absurd back
-  inner_bundles n (x ∷ xs) (y ∷ ys) [] all back marked same = absurd cc
-  inner_bundles n (x ∷ xs) (y ∷ ys) (b ∷ bs) all back marked same =
-      let head : b.ends ≡ senders y.side.processors = cc in
-      let rest : rows_of bs ≡ map (λ (r : Receiving S). senders r.side.processors) ys = cc in
+  pub inner_ended : (n : ℕ) (xs ys : List (Receiving S)) → AllAt (IsReceivingAt c p) n xs → AreBack R xs ys → Each (λ (r : Receiving S). AreMarked r.side.processors) ys
+      → AreRows (λ j. true) n p.inner (map (λ (r : Receiving S). senders r.side.processors) ys)
+  inner_ended n [] [] all back marked = tt
+  inner_ended n [] (y ∷ ys) all back marked = absurd back
+  inner_ended n (x ∷ xs) [] all back marked = absurd back
+  inner_ended n (x ∷ xs) (y ∷ ys) all back marked =
       let next : n + 1 ≡ suc n = omega arith in (
-        subst (λ (es : List (Sender (Arrival kinds))). AreFinished (λ j. true) 0 n p.inner es) (sym head) (receiver_finished n x y all.0 back.0 marked.0),
-        subst (λ (m : ℕ). AreBundles (λ j. true) m p.inner bs) next (inner_bundles (n + 1) xs ys bs all.1 back.1 marked.1 rest),
+        receiver_finished n x y all.0 back.0 marked.0,
+        subst (λ (m : ℕ). AreRows (λ j. true) m p.inner (map (λ (r : Receiving S). senders r.side.processors) ys)) next (inner_ended (n + 1) xs ys all.1 back.1 marked.1),
       )
 
 module _ {G : Type 0} (c : Config) (p : Piping) where
@@ -130,26 +127,21 @@ module _ {G : Type 0} (c : Config) (p : Piping) where
   abbrev links_of : List (Working G) → List (List (Sender (Outgoing kinds)))
   links_of ws = map (λ (w : Working G). senders w.side.links) ws
 
-  -- the bundles of the processors from number i on, and of those after them
-  pub outer_bundles : (i : ℕ) (ss : List Shape) (xs ys : List (Working G)) (tail : List (List (Sender (Outgoing kinds)))) (bs : List (Row (Outgoing kinds)))
+  -- the rows of the processors from number i on, and of those after them
+  pub outer_ended : (i : ℕ) (ss : List Shape) (xs ys : List (Working G)) (tail : List (List (Sender (Outgoing kinds))))
       → AreWorking c p i ss xs → AreBack P xs ys → Each (λ (w : Working G). AreMarked w.side.links × IsMarked w.slow.sender w.slow.ended) ys
-      → rows_of bs ≡ links_of ys ++ tail
-      → ((cs : List (Row (Outgoing kinds))) → rows_of cs ≡ tail → AreBundles (are_used c) (i + length ss) p.outer cs)
-      → AreBundles (are_used c) i p.outer bs
-  outer_bundles i [] [] [] tail bs are back marked same rest = let e : i + 0 ≡ i = omega arith in subst (λ (m : ℕ). AreBundles (are_used c) m p.outer bs) e (rest bs same)
-  outer_bundles i [] [] (y ∷ ys) tail bs are back marked same rest = absurd back
-  outer_bundles i [] (x ∷ xs) ys tail bs are back marked same rest = absurd are
-  outer_bundles i (s ∷ ss) [] ys tail bs are back marked same rest = absurd are
-  outer_bundles i (s ∷ ss) (x ∷ xs) [] tail bs are back marked same rest = absurd back
-  outer_bundles i (s ∷ ss) (x ∷ xs) (y ∷ ys) tail [] are back marked same rest = absurd cc
-  outer_bundles i (s ∷ ss) (x ∷ xs) (y ∷ ys) tail (b ∷ bs) are back marked same rest =
-      let head : b.ends ≡ senders y.side.links = cc in
-      let others : rows_of bs ≡ links_of ys ++ tail = cc in
+      → AreRows (are_used c) (i + length ss) p.outer tail → AreRows (are_used c) i p.outer (links_of ys ++ tail)
+  outer_ended i [] [] [] tail are back marked rest = let e : i + 0 ≡ i = omega arith in subst (λ (m : ℕ). AreRows (are_used c) m p.outer tail) e rest
+  outer_ended i [] [] (y ∷ ys) tail are back marked rest = absurd back
+  outer_ended i [] (x ∷ xs) ys tail are back marked rest = absurd are
+  outer_ended i (s ∷ ss) [] ys tail are back marked rest = absurd are
+  outer_ended i (s ∷ ss) (x ∷ xs) [] tail are back marked rest = absurd back
+  outer_ended i (s ∷ ss) (x ∷ xs) (y ∷ ys) tail are back marked rest =
       let next : i + 1 ≡ suc i = omega arith in
       let far : i + suc (length ss) ≡ (i + 1) + length ss = omega arith in (
-        subst (λ (es : List (Sender (Outgoing kinds))). AreFinished (are_used c) 0 i p.outer es) (sym head) (processor_finished i s x y are.0 back.0 marked.0.0),
-        subst (λ (m : ℕ). AreBundles (are_used c) m p.outer bs) next
-            (outer_bundles (i + 1) ss xs ys tail bs are.1 back.1 marked.1 others (λ cs e. subst (λ (m : ℕ). AreBundles (are_used c) m p.outer cs) far (rest cs e))),
+        processor_finished i s x y are.0 back.0 marked.0.0,
+        subst (λ (m : ℕ). AreRows (are_used c) m p.outer (links_of ys ++ tail)) next
+            (outer_ended (i + 1) ss xs ys tail are.1 back.1 marked.1 (subst (λ (m : ℕ). AreRows (are_used c) m p.outer tail) far rest)),
       )
 
 -- ---- the slow path and the controller
@@ -172,27 +164,18 @@ module _ (c : Config) (p : Piping) where
   pub slow_taken : (a b : Answering) → IsAnsweringAt c p a → A a b → HasTaken true p.middle b.taker
   slow_taken a b is back = has_taken true p.middle b.taker (taken_of p.middle a.taker b.taker is.taker back.0.taker) (λ u. let d = back.1.done in omega arith)
 
-  -- their bundles are the last two
-  pub last_bundles : (xs ys : List Answering) (hs ks : List (Shutting (Outgoing kinds))) (rows : List (Row (Outgoing kinds)))
+  -- their rows are the last two
+  pub last_ended : (xs ys : List Answering) (hs ks : List (Shutting (Outgoing kinds)))
       → AreAnswering c p xs → AreBack A xs ys → Each (λ (a : Answering). AreMarked a.side.links) ys → AreShutters (are_used c) 0 (c.processors + 1) p.outer hs → EachEnds hs ks → AreMarking ks
-      → rows_of rows ≡ map (λ (a : Answering). senders a.side.links) ys ++ (shutter_ends ks ∷ []) → AreBundles (are_used c) c.processors p.outer rows
-  last_bundles [] ys hs ks rows are back marked shut ends marking same = absurd are
-  last_bundles (a ∷ b ∷ xs) ys hs ks rows are back marked shut ends marking same = absurd are
-  last_bundles (a ∷ []) [] hs ks rows are back marked shut ends marking same = absurd back
-  last_bundles (a ∷ []) (b ∷ d ∷ ys) hs ks rows are back marked shut ends marking same = absurd back.1
-  last_bundles (a ∷ []) (b ∷ []) hs ks [] are back marked shut ends marking same = absurd cc
-  last_bundles (a ∷ []) (b ∷ []) hs ks (r ∷ []) are back marked shut ends marking same = absurd cc
-  last_bundles (a ∷ []) (b ∷ []) hs ks (r ∷ s ∷ t ∷ rows) are back marked shut ends marking same = absurd cc
-  last_bundles (a ∷ []) (b ∷ []) hs ks (r ∷ s ∷ []) are back marked shut ends marking same =
-      let first : r.ends ≡ senders b.side.links = cc in
-      let second : s.ends ≡ shutter_ends ks = cc in
+      → AreRows (are_used c) c.processors p.outer (map (λ (a : Answering). senders a.side.links) ys ++ (shutter_ends ks ∷ []))
+  last_ended [] ys hs ks are back marked shut ends marking = absurd are
+  last_ended (a ∷ b ∷ xs) ys hs ks are back marked shut ends marking = absurd are
+  last_ended (a ∷ []) [] hs ks are back marked shut ends marking = absurd back
+  last_ended (a ∷ []) (b ∷ d ∷ ys) hs ks are back marked shut ends marking = absurd back.1
+  last_ended (a ∷ []) (b ∷ []) hs ks are back marked shut ends marking =
       let next : c.processors + 1 ≡ suc c.processors = omega arith in (
-        subst (λ (es : List (Sender (Outgoing kinds))). AreFinished (are_used c) 0 c.processors p.outer es) (sym first) (slow_finished a b are back.0 marked.0),
-        (
-          subst (λ (es : List (Sender (Outgoing kinds))). AreFinished (are_used c) 0 (suc c.processors) p.outer es) (sym second)
-              (subst (λ (m : ℕ). AreFinished (are_used c) 0 m p.outer (shutter_ends ks)) next (shutters_finish (are_used c) (c.processors + 1) p.outer hs ks shut ends marking)),
-          tt,
-        ),
+        slow_finished a b are back.0 marked.0,
+        (subst (λ (m : ℕ). AreFinished (are_used c) 0 m p.outer (shutter_ends ks)) next (shutters_finish (are_used c) (c.processors + 1) p.outer hs ks shut ends marking), tt),
       )
 
 -- ---- forwarders

@@ -7,7 +7,7 @@ use Rattle.router_rules.specs.Links.{link_count}
 use Rattle.stage_parts.specs.Outlets.{are_used}
 use Rattle.pipe_ends.specs.Rows.{fresh_ends}
 use Rattle.pipe_ends.specs.Shutting.{AreNew}
-use Rattle.router_pipes.specs.Dealing.{AreFilled}
+use Rattle.router_pipes.specs.Filling.{AreFilled}
 use Rattle.router_run.specs.Run.{Run}
 use Rattle.router_run.specs.Wiring.{IsCrew}
 use Rattle.router_run.specs.declared.fault.StartFault.{StartFault}

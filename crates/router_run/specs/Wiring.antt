@@ -9,11 +9,10 @@ use Rattle.router_stages.specs.Working.{Working}
 use Rattle.stage_parts.specs.Outlets.{senders, are_used}
 use Rattle.pipe_ends.specs.Shutting.{AreUnended, AreShutters}
 use Rattle.run_report.specs.Crew.{Crew}
-use Rattle.router_pipes.specs.Piping.{Piping, IsPiping, IsTakerOf}
-use Rattle.ruled_pipe.specs.Pipe.{Shape}
+use Rattle.router_pipes.specs.Piping.{Piping, IsPiping, IsTakerThere}
+use Rattle.ruled_pipe.specs.Pipe.{Shape, IsTakerOf}
 use Rattle.router_rules.specs.Links.{interface_at, link_count}
 use Rattle.pipe_ends.specs.Rows.{AreEndsOf, fresh_ends}
-use Rattle.router_pipes.specs.Dealing.{IsTakerThere}
 use Rattle.wired_workers.specs.Kits.{IsAnsweringAt, IsWorkingAt}
 
 module _ {S : Type 0} where

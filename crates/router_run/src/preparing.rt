@@ -3,7 +3,6 @@
 ghost use Rattle.std.specs.Prelude.{◌≡◌, ◌+◌, ◌*◌, ◌≤◌, IfOk, Some};
 ghost use Rattle.std.specs.Arc.{arc_value};
 ghost use Rattle.router_rules.specs.Links.{link_count};
-ghost use Rattle.router_pipes.specs.Dealing.{piping};
 ghost use Rattle.wired_workers.specs.Shares.{AreNewShares};
 ghost use Rattle.router_run.specs.Teams.{AreTeamsFor};
 ghost use Rattle.run_report.specs.Room.{HaveSpace};
@@ -141,7 +140,7 @@ where
     requires config { N.config ≡ Some config }
     requires workers { N.workers ≡ 2 * link_count config + config.processors + 1 }
     ensures shared { IfOk result (λ p. (arc_value p.base.common.shared).config ≡ config) }
-    ensures worker_parts { IfOk result (λ p. AreWorkerParts config (piping p.worker_parts.pipes.inner.items p.worker_parts.pipes.middle p.worker_parts.pipes.outer.items p.worker_parts.pipes.free.items) p.worker_parts.pipes.inner_rooms.items p.worker_parts.pipes.outer_rooms.items p.worker_parts.receivers.items p.worker_parts.processors.items p.worker_parts.slow p.worker_parts.forwarders.items p.worker_parts.shutters.items p.worker_parts.pipes.fillers.items) }
+    ensures worker_parts { IfOk result (λ p. AreWorkerParts config p.worker_parts.pipes p.worker_parts.receivers.items p.worker_parts.processors.items p.worker_parts.slow p.worker_parts.forwarders.items p.worker_parts.shutters.items p.worker_parts.fillers.items) }
     ensures teams { IfOk result (λ p. AreTeamsFor (link_count config) config.processors p.teams.receivers p.teams.processors p.teams.slow p.teams.forwarders) }
     ensures space { IfOk result (λ p. HaveSpace (link_count config) config.processors p.space) }
 {

@@ -7,7 +7,6 @@ ghost use Rattle.router_laws.specs.Heard.{ToldNothing};
 ghost use Rattle.router_rules.specs.Links.{link_count};
 ghost use Rattle.router_pipes.specs.Closing.{Closing};
 ghost use Rattle.router_run.specs.Run.{HasRun, IsSameRun};
-ghost use Rattle.router_pipes.specs.Dealing.{piping};
 ghost use Rattle.router_run.specs.WorkerParts.{AreWorkerParts};
 ghost use Rattle.router_run.specs.Teams.{AreTeamsFor};
 ghost use Rattle.run_report.specs.Room.{HaveSpace};
@@ -23,8 +22,9 @@ use process_packet::Config;
 use router_pipes::{CloseFault, Controller, Events, Pipes};
 use router_rules::{causes_are_apart, link_count, links_stand_in_order, rules_are_lawful};
 use router_stages::{Forwarder, Processor, Receiver, SlowPath};
-use run_report::{Report, Space, gather_pipes, part_all, report_of};
-use stage_parts::{Event, Gate, Router, Sink, Source};
+use ruled_pipe::Producer;
+use run_report::{Report, Space, part_all, report_of};
+use stage_parts::{Buffer, Event, Gate, Router, Sink, Source};
 use std::alloc::Global;
 use std::marker::Model;
 use std::rt::Clock;
@@ -47,6 +47,7 @@ where
     orders: Orders<Book<N>>,
     threads: Threaded<N, S, K, G>,
     pipes: Pipes<N>,
+    fillers: Vec<Producer<Buffer>>,
     space: Space<N, S, K>,
 }
 
@@ -59,19 +60,19 @@ where
 {
     ghost use Rattle.std.specs.Prelude.{◌≡◌, ◌+◌, ◌*◌};
     ghost use Rattle.std.specs.Arc.{arc_value};
-    ghost use Rattle.pipe_ends.specs.Rows.{HaveLeft};
     ghost use Rattle.router_rules.specs.Links.{link_count};
     ghost use Rattle.router_run.specs.Wiring.{IsCrew};
-    ghost use Rattle.router_pipes.specs.Dealing.{piping};
+    ghost use Rattle.router_pipes.specs.Pipes.{piping_of};
     ghost use Rattle.run_report.specs.Room.{HaveSpace};
     ghost use Rattle.router_run.specs.Run.{Run};
+    ghost use Rattle.router_run.specs.WorkerParts.{AllMade};
     ghost use Rattle.run_report.specs.Crew.{crew_of};
 
     ghost Value = { Run S G K };
 
-    ghost view = { λ r. record { config = (arc_value r.controller.shared).config; pipes = piping r.pipes.inner.items r.pipes.middle r.pipes.outer.items r.pipes.free.items; fillers = r.pipes.fillers.items; crew = crew_of r.threads.receivers r.threads.processors r.threads.slow r.threads.forwarders r.controller.shutters.items } };
+    ghost view = { λ r. record { config = (arc_value r.controller.shared).config; pipes = piping_of r.pipes; fillers = r.fillers.items; crew = crew_of r.threads.receivers r.threads.processors r.threads.slow r.threads.forwarders r.controller.shutters.items } };
 
-    ghost invariant = { λ r. (N.workers ≡ 2 * link_count (arc_value r.controller.shared).config + (arc_value r.controller.shared).config.processors + 1) × IsCrew (arc_value r.controller.shared).config (piping r.pipes.inner.items r.pipes.middle r.pipes.outer.items r.pipes.free.items) (crew_of r.threads.receivers r.threads.processors r.threads.slow r.threads.forwarders r.controller.shutters.items) × HaveLeft (link_count (arc_value r.controller.shared).config) 0 r.pipes.inner.items r.pipes.inner_rooms.items × HaveLeft ((arc_value r.controller.shared).config.processors + 2) 0 r.pipes.outer.items r.pipes.outer_rooms.items × HaveSpace (link_count (arc_value r.controller.shared).config) (arc_value r.controller.shared).config.processors r.space };
+    ghost invariant = { λ r. (N.workers ≡ 2 * link_count (arc_value r.controller.shared).config + (arc_value r.controller.shared).config.processors + 1) × IsCrew (arc_value r.controller.shared).config (piping_of r.pipes) (crew_of r.threads.receivers r.threads.processors r.threads.slow r.threads.forwarders r.controller.shutters.items) × AllMade (arc_value r.controller.shared).config (piping_of r.pipes) r.pipes × HaveSpace (link_count (arc_value r.controller.shared).config) (arc_value r.controller.shared).config.processors r.space };
 }
 
 // Whether there is one source and one sink a link.
@@ -133,7 +134,7 @@ where
     K: Sink + Send + Drop + 'static,
     G: Gate + Send + Sync + Drop + 'static,
     R: Threads + Wait + Clock + Copy + Send + 'static,
-    requires worker_parts { AreWorkerParts (arc_value prepared.base.common.shared).config (piping prepared.worker_parts.pipes.inner.items prepared.worker_parts.pipes.middle prepared.worker_parts.pipes.outer.items prepared.worker_parts.pipes.free.items) prepared.worker_parts.pipes.inner_rooms.items prepared.worker_parts.pipes.outer_rooms.items prepared.worker_parts.receivers.items prepared.worker_parts.processors.items prepared.worker_parts.slow prepared.worker_parts.forwarders.items prepared.worker_parts.shutters.items prepared.worker_parts.pipes.fillers.items }
+    requires worker_parts { AreWorkerParts (arc_value prepared.base.common.shared).config prepared.worker_parts.pipes prepared.worker_parts.receivers.items prepared.worker_parts.processors.items prepared.worker_parts.slow prepared.worker_parts.forwarders.items prepared.worker_parts.shutters.items prepared.worker_parts.fillers.items }
     requires teams { AreTeamsFor (link_count (arc_value prepared.base.common.shared).config) (arc_value prepared.base.common.shared).config.processors prepared.teams.receivers prepared.teams.processors prepared.teams.slow prepared.teams.forwarders }
     requires space { HaveSpace (link_count (arc_value prepared.base.common.shared).config) (arc_value prepared.base.common.shared).config.processors prepared.space }
     requires workers { N.workers ≡ 2 * link_count (arc_value prepared.base.common.shared).config + (arc_value prepared.base.common.shared).config.processors + 1 }
@@ -160,6 +161,7 @@ where
         forwarders,
         shutters,
         pipes,
+        fillers,
     } = worker_parts;
     let controller = Controller {
         shared,
@@ -197,11 +199,13 @@ where
             orders,
             threads,
             pipes,
+            fillers,
             space,
         });
     }
     give_up_all(&rt, &orders, threads);
     drop(pipes);
+    drop(fillers);
     drop(space);
     Err(StartFault::Thread)
 }
@@ -224,7 +228,7 @@ where
         self.controller.close(&self.rt, link)
     }
 
-    /// Ends the router: the workers come to their ends and are joined, and the pipes gathered. It takes
+    /// Ends the router: the workers come to their ends and are joined, and the pipes settled. It takes
     /// no memory.
     pub fn finish(self) -> Report<S, K>
         ensures { HasRun S.told K.told K.failed S.same K.same self result.totals result.sent.items result.sources.items result.sinks.items }
@@ -237,12 +241,13 @@ where
             controller,
             orders,
             threads,
-            pipes,
+            mut pipes,
+            fillers: _,
             space,
         } = self;
         let joined = join_workers(&rt, &orders, controller, threads);
-        let (ends, left) = part_all(joined, space);
-        gather_pipes(pipes, ends);
+        let (takers, left) = part_all(joined, space, &mut pipes);
+        pipes.settle(takers.packets, takers.requests, takers.egress_packets);
         report_of(&rt, &orders.book, left)
     }
 }

@@ -2,31 +2,34 @@
 
 ghost use Rattle.std.specs.Prelude.{◌≡◌, ◌+◌, ◌*◌, IfOk, Some, [], length};
 ghost use Rattle.std.specs.Arc.{arc_value};
-ghost use Rattle.pipe_ends.specs.Rows.{AreFor, fresh_ends, new_takers};
+ghost use Rattle.ruled_pipe.specs.Pipe.{IsTakerOf, shape_of};
+ghost use Rattle.pipe_ends.specs.Rows.{fresh_ends, new_takers};
+ghost use Rattle.pipe_ends.specs.Opened.{shapes_of};
 ghost use Rattle.pipe_ends.specs.Shutting.{AreNew};
 ghost use Rattle.router_rules.specs.Links.{link_count};
 ghost use Rattle.stage_parts.specs.Outlets.{are_used};
 ghost use Rattle.wired_workers.specs.Kits.{IsAnsweringAt, IsLeavingAt, IsWorkingThere};
-ghost use Rattle.router_pipes.specs.Piping.{IsTakerOf};
-ghost use Rattle.router_pipes.specs.Dealing.{IsBundleOf, IsNewEnd, piping};
-ghost use Rattle.router_run.specs.WorkerParts.{AreWorkerParts};
 ghost use Rattle.wired_workers.specs.Shares.{AreNewShares};
+ghost use Rattle.router_pipes.specs.Piping.{IsPiping};
+ghost use Rattle.router_pipes.specs.Pipes.{HaveMade, piping_of};
 ghost use Rattle.router_pipes.specs.Rest.{IsRest};
+ghost use Rattle.router_run.specs.WorkerParts.{AreWorkerParts};
 
 use packet_ledger::Share;
 use pipe_ends::{Line, Shutter};
-use router_pipes::{AllPipes, Inputs, Pipes, all_pipes, shutters};
+use router_pipes::{Pipes, Takers, fill, open_all, shutters};
 use router_rules::link_count;
 use router_stages::{Processor, SlowPath};
-use ruled_pipe::Consumer;
-use stage_parts::{EgressPacket, Gate, Router, both};
+use ruled_pipe::{Consumer, Producer};
+use stage_parts::{Buffer, EgressPacket, Gate, Packet, Router, SlowPathRequest, both};
 use std::alloc::{AllocError, Global};
-use std::sync::Wait;
+use std::sync::{Arc, Wait};
 use wired_workers::{
-    Common, Deciding, Entering, Leaving, Remaining, all_entering, all_leaving, deciding_of,
+    Common, Entering, Leaving, all_entering, all_leaving, processors_of, slow_path_of,
 };
 
-/// The pipes, and what the workers are made of, before any device is taken.
+/// The pipes, what the workers are made of, before any device is taken, and the ends that filled the pipes of
+/// free buffers.
 #[derive(Drop)]
 pub struct WorkerParts<N: Router, G: Gate> {
     pub receivers: Vec<Entering<N>>,
@@ -35,12 +38,14 @@ pub struct WorkerParts<N: Router, G: Gate> {
     pub forwarders: Vec<Leaving<N>>,
     pub shutters: Vec<Shutter<EgressPacket<N>>>,
     pub pipes: Pipes<N>,
+    pub fillers: Vec<Producer<Buffer>>,
 }
 
 /// The workers after the receivers, and the controller's ends.
 #[derive(Drop)]
 struct AfterReceivers<N: Router, G: Gate> {
-    deciding: Deciding<N, G>,
+    processors: Vec<Processor<N, G>>,
+    slow: SlowPath<N>,
     forwarders: Vec<Leaving<N>>,
     shutters: Vec<Shutter<EgressPacket<N>>>,
 }
@@ -49,36 +54,37 @@ fn after_receivers<N: Router, G: Gate + Drop>(
     alloc: Global,
     common: &Common,
     gate: G,
-    pipes: &Pipes<N>,
-    inputs: Inputs<N>,
+    pipes: &mut Pipes<N>,
+    packets: Vec<Consumer<Packet<N>>>,
+    requests: Consumer<SlowPathRequest<N>>,
     egress_packets: Vec<Consumer<EgressPacket<N>>>,
-    remaining: Remaining<N>,
+    shares: &mut Line<Share<N>>,
 ) -> Result<AfterReceivers<N, G>, AllocError>
     requires config { N.config ≡ Some (arc_value common.now.shared).config }
-    requires pipes { (length pipes.now.inner.items ≡ (arc_value common.now.shared).config.processors) × AreFor (link_count (arc_value common.now.shared).config) pipes.now.inner.items × (length pipes.now.outer.items ≡ 2 * link_count (arc_value common.now.shared).config) × (length pipes.now.free.items ≡ link_count (arc_value common.now.shared).config) }
-    requires outer { AreFor ((arc_value common.now.shared).config.processors + 2) pipes.now.outer.items }
-    requires packets { inputs.packets.items ≡ new_takers pipes.now.inner.items }
-    requires middle { pipes.now.middle.producers ≡ (arc_value common.now.shared).config.processors }
-    requires asking { IsRest (IsNewEnd pipes.now.middle) 0 (arc_value common.now.shared).config.processors inputs.asking.items }
-    requires asked { IsTakerOf pipes.now.middle inputs.asked × (inputs.asked.taken ≡ []) }
-    requires egress_packets { egress_packets.items ≡ new_takers pipes.now.outer.items }
-    requires links { IsRest (IsBundleOf pipes.now.outer.items) 0 ((arc_value common.now.shared).config.processors + 2) remaining.links }
-    requires free { IsRest (IsBundleOf pipes.now.free.items) 0 ((arc_value common.now.shared).config.processors + 1 + link_count (arc_value common.now.shared).config) remaining.free }
-    requires shares { AreNewShares ((arc_value common.now.shared).config.processors + 1 + link_count (arc_value common.now.shared).config) remaining.shares }
-    ensures working { IfOk result (λ a. IsRest (IsWorkingThere (arc_value common.now.shared).config (piping pipes.now.inner.items pipes.now.middle pipes.now.outer.items pipes.now.free.items)) 0 (arc_value common.now.shared).config.processors a.deciding.processors.items) }
-    ensures answering { IfOk result (λ a. IsAnsweringAt (arc_value common.now.shared).config (piping pipes.now.inner.items pipes.now.middle pipes.now.outer.items pipes.now.free.items) a.deciding.slow) }
-    ensures leaving { IfOk result (λ a. IsRest (IsLeavingAt (arc_value common.now.shared).config (piping pipes.now.inner.items pipes.now.middle pipes.now.outer.items pipes.now.free.items)) 0 (link_count (arc_value common.now.shared).config) a.forwarders.items) }
-    ensures shutting { IfOk result (λ a. AreNew (are_used (arc_value common.now.shared).config) 0 (fresh_ends ((arc_value common.now.shared).config.processors + 1) pipes.now.outer.items) a.shutters.items) }
+    requires piping { IsPiping (arc_value common.now.shared).config (piping_of pipes.old) }
+    requires made { HaveMade (link_count (arc_value common.now.shared).config) 0 0 0 (piping_of pipes.old) pipes.old }
+    requires packets { packets.items ≡ new_takers (shapes_of pipes.old.inner) }
+    requires requests { IsTakerOf (shape_of pipes.old.middle) requests × (requests.taken ≡ []) }
+    requires egress_packets { egress_packets.items ≡ new_takers (shapes_of pipes.old.outer) }
+    requires shares { AreNewShares ((arc_value common.now.shared).config.processors + 1 + link_count (arc_value common.now.shared).config) shares.old }
+    ensures pipes { IfOk result (λ _. HaveMade (link_count (arc_value common.now.shared).config) (arc_value common.now.shared).config.processors ((arc_value common.now.shared).config.processors + 2) ((arc_value common.now.shared).config.processors + 1 + link_count (arc_value common.now.shared).config) (piping_of pipes.old) pipes.new) }
+    ensures working { IfOk result (λ a. IsRest (IsWorkingThere (arc_value common.now.shared).config (piping_of pipes.old)) 0 (arc_value common.now.shared).config.processors a.processors.items) }
+    ensures answering { IfOk result (λ a. IsAnsweringAt (arc_value common.now.shared).config (piping_of pipes.old) a.slow) }
+    ensures leaving { IfOk result (λ a. IsRest (IsLeavingAt (arc_value common.now.shared).config (piping_of pipes.old)) 0 (link_count (arc_value common.now.shared).config) a.forwarders.items) }
+    ensures shutting { IfOk result (λ a. AreNew (are_used (arc_value common.now.shared).config) 0 (fresh_ends ((arc_value common.now.shared).config.processors + 1) (shapes_of pipes.old.outer)) a.shutters.items) }
 {
     // At most 33, which bounds the controller's ends.
     let _ = link_count(&common.shared.config);
-    let mut remaining = remaining;
-    let deciding = deciding_of(alloc, common, gate, pipes, inputs, &mut remaining)?;
-    let closing = shutters(alloc, &common.shared, remaining.links.next());
-    let leaving = all_leaving(alloc, common, pipes, egress_packets, &mut remaining);
+    let gate = Arc::new(alloc, gate)?;
+    let processors = processors_of(alloc, common, &gate, pipes, packets, shares)?;
+    let slow = slow_path_of(alloc, common, pipes, requests, shares.next())?;
+    let ends = pipes.link_ends(alloc)?;
+    let closing = shutters(alloc, &common.shared, ends);
+    let leaving = all_leaving(alloc, common, pipes, egress_packets, shares);
     let (forwarders, shutters) = both(leaving, closing)?;
     Ok(AfterReceivers {
-        deciding,
+        processors,
+        slow,
         forwarders,
         shutters,
     })
@@ -94,50 +100,38 @@ pub fn make_all<N: Router, G: Gate + Drop, R: Wait>(
 ) -> Result<WorkerParts<N, G>, AllocError>
     requires config { N.config ≡ Some (arc_value common.now.shared).config }
     requires shares { AreNewShares (2 * link_count (arc_value common.now.shared).config + (arc_value common.now.shared).config.processors + 1) shares.items }
-    ensures { IfOk result (λ m. AreWorkerParts (arc_value common.now.shared).config (piping m.pipes.inner.items m.pipes.middle m.pipes.outer.items m.pipes.free.items) m.pipes.inner_rooms.items m.pipes.outer_rooms.items m.receivers.items m.processors.items m.slow m.forwarders.items m.shutters.items m.pipes.fillers.items) }
+    ensures { IfOk result (λ m. AreWorkerParts (arc_value common.now.shared).config m.pipes m.receivers.items m.processors.items m.slow m.forwarders.items m.shutters.items m.fillers.items) }
 {
-    let AllPipes {
-        pipes,
-        to_processors,
-        inputs,
-        to_links,
+    let (mut pipes, takers) = open_all(alloc, &common.shared)?;
+    let Takers {
+        packets,
+        requests,
         egress_packets,
         free_buffers,
-        to_free,
-    } = all_pipes(rt, alloc, &common.shared)?;
-    let mut remaining = Remaining {
-        links: Line::of(to_links),
-        free: Line::of(to_free),
-        shares: Line::of(shares),
-    };
-    let receivers = all_entering(
-        alloc,
-        common,
-        &pipes,
-        to_processors,
-        free_buffers,
-        &mut remaining.shares,
-    )?;
+    } = takers;
+    let mut shares = Line::of(shares);
+    let receivers = all_entering(alloc, common, &mut pipes, free_buffers, &mut shares)?;
     let after = after_receivers(
         alloc,
         common,
         gate,
-        &pipes,
-        inputs,
+        &mut pipes,
+        packets,
+        requests,
         egress_packets,
-        remaining,
+        &mut shares,
     )?;
-    let AfterReceivers {
-        deciding,
-        forwarders,
-        shutters,
-    } = after;
+    let ends = pipes.free_ends(alloc)?;
+    // A receiver begins with the one that is left.
+    let buffers = common.shared.config.buffers as usize - 1;
+    let fillers = fill(rt, alloc, ends, buffers)?;
     Ok(WorkerParts {
         receivers,
-        processors: deciding.processors,
-        slow: deciding.slow,
-        forwarders,
-        shutters,
+        processors: after.processors,
+        slow: after.slow,
+        forwarders: after.forwarders,
+        shutters: after.shutters,
         pipes,
+        fillers,
     })
 }

@@ -1,6 +1,5 @@
 -- Workers taken apart one by one: what was gathered grows at its end, what is left shrinks in front.
-use Rattle.std.proofs.Common.{◌≡◌, ℕ, ◌+◌, ◌≤◌, List, [], ◌∷◌, ◌++◌, map, length, sym, ◌∙◌, ap, subst, arith, append_assoc, length-append}
-use Rattle.std.proofs.lemmas.List.{map-append}
+use Rattle.std.proofs.Common.{◌≡◌, ℕ, ◌+◌, ◌≤◌, List, [], ◌∷◌, ◌++◌, map, length, sym, ◌∙◌, ap, subst, arith, length-append}
 use Rattle.order_laws.specs.Deeds.{Each}
 use Rattle.wired_workers.proofs.RestLemmas.{moved}
 
@@ -30,17 +29,6 @@ module _ {X Y : Type 0} where
   -- one more
   pub grown : (f : X → Y) (done more : List Y) (old new : List X) (x : X) (y : Y) (all : List Y) → old ≡ x ∷ new → more ≡ done ++ y ∷ [] → y ≡ f x → done ++ map f old ≡ all → more ++ map f new ≡ all
   grown f done more old new x y all is e same before = ap (λ (zs : List Y). zs ++ map f new) (e ∙ ap (λ (z : Y). done ++ z ∷ []) same) ∙ moved f done old new x all is before
-
-  pub one_after : (f : X → Y) (old new : List X) (x : X) → new ≡ old ++ x ∷ [] → map f new ≡ map f old ++ f x ∷ []
-  one_after f old new x e = ap (map f) e ∙ map-append f old (x ∷ [])
-
-  -- two more
-  pub two_after : (f : X → Y) (old mid new : List X) (x y : X) (a b : Y) → mid ≡ old ++ x ∷ [] → new ≡ mid ++ y ∷ [] → f x ≡ a → f y ≡ b → map f new ≡ map f old ++ (a ∷ b ∷ [])
-  two_after f old mid new x y a b first second fx fy =
-      one_after f mid new y second
-      ∙ (ap (λ (zs : List Y). zs ++ f y ∷ []) (one_after f old mid x first)
-      ∙ (append_assoc (map f old) (f x ∷ []) (f y ∷ [])
-      ∙ (ap (λ (z : Y). map f old ++ (z ∷ f y ∷ [])) fx ∙ ap (λ (z : Y). map f old ++ (a ∷ z ∷ [])) fy)))
 
   pub room_kept : (done more : List Y) (y : Y) (old new : List X) (x : X) (n m : ℕ) → more ≡ done ++ y ∷ [] → old ≡ x ∷ new → m ≡ n → length done + length old ≤ n → length more + length new ≤ m
   room_kept done more y old new x n m e is same fits = let a = ap length e in let b = length-append done (y ∷ []) in let d = ap length is in omega arith

@@ -1,5 +1,5 @@
 -- Workers taken apart: how many of each there are, and that nothing of them is lost.
-use Rattle.std.proofs.Common.{◌≡◌, ℕ, true, ◌+◌, ◌≤◌, ◌<◌, List, [], ◌∷◌, ◌++◌, map, length, Option, sym, ◌∙◌, ap, subst, arith, append_assoc, length-append}
+use Rattle.std.proofs.Common.{◌≡◌, ℕ, true, ◌+◌, ◌≤◌, List, [], ◌∷◌, ◌++◌, map, length, Option, sym, ◌∙◌, ap, subst, arith, append_assoc, length-append}
 use Rattle.std.proofs.lemmas.List.{length-map}
 use Rattle.packet_ledger.specs.Share.{Held}
 use Rattle.order_laws.specs.Deeds.{Each}
@@ -18,20 +18,18 @@ use Rattle.stage_parts.specs.Outlet.{IsMarked}
 use Rattle.stage_parts.specs.Outlets.{senders}
 use Rattle.stage_parts.specs.Told.{Told, told_of}
 use Rattle.router_pipes.specs.Handing.{AreMarked, NeverClosed}
-use Rattle.pipe_ends.specs.Rows.{Row, rows_of}
+use Rattle.router_pipes.specs.Piping.{Piping}
+use Rattle.router_pipes.specs.Pipes.{HaveBack, Keepers, LinkRows, ReceiverRows, RequestRow, piping_of}
+use Rattle.pipe_ends.specs.Rows.{AreEndsOf}
 use Rattle.pipe_ends.specs.Shutting.{AreMarking, PushMarks, shutter_ends}
-use Rattle.run_report.specs.Parting.{HasKept, HasMarked, IsParted, IsSized, shares_in}
-use Rattle.run_report.specs.Crew.{Crew, outer_rows, takers_of}
-use Rattle.run_report.specs.Room.{HaveSpace, IsRoomy, Space}
-use Rattle.wired_workers.proofs.RestLemmas.{each_first}
+use Rattle.run_report.specs.Parting.{HasEnds, HasKept, HasMarked, IsParted, shares_in}
+use Rattle.run_report.specs.Crew.{Crew, inner_rows, middle_row, outer_rows, takers_of}
+use Rattle.run_report.specs.Room.{HaveSpace, Space}
 
 -- ---- numbers
 
 pub le_as : (n m k : ℕ) → n ≡ m → m ≤ k → n ≤ k
 le_as n m k e le = omega arith
-
-pub below_as : (n m k l : ℕ) → n ≡ m → l ≡ k → m < k → n < l
-below_as n m k l e f lt = omega arith
 
 module _ {X : Type 0} where
   pub none_long : (xs : List X) → xs ≡ [] → length xs ≡ 0
@@ -47,46 +45,35 @@ module _ {X Y : Type 0} where
   pub grew : (f : X → Y) (old new : List Y) (xs : List X) (n m : ℕ) → new ≡ old ++ map f xs → length old ≡ n → length xs ≡ m → length new ≡ n + m
   grew f old new xs n m e a b = let d = ap length e in let l = length-append old (map f xs) in let k = length-map xs f in omega arith
 
-module _ {T : Type 0} where
-  pub rows_long : (bs : List (Row T)) (rows : List (List (Sender T))) → rows_of bs ≡ rows → length bs ≡ length rows
-  rows_long bs rows e = sym (length-map bs (λ (r : Row T). r.ends)) ∙ ap length e
-
-  pub rows_made : {X : Type 0} (f : X → List (Sender T)) (bs : List (Row T)) (xs : List X) (n : ℕ) → rows_of bs ≡ map f xs → length xs ≡ n → length bs ≡ n
-  rows_made f bs xs n e long = rows_long bs (map f xs) e ∙ (length-map xs f ∙ long)
-
-  pub rows_more : (old new : List (Row T)) (x : List (Sender T)) (n : ℕ) → rows_of new ≡ rows_of old ++ x ∷ [] → length old ≡ n → length new ≡ n + 1
-  rows_more old new x n e long =
-      let a = rows_long new (rows_of old ++ x ∷ []) e in
-      let b = length-append (rows_of old) (x ∷ []) in
-      let d = length-map old (λ (r : Row T). r.ends) in
-      omega arith
-
-  -- the next row has room for all
-  pub next_room : (n m : ℕ) (old new : List (Row T)) (r : Row T) → old ≡ r ∷ new → Each (IsRoomy n) old → m ≡ n → (r.ends ≡ []) × (m ≤ r.room)
-  next_room n m old new r is all e = let first = (each_first (IsRoomy n) old new r is all).0 in (first.0, le_as m n r.room e first.1)
-
--- the same number by another name
-pub all_at : {X : Type 0} (P : ℕ → X → Type 0) (n m : ℕ) (xs : List X) → m ≡ n → Each (P n) xs → Each (P m) xs
-all_at P n m xs e all = subst (λ (k : ℕ). Each (P k) xs) (sym e) all
-
 -- ---- what stands ready, seen otherwise
 
-pub sized_as : {S G K : Type 0} (links processors : ℕ) (v w : Crew S G K) → v ≡ w → IsSized links processors w → IsSized links processors v
-sized_as links processors v w e is = subst (λ (x : Crew _ _ _). IsSized links processors x) (sym e) is
+pub ends_as : {S G K : Type 0} (p : Piping) (links processors : ℕ) (v w : Crew S G K) → v ≡ w → HasEnds p links processors w → HasEnds p links processors v
+ends_as p links processors v w e is = subst (λ (x : Crew _ _ _). HasEnds p links processors x) (sym e) is
 
 pub space_as : (links processors : ℕ) (v w : Space) → v ≡ w → HaveSpace links processors w → HaveSpace links processors v
 space_as links processors v w e is = subst (λ (x : Space). HaveSpace links processors x) (sym e) is
 
 -- of as many workers as there are
-pub own_size : {S G K : Type 0} (links processors : ℕ) (w : Crew S G K) → IsSized links processors w → IsSized (length w.receivers) (length w.processors) w
-own_size links processors w is = subst (λ (n : ℕ). IsSized n (length w.processors) w) (sym is.receivers.1) (subst (λ (n : ℕ). IsSized links n w) (sym is.workers.1) is)
+pub own_ends : {S G K : Type 0} (p : Piping) (links processors : ℕ) (w : Crew S G K) → HasEnds p links processors w → HasEnds p (length w.receivers) (length w.processors) w
+own_ends p links processors w is = subst (λ (n : ℕ). HasEnds p n (length w.processors) w) (sym is.receivers.1) (subst (λ (n : ℕ). HasEnds p links n w) (sym is.workers.1) is)
 
-pub own_space : {S G K : Type 0} (links processors : ℕ) (w : Crew S G K) (r : Space) → IsSized links processors w → HaveSpace links processors r → HaveSpace (length w.receivers) (length w.processors) r
-own_space links processors w r is have = subst (λ (n : ℕ). HaveSpace n (length w.processors) r) (sym is.receivers.1) (subst (λ (n : ℕ). HaveSpace links n r) (sym is.workers.1) have)
+pub own_space : {S G K : Type 0} (p : Piping) (links processors : ℕ) (w : Crew S G K) (r : Space) → HasEnds p links processors w → HaveSpace links processors r → HaveSpace (length w.receivers) (length w.processors) r
+own_space p links processors w r is have = subst (λ (n : ℕ). HaveSpace n (length w.processors) r) (sym is.receivers.1) (subst (λ (n : ℕ). HaveSpace links n r) (sym is.workers.1) have)
 
--- the only slow path's ends
-pub slow_long : (n : ℕ) (xs : List Answering) (x : Answering) → xs ≡ x ∷ [] → Each (λ (a : Answering). length a.side.links ≡ n) xs → length x.side.links ≡ n
-slow_long n xs x one all = (subst (λ (ys : List Answering). Each (λ (a : Answering). length a.side.links ≡ n) ys) one all).0
+-- the only slow path's ends are the next, and those of the controller come after them
+pub slow_next : (p q : Piping) (n m : ℕ) (xs : List Answering) (x : Answering) (row : List (Sender (Outgoing kinds))) → q ≡ p → m ≡ n → xs ≡ x ∷ [] → Each (λ (a : Answering). AreEndsOf n p.outer (senders a.side.links)) xs → AreEndsOf (n + 1) p.outer row
+    → AreEndsOf m q.outer (senders x.side.links) × AreEndsOf (m + 1) q.outer row
+slow_next p q n m xs x row same long one all last =
+    let first = (subst (λ (ys : List Answering). Each (λ (a : Answering). AreEndsOf n p.outer (senders a.side.links)) ys) one all).0 in
+    subst (λ (y : Piping). AreEndsOf m y.outer (senders x.side.links) × AreEndsOf (m + 1) y.outer row) (sym same)
+    (subst (λ (k : ℕ). AreEndsOf k p.outer (senders x.side.links) × AreEndsOf (k + 1) p.outer row) (sym long) (first, last))
+
+-- the pipes, by their own piping, or by what it is the same as
+pub back_own : (rs : ReceiverRows) (ms : RequestRow) (ls : LinkRows) (p : Piping) (k : Keepers) → HaveBack rs ms ls p k → HaveBack rs ms ls (piping_of k) k
+back_own rs ms ls p k back = subst (λ (q : Piping). HaveBack rs ms ls q k) (sym back.piping) back
+
+pub back_as : (rs : ReceiverRows) (ms : RequestRow) (ls : LinkRows) (p q : Piping) (k : Keepers) → p ≡ q → HaveBack rs ms ls p k → HaveBack rs ms ls q k
+back_as rs ms ls p q k e back = subst (λ (x : Piping). HaveBack rs ms ls x k) e back
 
 -- ---- all together
 
@@ -108,36 +95,31 @@ module _ {S G K : Type 0} where
       ∙ (ap (λ (zs : List Held). zs ++ (ps ++ (s ∷ fs))) (a ∙ ap (λ (zs : List Held). zs ++ rs) e)
       ∙ (ap (λ (zs : List Held). rs ++ (ps ++ (zs ++ fs))) (sym slow) ∙ ap shares_in seen))))))
 
-  rows_parted : (w : Crew S G K) (x : Answering) (first all : List (Row (Outgoing kinds))) → w.slow ≡ x ∷ []
-      → rows_of first ≡ map (λ (p : Working G). senders p.side.links) w.processors → rows_of all ≡ rows_of first ++ (senders x.side.links ∷ shutter_ends w.shutters ∷ [])
-      → rows_of all ≡ outer_rows w
-  rows_parted w x first all one a b =
+  -- the rows of the links' pipes, the slow path's and the controller's last
+  pub rows_parted : (v w : Crew S G K) (x : Answering) → v ≡ w → v.slow ≡ x ∷ [] → (map (λ (p : Working G). senders p.side.links) v.processors ++ senders x.side.links ∷ []) ++ shutter_ends v.shutters ∷ [] ≡ outer_rows w
+  rows_parted v w x seen one =
       let Ends = List (Sender (Outgoing kinds)) in
-      let ps : List Ends = map (λ (p : Working G). senders p.side.links) w.processors in
+      let ps : List Ends = map (λ (p : Working G). senders p.side.links) v.processors in
       let s : Ends = senders x.side.links in
-      let slow : map (λ (a : Answering). senders a.side.links) w.slow ≡ s ∷ [] = ap (map (λ (a : Answering). senders a.side.links)) one in
-      b ∙ (ap (λ (zs : List Ends). zs ++ (s ∷ shutter_ends w.shutters ∷ [])) a
-      ∙ ap (λ (zs : List Ends). ps ++ (zs ++ shutter_ends w.shutters ∷ [])) (sym slow))
+      let slow : map (λ (a : Answering). senders a.side.links) v.slow ≡ s ∷ [] = ap (map (λ (a : Answering). senders a.side.links)) one in
+      append_assoc ps (s ∷ []) (shutter_ends v.shutters ∷ []) ∙ (ap (λ (zs : List Ends). ps ++ (zs ++ shutter_ends v.shutters ∷ [])) (sym slow) ∙ ap outer_rows seen)
 
   asked_parted : (w : Crew S G K) (x : Answering) (asked : Taker (SlowPathRequest kinds)) → w.slow ≡ x ∷ [] → asked ≡ x.taker → (a : Answering) → w.slow ≡ a ∷ [] → asked ≡ a.taker
   asked_parted w x asked one is a other = let same : x ∷ [] ≡ a ∷ [] = sym one ∙ other in let e : x ≡ a = cc in is ∙ ap (λ (y : Answering). y.taker) e
 
-  pub is_parted : (v w : Crew S G K) (x : Answering) (inner_bundles : List (Row (Arrival kinds))) (inner : List (Taker (Arrival kinds))) (middle : List (Sender (SlowPathRequest kinds))) (asked : Taker (SlowPathRequest kinds)) (first all : List (Row (Outgoing kinds))) (outer : List (Taker (Outgoing kinds)))
-      → v ≡ w → v.slow ≡ x ∷ []
-      → rows_of inner_bundles ≡ map (λ (r : Receiving S). senders r.side.processors) v.receivers
-      → inner ≡ map (λ (p : Working G). p.taker) v.processors → middle ≡ map (λ (p : Working G). p.slow.sender) v.processors → asked ≡ x.taker
-      → rows_of first ≡ map (λ (p : Working G). senders p.side.links) v.processors → rows_of all ≡ rows_of first ++ (senders x.side.links ∷ shutter_ends v.shutters ∷ []) → outer ≡ takers_of v.forwarders
-      → IsParted w inner_bundles inner middle asked all outer
-  is_parted v w x inner_bundles inner middle asked first all outer seen one ib i m q a b o =
-      let parted : IsParted v inner_bundles inner middle asked all outer = record {
-        inner_bundles_are = ib;
-        inner_are = i;
-        middle_are = m;
-        asked_is = asked_parted v x asked one q;
-        outer_bundles_are = rows_parted v x first all one a b;
-        outer_are = o;
-      } in
-      subst (λ (y : Crew S G K). IsParted y inner_bundles inner middle asked all outer) seen parted
+  pub is_parted : (v w : Crew S G K) (x : Answering) (inner : List (Taker (Arrival kinds))) (middle : Taker (SlowPathRequest kinds)) (outer : List (Taker (Outgoing kinds))) → v ≡ w → v.slow ≡ x ∷ []
+      → inner ≡ map (λ (p : Working G). p.taker) v.processors → middle ≡ x.taker → outer ≡ takers_of v.forwarders → IsParted w inner middle outer
+  is_parted v w x inner middle outer seen one i m o =
+      let parted : IsParted v inner middle outer = record { inner_are = i; middle_is = asked_parted v x middle one m; outer_are = o } in
+      subst (λ (y : Crew S G K). IsParted y inner middle outer) seen parted
+
+  -- all ends are back
+  pub has_back : (v w : Crew S G K) (x : Answering) (p : Piping) (k : Keepers) → v ≡ w → v.slow ≡ x ∷ []
+      → HaveBack (inner_rows v) (middle_row v) ((map (λ (q : Working G). senders q.side.links) v.processors ++ senders x.side.links ∷ []) ++ shutter_ends v.shutters ∷ []) p k
+      → HaveBack (inner_rows w) (middle_row w) (outer_rows w) p k
+  has_back v w x p k seen one back =
+      subst (λ (ls : List (List (Sender (Outgoing kinds)))). HaveBack (inner_rows w) (middle_row w) ls p k) (rows_parted v w x seen one)
+      (subst (λ (y : Crew S G K). HaveBack (inner_rows y) (middle_row y) ((map (λ (q : Working G). senders q.side.links) v.processors ++ senders x.side.links ∷ []) ++ shutter_ends v.shutters ∷ []) p k) seen back)
 
   pub has_marked : (v w : Crew S G K) (x : Answering) → v ≡ w → v.slow ≡ x ∷ []
       → Each (λ (r : Receiving S). AreMarked r.side.processors) v.receivers → Each (λ (p : Working G). AreMarked p.side.links × IsMarked p.slow.sender p.slow.ended) v.processors

@@ -1,10 +1,11 @@
 -- Workers that came back, and what is left of them.
-use Rattle.std.specs.Prelude.{◌≡◌, ℕ, true, List, [], ◌∷◌, map, Option, length, ◌++◌, ◌*◌}
+use Rattle.std.specs.Prelude.{◌≡◌, ◌+◌, ℕ, true, List, [], ◌∷◌, map, Option, length, ◌++◌}
 use Rattle.order_laws.specs.Deeds.{Each}
 use Rattle.order_laws.specs.Settled.{SlowPathRequest}
 use Rattle.ruled_pipe.specs.Consumer.{Taker}
 use Rattle.router_rules.specs.Rules.{kinds}
 use Rattle.router_laws.specs.Heard.{Heard}
+use Rattle.router_laws.specs.Returned.{AllAt}
 use Rattle.router_laws.specs.Keeping.{IsReceiving, IsWorking, IsAnswering, IsForwarding}
 use Rattle.router_stages.specs.Answering.{Answering}
 use Rattle.router_stages.specs.Forwarding.{Forwarding}
@@ -13,29 +14,27 @@ use Rattle.router_stages.specs.Working.{Working}
 use Rattle.stage_parts.specs.Outlets.{senders}
 use Rattle.stage_parts.specs.Told.{Told, told_of}
 use Rattle.router_pipes.specs.Handing.{NeverClosed, AreMarked}
-use Rattle.pipe_ends.specs.Shutting.{PushMarks, AreMarking}
-use Rattle.run_report.specs.Crew.{Crew, inner_rows, inner_takers, middle_row, outer_rows, takers_of}
+use Rattle.router_pipes.specs.Piping.{Piping}
+use Rattle.pipe_ends.specs.Rows.{AreEndsOf}
+use Rattle.pipe_ends.specs.Shutting.{PushMarks, AreMarking, shutter_ends}
+use Rattle.run_report.specs.Crew.{Crew, inner_takers, takers_of}
 use Rattle.order_laws.specs.Item.{Outgoing, Arrival}
-use Rattle.pipe_ends.specs.Rows.{Row, rows_of}
-use Rattle.ruled_pipe.specs.Producer.{Sender}
+use Rattle.ruled_pipe.specs.Pipe.{IsEndOf}
 use Rattle.stage_parts.specs.Outlet.{IsMarked}
 use Rattle.packet_ledger.specs.Share.{Held}
 
--- How many workers of each kind there are, and how many ends each has.
-pub record IsSized {S G K : Type 0} (links processors : ℕ) (w : Crew S G K) : Type 0 where
-  pub receivers : Each (λ (r : Receiving S). length r.side.processors ≡ processors) w.receivers × (length w.receivers ≡ links)
-  pub workers : Each (λ (p : Working G). length p.side.links ≡ 2 * links) w.processors × (length w.processors ≡ processors)
-  pub slow : Each (λ (a : Answering). length a.side.links ≡ 2 * links) w.slow × (length w.slow ≡ 1)
+-- How many workers of each kind there are, and that each has its ends of these pipes.
+pub record HasEnds {S G K : Type 0} (p : Piping) (links processors : ℕ) (w : Crew S G K) : Type 0 where
+  pub receivers : AllAt (λ a (r : Receiving S). AreEndsOf a p.inner (senders r.side.processors)) 0 w.receivers × (length w.receivers ≡ links)
+  pub workers : AllAt (λ i (q : Working G). AreEndsOf i p.outer (senders q.side.links) × IsEndOf p.middle i q.slow.sender) 0 w.processors × (length w.processors ≡ processors)
+  pub slow : Each (λ (a : Answering). AreEndsOf processors p.outer (senders a.side.links)) w.slow × (length w.slow ≡ 1)
   pub forwarders : length w.forwarders ≡ links
-  pub shutters : length w.shutters ≡ 2 * links
+  pub shutters : AreEndsOf (processors + 1) p.outer (shutter_ends w.shutters)
 
--- what is left of workers that were taken apart: their ends, shares and devices
-pub record IsParted {S G K : Type 0} (w : Crew S G K) (inner_bundles : List (Row (Arrival kinds))) (inner : List (Taker (Arrival kinds))) (middle : List (Sender (SlowPathRequest kinds))) (asked : Taker (SlowPathRequest kinds)) (outer_bundles : List (Row (Outgoing kinds))) (outer : List (Taker (Outgoing kinds))) : Type 0 where
-  pub inner_bundles_are : rows_of inner_bundles ≡ inner_rows w
+-- the consumers of workers that were taken apart
+pub record IsParted {S G K : Type 0} (w : Crew S G K) (inner : List (Taker (Arrival kinds))) (middle : Taker (SlowPathRequest kinds)) (outer : List (Taker (Outgoing kinds))) : Type 0 where
   pub inner_are : inner ≡ inner_takers w
-  pub middle_are : middle ≡ middle_row w
-  pub asked_is : (a : Answering) → w.slow ≡ a ∷ [] → asked ≡ a.taker
-  pub outer_bundles_are : rows_of outer_bundles ≡ outer_rows w
+  pub middle_is : (a : Answering) → w.slow ≡ a ∷ [] → middle ≡ a.taker
   pub outer_are : outer ≡ takers_of w.forwarders
 
 -- the shares in the order in which the book closes them

@@ -1,21 +1,18 @@
-//! The end of a run, once its workers came back: they are taken apart, the pipes gathered, and the counts
-//! summed up.
+//! The end of a run, once its workers came back: they are taken apart, and the counts summed up.
 
-ghost use Rattle.std.specs.Prelude.{◌≡◌, map, length, true};
+ghost use Rattle.std.specs.Prelude.{◌≡◌, [], map, length};
 ghost use Rattle.packet_ledger.specs.Share.{forwarded};
-ghost use Rattle.pipe_ends.specs.Rows.{HaveLeft, rows_of};
-ghost use Rattle.pipe_ends.specs.Settled.{AreSettled, HaveEnded, IsDone, IsEnded};
 ghost use Rattle.router_laws.specs.Totals.{totals_of};
-ghost use Rattle.run_report.specs.Parting.{HasKept};
-ghost use Rattle.run_report.specs.Parting.{HasMarked};
-ghost use Rattle.run_report.specs.Parting.{IsParted, IsSized, shares_in};
+ghost use Rattle.router_pipes.specs.Pipes.{HaveBack, piping_of};
+ghost use Rattle.run_report.specs.Crew.{inner_rows, middle_row, outer_rows};
+ghost use Rattle.run_report.specs.Parting.{HasEnds, HasKept, HasMarked, IsParted, shares_in};
 ghost use Rattle.run_report.specs.Room.{HaveSpace};
 
 use crate::joined::Joined;
 use crate::parting::{part_forwarders, part_processors, part_receivers, part_slow_path};
 use crate::space::Space;
 use packet_ledger::{Book, Share};
-use pipe_ends::{Ends, Line, gather_all, gather_one};
+use pipe_ends::Line;
 use process_packet::Totals;
 use router_pipes::Pipes;
 use ruled_pipe::Consumer;
@@ -35,15 +32,12 @@ pub struct Report<S, K> {
     pub sinks: Vec<K>,
 }
 
-/// The ends of workers that came back, by workers and by pipes.
+/// The consumers of workers that came back.
 #[derive(Drop)]
 pub struct Parted<N: Router> {
-    pub inner_bundles: Vec<Ends<Packet<N>>>,
-    pub inner_takers: Vec<Consumer<Packet<N>>>,
-    pub middle_row: Ends<SlowPathRequest<N>>,
-    pub asked: Consumer<SlowPathRequest<N>>,
-    pub outer_bundles: Vec<Ends<EgressPacket<N>>>,
-    pub outer_takers: Vec<Consumer<EgressPacket<N>>>,
+    pub packets: Vec<Consumer<Packet<N>>>,
+    pub requests: Consumer<SlowPathRequest<N>>,
+    pub egress_packets: Vec<Consumer<EgressPacket<N>>>,
 }
 
 /// Their shares and devices, and how many each sink took.
@@ -55,19 +49,22 @@ pub struct Left<N: Router, S, K> {
     pub sinks: Vec<K>,
 }
 
-/// Takes the workers apart.
+/// Takes the workers apart. The pipes take back their ends.
 pub fn part_all<N, S, K, G>(
     joined: Joined<N, S, K, G>,
     space: Space<N, S, K>,
+    pipes: &mut Pipes<N>,
 ) -> (Parted<N>, Left<N, S, K>)
 where
     N: Router,
     S: Source,
     K: Sink,
     G: Gate + Drop,
-    requires sized { IsSized (length joined.receivers) (length joined.processors) joined }
+    requires back { HaveBack [] [] [] (piping_of pipes.old) pipes.old }
+    requires ends { HasEnds (piping_of pipes.old) (length joined.receivers) (length joined.processors) joined }
     requires space { HaveSpace (length joined.receivers) (length joined.processors) space }
-    ensures ends { IsParted joined result.0.inner_bundles.items result.0.inner_takers.items result.0.middle_row.ends result.0.asked result.0.outer_bundles.items result.0.outer_takers.items }
+    ensures back { HaveBack (inner_rows joined) (middle_row joined) (outer_rows joined) (piping_of pipes.old) pipes.new }
+    ensures takers { IsParted joined result.0.packets.items result.0.requests result.0.egress_packets.items }
     ensures marks { HasMarked joined }
     ensures kept { HasKept S.told K.told K.failed joined }
     ensures shares { result.1.shares.items ≡ shares_in joined }
@@ -83,52 +80,23 @@ where
         shutters,
     } = joined;
     let Space {
-        inner,
-        middle_row,
-        outer,
-        report,
+        packets,
+        egress_packets,
+        shares,
+        sent,
+        sources,
+        sinks,
     } = space;
-    let pipes = shutters.len();
-    let front = part_receivers(
-        receivers,
-        processors.len(),
-        inner.rows,
-        inner.bundles,
-        report.sources,
-        report.shares,
-    );
-    let middle = part_processors(
-        processors,
-        pipes,
-        inner.takers,
-        middle_row,
-        Line::of(outer.rows),
-        outer.bundles,
-        front.shares,
-    );
+    let front = part_receivers(receivers, pipes, sources, shares);
+    let middle = part_processors(processors, pipes, packets, front.shares);
     let mut slow = Line::of(slow);
-    let rest = part_slow_path(
-        slow.next(),
-        shutters,
-        middle.rows,
-        middle.bundles,
-        middle.shares,
-    );
+    let rest = part_slow_path(slow.next(), shutters, pipes, middle.shares);
     slow.destroy_empty();
-    let rear = part_forwarders(
-        forwarders,
-        outer.takers,
-        report.sinks,
-        report.sent,
-        rest.shares,
-    );
-    let ends = Parted {
-        inner_bundles: front.bundles,
-        inner_takers: middle.takers,
-        middle_row: middle.asking,
-        asked: rest.asked,
-        outer_bundles: rest.bundles,
-        outer_takers: rear.takers,
+    let rear = part_forwarders(forwarders, egress_packets, sinks, sent, rest.shares);
+    let takers = Parted {
+        packets: middle.takers,
+        requests: rest.requests,
+        egress_packets: rear.takers,
     };
     let left = Left {
         shares: rear.shares,
@@ -136,38 +104,7 @@ where
         sources: front.sources,
         sinks: rear.sinks,
     };
-    (ends, left)
-}
-
-/// Gathers all pipes.
-pub fn gather_pipes<N: Router>(pipes: Pipes<N>, ends: Parted<N>)
-    requires inner { HaveEnded pipes.inner.items ends.inner_bundles.items ends.inner_takers.items × HaveLeft (length ends.inner_bundles.items) 0 pipes.inner.items pipes.inner_rooms.items }
-    requires middle { IsEnded true pipes.middle ends.middle_row.ends ends.asked }
-    requires outer { HaveEnded pipes.outer.items ends.outer_bundles.items ends.outer_takers.items × HaveLeft (length ends.outer_bundles.items) 0 pipes.outer.items pipes.outer_rooms.items }
-    ensures inner { AreSettled 0 (rows_of ends.inner_bundles.items) pipes.inner.items ends.inner_takers.items }
-    ensures middle { IsDone pipes.middle ends.middle_row.ends ends.asked }
-    ensures outer { AreSettled 0 (rows_of ends.outer_bundles.items) pipes.outer.items ends.outer_takers.items }
-{
-    let Pipes {
-        inner,
-        inner_rooms,
-        middle,
-        outer,
-        outer_rooms,
-        free: _,
-        fillers: _,
-    } = pipes;
-    let Parted {
-        inner_bundles,
-        inner_takers,
-        middle_row,
-        asked,
-        outer_bundles,
-        outer_takers,
-    } = ends;
-    gather_all(inner, inner_rooms, inner_bundles, inner_takers);
-    gather_one(middle, middle_row, asked);
-    gather_all(outer, outer_rooms, outer_bundles, outer_takers);
+    (takers, left)
 }
 
 /// The report of what is left, with the counts of all shares of the book summed up.

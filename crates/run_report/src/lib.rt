@@ -1,5 +1,5 @@
 //! What a run comes to: room for it, taken before the first thread is made, and the report, made of workers
-//! that came back and of the pipes between them. Making it takes no memory.
+//! that came back. Making it takes no memory.
 #![tactic(auto)]
 
 mod finishing;
@@ -7,6 +7,6 @@ mod joined;
 mod parting;
 mod space;
 
-pub use finishing::{Left, Parted, Report, gather_pipes, part_all, report_of};
+pub use finishing::{Left, Parted, Report, part_all, report_of};
 pub use joined::Joined;
-pub use space::{EndsSpace, ReportSpace, Space, space_for};
+pub use space::{Space, space_for};

@@ -1,24 +1,16 @@
 -- A worker made of what is next of each list.
-use Rattle.std.proofs.Common.{◌≡◌, ℕ, zero, suc, ◌+◌, List, [], ◌∷◌, ◌++◌, length, Some, slice_get, sym, ◌∙◌, ap, subst, arith, append_assoc, append-nil, length-append}
+use Rattle.std.proofs.Common.{◌≡◌, ◌≤◌, ℕ, zero, suc, ◌+◌, List, [], ◌∷◌, ◌++◌, length, Some, slice_get, sym, ◌∙◌, ap, subst, arith, append_assoc, append-nil, length-append}
 use Rattle.std.specs.List.{All}
 use Rattle.packet_ledger.specs.Share.{Held, new_share}
 use Rattle.order_laws.specs.Deeds.{Each}
-use Rattle.order_laws.specs.Item.{Arrival}
-use Rattle.order_laws.specs.Settled.{SlowPathRequest}
-use Rattle.process_packet.specs.declared.config.Config.{Config}
-use Rattle.ruled_pipe.specs.Producer.{Sender}
-use Rattle.ruled_pipe.specs.Consumer.{Taker}
-use Rattle.ruled_pipe.specs.Pipe.{Shape, IsEndOf}
+use Rattle.ruled_pipe.specs.Consumer.{Taker, new_taker}
+use Rattle.ruled_pipe.specs.Pipe.{Shape, IsTakerOf}
 use Rattle.router_laws.specs.Returned.{AllAt}
-use Rattle.router_rules.specs.Rules.{kinds}
-use Rattle.router_stages.specs.Working.{Working}
-use Rattle.stage_parts.specs.Outlets.{AreFresh, senders}
-use Rattle.pipe_ends.specs.Rows.{AreEndsOf, AreFor, fresh_ends}
-use Rattle.router_pipes.specs.Dealing.{IsNewEnd, IsTakerThere, piping}
-use Rattle.wired_workers.specs.Kits.{IsWorkingThere, paired}
+use Rattle.pipe_ends.specs.Rows.{AreFor}
+use Rattle.router_pipes.specs.Piping.{IsTakerThere}
+use Rattle.wired_workers.specs.Kits.{paired}
 use Rattle.wired_workers.specs.Shares.{AreNewShares, HaveGone}
 use Rattle.router_pipes.specs.Rest.{IsRest}
-use Rattle.router_pipes.proofs.Fresh.{fresh_are, fresh_long}
 use Rattle.wired_workers.proofs.RestLemmas.{all_more}
 
 each_of : {X : Type 0} (P : X → Type 0) (xs : List X) → All P xs → Each P xs
@@ -52,28 +44,9 @@ module _ {T : Type 0} where
   pub taker_new : (n : ℕ) (pipes : List Shape) (i : ℕ) (t : Taker T) → AreFor n pipes → IsTakerThere pipes i t → (t.taken ≡ []) × (t.producers ≡ n)
   taker_new n pipes i t all is = (ap (λ (x : Taker T). x.taken) is.fresh, ap (λ (x : Taker T). x.producers) is.fresh ∙ producers_at n pipes i is.own all is.there)
 
-  pub bundle_long : (n p k : ℕ) (pipes : List Shape) (ends : List (Sender T)) → k ≡ length ends → ends ≡ fresh_ends p pipes → length pipes ≡ n → k ≡ n
-  bundle_long n p k pipes ends same is long = same ∙ (ap length is ∙ (fresh_long T p pipes ∙ long))
-
-module _ {G : Type 0} where
-  pub working_there : (c : Config) (inner outer free : List Shape) (middle : Shape) (i : ℕ) (t : Taker (Arrival kinds)) (s : Sender (SlowPathRequest kinds)) (w : Working G)
-      → IsTakerThere inner i t → IsNewEnd middle i s → AreEndsOf i outer (senders w.side.links) → w.side.free ≡ fresh_ends i free
-      → w.side.config ≡ c → w.index ≡ i → (w.taker ≡ t) × (w.slow.sender ≡ s) → AreFresh w.side.links → IsWorkingThere c (piping inner middle outer free) i w
-  working_there c inner outer free middle i t s w there end are back config index same fresh =
-      let is = same.0 ∙ there.fresh in
-      record {
-        own = there.own;
-        there = there.there;
-        works = record {
-          config = config;
-          index = index;
-          taker = (ap (λ (x : Taker (Arrival kinds)). x.pipe) is, ap (λ (x : Taker (Arrival kinds)). x.producers) is, ap (λ (x : Taker (Arrival kinds)). x.capacity) is);
-          slow = subst (λ (x : Sender (SlowPathRequest kinds)). IsEndOf middle i x) (sym same.1) end.0;
-          links = are;
-          fresh = fresh;
-          free = back;
-        };
-      }
+  -- the consumer of a pipe
+  pub taker_of : (s : Shape) (t u : Taker T) → u ≡ t → t ≡ new_taker s.pipe s.producers s.capacity → IsTakerOf s u
+  taker_of s t u same fresh = let e = same ∙ fresh in (ap (λ (x : Taker T). x.pipe) e, ap (λ (x : Taker T). x.producers) e, ap (λ (x : Taker T). x.capacity) e)
 
 module _ {X : Type 0} where
   pub all_none : (P : ℕ → X → Type 0) (n : ℕ) (xs : List X) → xs ≡ [] → AllAt P n xs
@@ -88,16 +61,12 @@ module _ {X : Type 0} where
   pub pushed_long : (i : ℕ) (xs ys : List X) (x : X) → ys ≡ xs ++ x ∷ [] → length xs ≡ i → length ys ≡ i + 1
   pushed_long i xs ys x is long = let l = ap length is in let a = length-append xs (x ∷ []) in omega arith
 
-  -- the same rest, by other names
-  pub rest_as : (P : ℕ → X → Type 0) (n a b : ℕ) (xs ys : List X) → xs ≡ ys → a ≡ b → IsRest P n b ys → IsRest P n a xs
-  rest_as P n a b xs ys same total r = record { each = subst (λ (zs : List X). AllAt P n zs) (sym same) r.each; count = let l = ap length same in let c = r.count in omega arith }
-
-  -- all that was taken, once as many were as there are
-  pub rest_ends : (P : ℕ → X → Type 0) (k n a b : ℕ) (xs : List X) → k ≡ n → a ≡ b → IsRest P k a xs → IsRest P n b xs
-  rest_ends P k n a b xs same total r = subst (λ (j : ℕ). IsRest P j b xs) same (subst (λ (t : ℕ). IsRest P k t xs) total r)
-
   pub all_made : (P : ℕ → X → Type 0) (k n : ℕ) (xs : List X) → k ≡ n → length xs ≡ k → AllAt P 0 xs → IsRest P 0 n xs
   all_made P k n xs same long all = record { each = all; count = let e = long ∙ same in omega arith }
+
+-- all have been made
+pub all_taken : (k count n : ℕ) → k ≤ count → count ≤ k → count ≡ n → k ≡ n
+all_taken k count n a b e = omega arith
 
 -- what two lists make one by one, after what was made already: at first, after one more, and once nothing is left
 module _ {X Y Z : Type 0} (make : X → Y → Z) where
@@ -113,7 +82,3 @@ module _ {X Y Z : Type 0} (make : X → Y → Z) where
   pub paired_last : (made : List Z) (xs : List X) (ys : List Y) (all : List Z) → length xs ≡ 0 → made ++ paired make xs ys ≡ all → made ≡ all
   paired_last made [] ys all long is = sym (append-nil made) ∙ is
   paired_last made (x ∷ xs) ys all long is = absurd (omega arith)
-
--- new ends of these pipes, by another name
-pub ends_of : {T : Type 0} (p : ℕ) (pipes : List Shape) (ends : List (Sender T)) → ends ≡ fresh_ends p pipes → AreEndsOf p pipes ends
-ends_of {T = T} p pipes ends is = subst (λ (xs : List (Sender T)). AreEndsOf p pipes xs) (sym is) (fresh_are T p pipes)

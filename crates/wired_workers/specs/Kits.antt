@@ -5,7 +5,7 @@ use Rattle.order_laws.specs.Item.{Arrival}
 use Rattle.process_packet.specs.declared.config.Config.{Config}
 use Rattle.ruled_pipe.specs.Producer.{Sender}
 use Rattle.ruled_pipe.specs.Consumer.{Taker}
-use Rattle.ruled_pipe.specs.Pipe.{Shape, IsEndOf}
+use Rattle.ruled_pipe.specs.Pipe.{Shape, IsEndOf, IsTakerOf}
 use Rattle.router_rules.specs.Rules.{kinds}
 use Rattle.router_stages.specs.Answering.{Answering}
 use Rattle.router_stages.specs.Forwarding.{Band, Forwarding, first_delivery, first_forwarding}
@@ -14,8 +14,7 @@ use Rattle.router_stages.specs.Working.{Working}
 use Rattle.stage_parts.specs.Outlet.{Offering}
 use Rattle.stage_parts.specs.Outlets.{AreFresh, senders}
 use Rattle.pipe_ends.specs.Rows.{AreEndsOf, fresh_ends}
-use Rattle.router_pipes.specs.Dealing.{IsTakerThere}
-use Rattle.router_pipes.specs.Piping.{IsTakerOf, Piping}
+use Rattle.router_pipes.specs.Piping.{IsTakerThere, Piping}
 
 -- what each of a list makes with its own of another
 module _ {X Y Z : Type 0} (make : X → Y → Z) where

@@ -6,8 +6,10 @@ ghost use Rattle.packet_ledger.specs.Share.{new_share};
 ghost use Rattle.router_rules.specs.Links.{link_count};
 ghost use Rattle.ruled_pipe.specs.Pipe.{Shape};
 ghost use Rattle.stage_parts.specs.Outlets.{senders};
-ghost use Rattle.pipe_ends.specs.Rows.{AreDealt, AreEndsOf, IsBundle, fresh_ends, new_takers};
-ghost use Rattle.router_pipes.specs.Dealing.{piping};
+ghost use Rattle.pipe_ends.specs.Rows.{AreEndsOf, IsBundle, fresh_ends, new_takers};
+ghost use Rattle.pipe_ends.specs.Opened.{shapes_of};
+ghost use Rattle.router_pipes.specs.Piping.{IsPiping};
+ghost use Rattle.router_pipes.specs.Pipes.{HaveMade, piping_of};
 ghost use Rattle.wired_workers.specs.Kits.{IsEnteringAt};
 ghost use Rattle.wired_workers.specs.Shares.{AreNewShares, HaveGone};
 ghost use Rattle.router_pipes.specs.Rest.{IsRest};
@@ -15,11 +17,11 @@ ghost use Rattle.router_pipes.specs.Rest.{IsRest};
 use crate::common::Common;
 use crate::over::Over;
 use packet_ledger::Share;
-use pipe_ends::{Ends, Line};
+use pipe_ends::Line;
 use router_pipes::{Pipes, outlets};
 use router_rules::{Shared, link_count};
 use router_stages::Receiver;
-use ruled_pipe::Consumer;
+use ruled_pipe::{Consumer, Producer};
 use stage_parts::{Buffer, Outlet, Packet, Router, Source, all_three};
 use std::alloc::{AllocError, Global};
 use std::marker::Model;
@@ -93,21 +95,21 @@ fn entering_at<N: Router>(
     alloc: Global,
     common: &Common,
     link: u16,
-    bundle: Ends<Packet<N>>,
+    ends: Vec<Producer<Packet<N>>>,
     free: Consumer<Buffer>,
     share: Share<N>,
 ) -> Result<Entering<N>, AllocError>
     requires config { N.config ≡ Some (arc_value common.now.shared).config }
     requires link { link < link_count (arc_value common.now.shared).config }
-    requires bundle { IsBundle bundle.ends × (length bundle.ends ≡ (arc_value common.now.shared).config.processors) }
+    requires ends { IsBundle ends.items × (length ends.items ≡ (arc_value common.now.shared).config.processors) }
     requires free { free.looks ≡ [] }
     requires share { share ≡ new_share }
     ensures config { IfOk result (λ e. (e.config ≡ (arc_value common.now.shared).config) × (e.link ≡ link)) }
     ensures free { IfOk result (λ e. e.free ≡ free) }
-    ensures processors { IfOk result (λ e. (p : ℕ) (shapes : List Shape) → bundle.ends ≡ fresh_ends p shapes → AreEndsOf p shapes (senders e.processors)) }
+    ensures processors { IfOk result (λ e. (p : ℕ) (shapes : List Shape) → ends.items ≡ fresh_ends p shapes → AreEndsOf p shapes (senders e.processors)) }
 {
     let stop = Arc::try_clone(&common.stop)?;
-    let processors = outlets(alloc, bundle, common.events.processors.as_slice(), 1);
+    let processors = outlets(alloc, ends, common.events.processors.as_slice(), 1);
     let shared = Arc::try_clone(&common.shared);
     let (processors, shared, first) = all_three(processors, shared, Buffer::new(alloc))?;
     Ok(Entering {
@@ -125,29 +127,27 @@ fn entering_at<N: Router>(
 pub fn all_entering<N: Router>(
     alloc: Global,
     common: &Common,
-    pipes: &Pipes<N>,
-    bundles: Vec<Ends<Packet<N>>>,
+    pipes: &mut Pipes<N>,
     free: Vec<Consumer<Buffer>>,
     shares: &mut Line<Share<N>>,
 ) -> Result<Vec<Entering<N>>, AllocError>
     requires config { N.config ≡ Some (arc_value common.now.shared).config }
-    requires pipes { (length pipes.now.inner.items ≡ (arc_value common.now.shared).config.processors) × (length pipes.now.free.items ≡ link_count (arc_value common.now.shared).config) }
-    requires bundles { (length bundles.items ≡ link_count (arc_value common.now.shared).config) × AreDealt pipes.now.inner.items 0 bundles.items }
-    requires free { free.items ≡ new_takers pipes.now.free.items }
+    requires piping { IsPiping (arc_value common.now.shared).config (piping_of pipes.old) }
+    requires made { HaveMade 0 0 0 0 (piping_of pipes.old) pipes.old }
+    requires free { free.items ≡ new_takers (shapes_of pipes.old.free) }
     requires shares { AreNewShares (link_count (arc_value common.now.shared).config) shares.old }
+    ensures pipes { IfOk result (λ _. HaveMade (link_count (arc_value common.now.shared).config) 0 0 0 (piping_of pipes.old) pipes.new) }
     ensures shares { IfOk result (λ _. HaveGone (link_count (arc_value common.now.shared).config) shares.old shares.new) }
-    ensures made { IfOk result (λ v. IsRest (IsEnteringAt (arc_value common.now.shared).config (piping pipes.now.inner.items pipes.now.middle pipes.now.outer.items pipes.now.free.items)) 0 (link_count (arc_value common.now.shared).config) v.items) }
+    ensures made { IfOk result (λ v. IsRest (IsEnteringAt (arc_value common.now.shared).config (piping_of pipes.old)) 0 (link_count (arc_value common.now.shared).config) v.items) }
 {
     let links = link_count(&common.shared.config);
     let mut made = Vec::with_capacity(alloc, links)?;
-    let mut bundles = Line::of(bundles);
     let mut free = Line::of(free);
     for link in 0..links {
-        let bundle = bundles.next();
+        let ends = pipes.receiver_ends(alloc)?;
         let taker = free.next();
         let share = shares.next();
-        made.push_reserved(entering_at(alloc, common, link as u16, bundle, taker, share)?);
+        made.push_reserved(entering_at(alloc, common, link as u16, ends, taker, share)?);
     }
-    let _ = pipes;
     Ok(made)
 }

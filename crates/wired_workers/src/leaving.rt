@@ -5,17 +5,18 @@ ghost use Rattle.std.specs.Arc.{arc_value};
 ghost use Rattle.packet_ledger.specs.Share.{new_share};
 ghost use Rattle.router_rules.specs.Links.{link_count};
 ghost use Rattle.router_stages.specs.Forwarding.{band};
-ghost use Rattle.pipe_ends.specs.Rows.{AreFor, new_takers};
-ghost use Rattle.router_pipes.specs.Dealing.{IsBundleOf, piping};
+ghost use Rattle.pipe_ends.specs.Rows.{new_takers};
+ghost use Rattle.pipe_ends.specs.Opened.{shapes_of};
+ghost use Rattle.router_pipes.specs.Piping.{IsPiping, Piping};
+ghost use Rattle.router_pipes.specs.Pipes.{HaveMade, piping_of};
 ghost use Rattle.wired_workers.specs.Kits.{IsLeavingAt};
 ghost use Rattle.wired_workers.specs.Shares.{AreNewShares};
 ghost use Rattle.router_pipes.specs.Rest.{IsRest};
 
 use crate::common::Common;
 use crate::over::Over;
-use crate::remaining::Remaining;
 use packet_ledger::Share;
-use pipe_ends::{Ends, Line};
+use pipe_ends::Line;
 use router_pipes::Pipes;
 use router_rules::{Shared, link_count};
 use router_stages::{Band, Forwarder};
@@ -90,16 +91,16 @@ fn leaving_at<N: Router>(
     producers: usize,
     low: Consumer<EgressPacket<N>>,
     high: Consumer<EgressPacket<N>>,
-    free: Ends<Buffer>,
+    free: Vec<Producer<Buffer>>,
     share: Share<N>,
 ) -> Leaving<N>
     requires config { N.config ≡ Some (arc_value shared).config }
     requires low { (low.taken ≡ []) × (low.producers ≡ producers) }
     requires high { (high.taken ≡ []) × (high.producers ≡ producers) }
-    requires free { length free.ends ≡ link_count (arc_value shared).config }
+    requires free { length free.items ≡ link_count (arc_value shared).config }
     requires share { share ≡ new_share }
     ensures config { (result.config ≡ (arc_value shared).config) × (result.link ≡ link) }
-    ensures free { result.free ≡ free.ends }
+    ensures free { result.free ≡ free.items }
     ensures bands { (result.low ≡ band low false) × (result.high ≡ band high false) }
 {
     Leaving {
@@ -107,7 +108,7 @@ fn leaving_at<N: Router>(
         link,
         low: Band::of(low, producers),
         high: Band::of(high, producers),
-        free: free.into_items(),
+        free,
         share,
     }
 }
@@ -116,16 +117,17 @@ fn leaving_at<N: Router>(
 pub fn all_leaving<N: Router>(
     alloc: Global,
     common: &Common,
-    pipes: &Pipes<N>,
+    pipes: &mut Pipes<N>,
     takers: Vec<Consumer<EgressPacket<N>>>,
-    remaining: &mut Remaining<N>,
+    shares: &mut Line<Share<N>>,
 ) -> Result<Vec<Leaving<N>>, AllocError>
     requires config { N.config ≡ Some (arc_value common.now.shared).config }
-    requires pipes { (length pipes.now.outer.items ≡ 2 * link_count (arc_value common.now.shared).config) × AreFor ((arc_value common.now.shared).config.processors + 2) pipes.now.outer.items × (length pipes.now.free.items ≡ link_count (arc_value common.now.shared).config) }
-    requires takers { takers.items ≡ new_takers pipes.now.outer.items }
-    requires free { IsRest (IsBundleOf pipes.now.free.items) ((arc_value common.now.shared).config.processors + 1) ((arc_value common.now.shared).config.processors + 1 + link_count (arc_value common.now.shared).config) remaining.old.free }
-    requires shares { AreNewShares (link_count (arc_value common.now.shared).config) remaining.old.shares }
-    ensures made { IfOk result (λ v. IsRest (IsLeavingAt (arc_value common.now.shared).config (piping pipes.now.inner.items pipes.now.middle pipes.now.outer.items pipes.now.free.items)) 0 (link_count (arc_value common.now.shared).config) v.items) }
+    requires piping { IsPiping (arc_value common.now.shared).config (piping_of pipes.old) }
+    requires made { HaveMade (link_count (arc_value common.now.shared).config) (arc_value common.now.shared).config.processors ((arc_value common.now.shared).config.processors + 2) ((arc_value common.now.shared).config.processors + 1) (piping_of pipes.old) pipes.old }
+    requires takers { takers.items ≡ new_takers (shapes_of pipes.old.outer) }
+    requires shares { AreNewShares (link_count (arc_value common.now.shared).config) shares.old }
+    ensures pipes { IfOk result (λ _. HaveMade (link_count (arc_value common.now.shared).config) (arc_value common.now.shared).config.processors ((arc_value common.now.shared).config.processors + 2) ((arc_value common.now.shared).config.processors + 1 + link_count (arc_value common.now.shared).config) (piping_of pipes.old) pipes.new) }
+    ensures made { IfOk result (λ v. IsRest (IsLeavingAt (arc_value common.now.shared).config (piping_of pipes.old)) 0 (link_count (arc_value common.now.shared).config) v.items) }
 {
     let links = link_count(&common.shared.config);
     let producers = usize::from(common.shared.config.processors) + 2;
@@ -133,12 +135,11 @@ pub fn all_leaving<N: Router>(
     let mut takers = Line::of(takers);
     for link in 0..links {
         let own = Arc::try_clone(&common.shared)?;
+        let free = pipes.free_ends(alloc)?;
         let low = takers.next();
         let high = takers.next();
-        let back = remaining.free.next();
-        let share = remaining.shares.next();
-        made.push_reserved(leaving_at(own, link as u16, producers, low, high, back, share));
+        let share = shares.next();
+        made.push_reserved(leaving_at(own, link as u16, producers, low, high, free, share));
     }
-    let _ = pipes;
     Ok(made)
 }

@@ -7,11 +7,9 @@ mod entering;
 mod leaving;
 mod middle;
 mod over;
-mod remaining;
 
 pub use common::Common;
 pub use entering::{Entering, all_entering};
 pub use leaving::{Leaving, all_leaving};
-pub use middle::{Deciding, deciding_of};
+pub use middle::{processors_of, slow_path_of};
 pub use over::{Over, over_each};
-pub use remaining::Remaining;

@@ -1,7 +1,7 @@
 use Rattle.std.proofs.Common.{◌≡◌, is_err, false}
-use Rattle.router_pipes.proofs.FreeLemmas.{put_more}
+use Rattle.router_pipes.proofs.FillingLemmas.{put_more}
 use Rattle.router_pipes.proofs.OkLemmas.{of_no_err}
-use Rattle.router_pipes.proofs.pipes.fill_one.Goals as goal
+use Rattle.router_pipes.proofs.filling.fill_one.Goals as goal
 
 pub loop-put-preserved : goal.loop-put-preserved
 loop-put-preserved g c =

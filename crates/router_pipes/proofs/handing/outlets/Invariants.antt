@@ -5,11 +5,9 @@ use Rattle.router_pipes.specs.Handing.{HaveEvents}
 use Rattle.router_pipes.proofs.handing.outlets.Given as goal
 
 abbrev pub invariant-loop-end : goal.invariant-loop-end
-invariant-loop-end g l =
-    (senders l.outlets.items ≡ l.yielded)
-    × AreFresh l.outlets.items
-    × (length (into_iter_items l.initial.end-iterator) ≤ vec_capacity l.outlets)
-    × (l.yielded ++ into_iter_items l.end-iterator ≡ into_iter_items l.initial.end-iterator)
-    × (into_iter_len l.end-iterator ≡ length (into_iter_items l.end-iterator))
-    × (into_iter_items l.initial.end-iterator ≡ l.fn.bundle.ends)
-    × HaveEvents (λ k. is_some (slice_get l.fn.events (k / l.fn.pipes))) 0 l.outlets.items
+invariant-loop-end g l = record {
+  made : (senders l.outlets.items ≡ l.yielded) × AreFresh l.outlets.items × HaveEvents (λ k. is_some (slice_get l.fn.events (k / l.fn.pipes))) 0 l.outlets.items;
+  room : length l.fn.ends.items ≤ vec_capacity l.outlets;
+  split : l.yielded ++ into_iter_items l.end-iterator ≡ l.fn.ends.items;
+  len : into_iter_len l.end-iterator ≡ length (into_iter_items l.end-iterator);
+}

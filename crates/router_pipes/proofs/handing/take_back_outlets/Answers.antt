@@ -1,37 +1,68 @@
-use Rattle.std.proofs.Common.{refl, List, [], ◌∷◌, ◌++◌, length, sym, ap, subst, ◌∙◌, append_assoc, arith}
+use Rattle.std.proofs.Common.{List, [], ◌∷◌, length, refl, ap, subst, ◌∙◌, arith, length-append}
 use Rattle.ruled_pipe.specs.Producer.{Sender}
-use Rattle.router_pipes.specs.Handing.{NeverClosed}
-use Rattle.router_pipes.proofs.HandingLemmas.{bare_more, never_closed, one_short}
-use Rattle.router_pipes.proofs.handing.bare.Goals as goal
+use Rattle.stage_parts.specs.Outlet.{IsMarked, Offering}
+use Rattle.stage_parts.specs.Outlets.{senders}
+use Rattle.router_pipes.specs.Handing.{AreMarked, NeverClosed}
+use Rattle.pipe_ends.specs.TakenBack.{after_row}
+use Rattle.pipe_ends.proofs.Lists.{all_taken, one_taken, with_next}
+use Rattle.router_pipes.proofs.HandingLemmas.{marked_more, never_closed}
+use Rattle.pipe_ends.proofs.TakenBackLemmas.{taken_next, taken_room, taken_there}
+use Rattle.router_pipes.proofs.handing.take_back_outlets.Goals as goal
 
-pub put-requires : goal.put-requires
-put-requires g c =
+abbrev sender_of : {T : Type 0} → Offering T → Sender T
+sender_of o = o.sender
+
+pub index_mut-requires : goal.index_mut-requires
+index_mut-requires g c =
     let at = c.loop-outlet in
-    let split = ap (λ l. at.yielded ++ l) (sym c.in-Some.ensures.steps.0) ∙ at.invariant.3 ∙ at.invariant.5 in
-    let short = one_short c.args.outlets.items at.yielded _ c.in-Some.outlet at.row.ends c.args.room.room split at.invariant.0 c.requires.1 in
-    let room = at.invariant.2 in
+    let inv = at.invariant in
+    let split = with_next at.yielded _ _ c.args.outlets.items c.in-Some.outlet c.in-Some.ensures.steps.0 inv.split in
+    let lt = taken_room sender_of c.args.outlets.items at.yielded _ c.in-Some.outlet c.args.pipes.now.items at.pipes.items at.at split c.requires inv.back inv.at in
+    let o = at.pipes.ok in
     omega arith
 
-pub loop-outlet-preserved : goal.loop-outlet-preserved
-loop-outlet-preserved g c =
+pub absorb-requires : goal.absorb-requires
+absorb-requires g c =
     let at = c.loop-outlet in
-    let x = c.in-Some.outlet in
-    let steps = c.in-Some.ensures.steps.0 in
-    let more = bare_more at.yielded at.row.ends c.put.new.self.ends x c.into_producer.result at.invariant.0 at.invariant.1 c.put.ensures.0 c.into_producer.ensures.same c.into_producer.ensures.marks in (
-      more.0,
-      more.1,
-      c.put.ensures.1 ∙ at.invariant.2,
-      append_assoc at.yielded (x ∷ []) _ ∙ rw (← steps) at.invariant.3,
-      (let was = at.invariant.4 in let gone = c.in-Some.ensures.steps.1 in let short = ap length steps in omega arith),
-      at.invariant.5,
-    )
-
-pub returns-clause-unclosed : goal.returns-clause-unclosed
-returns-clause-unclosed g c =
-    let at = c.loop-outlet in
-    subst (λ (l : List (Sender g.row.T.Denot)). NeverClosed l) (sym at.invariant.0) (never_closed at.yielded at.invariant.1)
+    let inv = at.invariant in
+    let split = with_next at.yielded _ _ c.args.outlets.items c.in-Some.outlet c.in-Some.ensures.steps.0 inv.split in
+    taken_there sender_of c.args.outlets.items at.yielded _ c.in-Some.outlet c.args.pipes.now.items at.pipes.items at.at _ c.index_mut.result.now c.into_producer-end.result split c.requires inv.back inv.at c.index_mut.ensures.value c.into_producer-end.ensures.same
 
 pub loop-outlet-init : goal.loop-outlet-init
 loop-outlet-init g c =
     let it = c.into_iter-outlet-iterator in
-    (c.requires.0, tt, refl, refl {a = it.result.rest.items}, it.result.rest.ok.0, it.ensures.into_iter_gives.0)
+    record { back = refl; marks = tt; at = refl; split = it.ensures.into_iter_gives.0; len = it.result.rest.ok.0 }
+
+pub loop-outlet-preserved : goal.loop-outlet-preserved
+loop-outlet-preserved g c =
+    let at = c.loop-outlet in
+    let inv = at.invariant in
+    let x = c.in-Some.outlet in
+    let steps = c.in-Some.ensures.steps.0 in
+    let split = with_next at.yielded _ _ c.args.outlets.items x steps inv.split in
+    record {
+      back = taken_next sender_of c.args.outlets.items at.yielded _ x c.args.pipes.now.items at.pipes.items at.at _ c.index_mut.result.now c.absorb.new.self c.into_producer-end.result split c.requires inv.back inv.at
+          c.index_mut.ensures.value c.into_producer-end.ensures.same c.absorb.ensures;
+      marks = marked_more at.yielded x inv.marks (subst (λ (s : Sender g.row.T.Denot). IsMarked s x.ended) c.into_producer-end.ensures.same c.into_producer-end.ensures.marks);
+      at = (let k = inv.at in omega (arith, length-append at.yielded (x ∷ [])));
+      split = one_taken at.yielded _ _ c.args.outlets.items x steps inv.split;
+      len = (let was = inv.len in let gone = c.in-Some.ensures.steps.1 in let short = ap length steps in omega arith);
+    }
+
+pub returns-clause-back : goal.returns-clause-back
+returns-clause-back g c =
+    let at = c.loop-outlet in
+    let all = all_taken at.yielded _ c.args.outlets.items _ at.invariant.split at.invariant.len c.in-None.ensures.steps.0 in
+    at.invariant.back ∙ ap (λ (os : List (Offering g.row.T.Denot)). after_row (senders os) c.args.pipes.now.items) all
+
+pub returns-clause-marks : goal.returns-clause-marks
+returns-clause-marks g c =
+    let at = c.loop-outlet in
+    let all = all_taken at.yielded _ c.args.outlets.items _ at.invariant.split at.invariant.len c.in-None.ensures.steps.0 in
+    subst (λ (os : List (Offering g.row.T.Denot)). AreMarked os) all at.invariant.marks
+
+pub returns-clause-unclosed : goal.returns-clause-unclosed
+returns-clause-unclosed g c =
+    let at = c.loop-outlet in
+    let all = all_taken at.yielded _ c.args.outlets.items _ at.invariant.split at.invariant.len c.in-None.ensures.steps.0 in
+    subst (λ (os : List (Offering g.row.T.Denot)). NeverClosed (senders os)) all (never_closed at.yielded at.invariant.marks)

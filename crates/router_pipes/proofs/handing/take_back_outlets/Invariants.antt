@@ -1,14 +1,15 @@
 use Rattle.std.proofs.Common.{◌≡◌, ◌++◌, length}
 use Rattle.std.specs.Vec.Iter.{into_iter_items, into_iter_len}
 use Rattle.stage_parts.specs.Outlets.{senders}
+use Rattle.pipe_ends.specs.TakenBack.{after_row}
 use Rattle.router_pipes.specs.Handing.{AreMarked}
-use Rattle.router_pipes.proofs.handing.bare.Given as goal
+use Rattle.router_pipes.proofs.handing.take_back_outlets.Given as goal
 
 abbrev pub invariant-loop-outlet : goal.invariant-loop-outlet
-invariant-loop-outlet g l =
-    (l.row.ends ≡ senders l.yielded)
-    × AreMarked l.yielded
-    × (l.row.room ≡ l.fn.room.room)
-    × (l.yielded ++ into_iter_items l.outlet-iterator ≡ into_iter_items l.initial.outlet-iterator)
-    × (into_iter_len l.outlet-iterator ≡ length (into_iter_items l.outlet-iterator))
-    × (into_iter_items l.initial.outlet-iterator ≡ l.fn.outlets.items)
+invariant-loop-outlet g l = record {
+  back : l.pipes.items ≡ after_row (senders l.yielded) l.initial.pipes.items;
+  marks : AreMarked l.yielded;
+  at : l.at ≡ length l.yielded;
+  split : l.yielded ++ into_iter_items l.outlet-iterator ≡ l.fn.outlets.items;
+  len : into_iter_len l.outlet-iterator ≡ length (into_iter_items l.outlet-iterator);
+}

@@ -1,31 +1,65 @@
-use Rattle.std.proofs.Common.{◌+◌, ◌*◌}
+use Rattle.std.proofs.Common.{◌≡◌, ◌+◌, ◌*◌, ℕ, length, refl, ◌∙◌}
+use Rattle.std.proofs.lemmas.List.{length-map}
+use Rattle.ruled_pipe.specs.Pipe.{shape_of}
 use Rattle.router_rules.specs.Links.{link_count}
-use Rattle.pipe_ends.specs.Rows.{AreWide, AreWideAs}
+use Rattle.pipe_ends.specs.Opened.{AreNewPipes, shapes_of}
+use Rattle.pipe_ends.proofs.OpenedLemmas.{new_for, new_made, new_taken, new_wide, wide}
 use Rattle.router_pipes.specs.Piping.{outer_capacity}
-use Rattle.router_pipes.specs.Dealing.{IsDealing}
 use Rattle.router_pipes.proofs.OkLemmas.{of_ok}
-use Rattle.router_pipes.proofs.pipes.all_pipes.Goals as goal
+use Rattle.router_pipes.proofs.pipes.open_all.Goals as goal
 
-pub returns-clause-inner : goal.returns-clause-inner
-returns-clause-inner g c = of_ok (λ d. IsDealing (link_count c.args.shared.now.config) c.args.shared.now.config.processors d.pipes.items d.rooms.items d.takers.items d.bundles.items) c.inner_pipes-inner.result c.in_ok-inner.inner c.in_ok-inner.ensures.0 c.inner_pipes-inner.ensures.dealing
+pub returns-clause-piping : goal.returns-clause-piping
+returns-clause-piping g c =
+    let config = c.args.shared.now.config in
+    let inner = c.in_ok-inner.inner in
+    let outer = c.in_ok-inner.outer in
+    let free = c.in_ok-free.free in
+    let new = of_ok (λ n. AreNewPipes (λ _. config.capacity) (link_count config) 0 n.pipes.items n.takers.items) c.inner_pipes-inner.result inner c.in_ok-inner.ensures.0 c.inner_pipes-inner.ensures.new in
+    let news = of_ok (λ n. AreNewPipes (outer_capacity config) (config.processors + 2) 0 n.pipes.items n.takers.items) c.outer_pipes.result outer c.in_ok-inner.ensures.1 c.outer_pipes.ensures.new in
+    record {
+      inner = new_for _ _ 0 inner.pipes.items inner.takers.items new;
+      processors = length-map inner.pipes.items shape_of ∙ of_ok (λ n. length n.pipes.items ≡ config.processors) c.inner_pipes-inner.result inner c.in_ok-inner.ensures.0 c.inner_pipes-inner.ensures.count;
+      inner_wide = wide config.capacity 0 (shapes_of inner.pipes.items) (new_wide _ _ 0 inner.pipes.items inner.takers.items new);
+      middle = c.in_ok-middle.ensures.pipe.0;
+      middle_wide = c.in_ok-middle.ensures.pipe.1;
+      outer = new_for _ _ 0 outer.pipes.items outer.takers.items news;
+      links = length-map outer.pipes.items shape_of ∙ of_ok (λ n. length n.pipes.items ≡ 2 * link_count config) c.outer_pipes.result outer c.in_ok-inner.ensures.1 c.outer_pipes.ensures.count;
+      outer_wide = new_wide _ _ 0 outer.pipes.items outer.takers.items news;
+      free = new_for _ _ 0 free.pipes.items free.takers.items c.in_ok-free.ensures.new;
+      free_links = length-map free.pipes.items shape_of ∙ c.in_ok-free.ensures.count;
+      free_wide = wide config.buffers 0 (shapes_of free.pipes.items) (new_wide _ _ 0 free.pipes.items free.takers.items c.in_ok-free.ensures.new);
+    }
 
-pub returns-clause-inner_wide : goal.returns-clause-inner_wide
-returns-clause-inner_wide g c = of_ok (λ d. AreWide c.args.shared.now.config.capacity d.pipes.items) c.inner_pipes-inner.result c.in_ok-inner.inner c.in_ok-inner.ensures.0 c.inner_pipes-inner.ensures.wide
+pub returns-clause-made : goal.returns-clause-made
+returns-clause-made g c =
+    let config = c.args.shared.now.config in
+    let inner = c.in_ok-inner.inner in
+    let outer = c.in_ok-inner.outer in
+    let free = c.in_ok-free.free in
+    let new = of_ok (λ n. AreNewPipes (λ _. config.capacity) (link_count config) 0 n.pipes.items n.takers.items) c.inner_pipes-inner.result inner c.in_ok-inner.ensures.0 c.inner_pipes-inner.ensures.new in
+    let news = of_ok (λ n. AreNewPipes (outer_capacity config) (config.processors + 2) 0 n.pipes.items n.takers.items) c.outer_pipes.result outer c.in_ok-inner.ensures.1 c.outer_pipes.ensures.new in
+    record {
+      piping = refl;
+      inner = new_made _ _ 0 inner.pipes.items inner.takers.items new;
+      middle = c.in_ok-middle.ensures.new;
+      outer = new_made _ _ 0 outer.pipes.items outer.takers.items news;
+      free = new_made _ _ 0 free.pipes.items free.takers.items c.in_ok-free.ensures.new;
+    }
 
-pub returns-clause-outer_wide : goal.returns-clause-outer_wide
-returns-clause-outer_wide g c = of_ok (λ d. AreWideAs (outer_capacity c.args.shared.now.config) 0 d.pipes.items) c.outer_pipes.result c.in_ok-inner.outer c.in_ok-inner.ensures.1 c.outer_pipes.ensures.wide
+pub returns-clause-packets : goal.returns-clause-packets
+returns-clause-packets g c =
+    let config = c.args.shared.now.config in
+    let inner = c.in_ok-inner.inner in
+    new_taken _ _ 0 inner.pipes.items inner.takers.items (of_ok (λ n. AreNewPipes (λ _. config.capacity) (link_count config) 0 n.pipes.items n.takers.items) c.inner_pipes-inner.result inner c.in_ok-inner.ensures.0 c.inner_pipes-inner.ensures.new)
 
-pub returns-clause-outer : goal.returns-clause-outer
-returns-clause-outer g c = of_ok (λ d. IsDealing (c.args.shared.now.config.processors + 2) (2 * link_count c.args.shared.now.config) d.pipes.items d.rooms.items d.takers.items d.bundles.items) c.outer_pipes.result c.in_ok-inner.outer c.in_ok-inner.ensures.1 c.outer_pipes.ensures.dealing
+pub returns-clause-requests : goal.returns-clause-requests
+returns-clause-requests g c = c.in_ok-middle.ensures.taker
 
-pub returns-clause-middle : goal.returns-clause-middle
-returns-clause-middle g c = c.in_ok-middle.ensures.pipe
+pub returns-clause-egress_packets : goal.returns-clause-egress_packets
+returns-clause-egress_packets g c =
+    let config = c.args.shared.now.config in
+    let outer = c.in_ok-inner.outer in
+    new_taken _ _ 0 outer.pipes.items outer.takers.items (of_ok (λ n. AreNewPipes (outer_capacity config) (config.processors + 2) 0 n.pipes.items n.takers.items) c.outer_pipes.result outer c.in_ok-inner.ensures.1 c.outer_pipes.ensures.new)
 
-pub returns-clause-asking : goal.returns-clause-asking
-returns-clause-asking g c = c.in_ok-middle.ensures.ends
-
-pub returns-clause-asked : goal.returns-clause-asked
-returns-clause-asked g c = c.in_ok-middle.ensures.taker
-
-pub returns-clause-free : goal.returns-clause-free
-returns-clause-free g c = c.in_ok-free.ensures
+pub returns-clause-free_buffers : goal.returns-clause-free_buffers
+returns-clause-free_buffers g c = let free = c.in_ok-free.free in new_taken _ _ 0 free.pipes.items free.takers.items c.in_ok-free.ensures.new

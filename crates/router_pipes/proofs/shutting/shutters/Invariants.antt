@@ -5,9 +5,9 @@ use Rattle.pipe_ends.specs.Shutting.{AreNew}
 use Rattle.router_pipes.proofs.shutting.shutters.Given as goal
 
 abbrev pub invariant-loop-end : goal.invariant-loop-end
-invariant-loop-end g l =
-    AreNew (are_used l.fn.shared.config) 0 l.yielded l.shutters.items
-    × (length (into_iter_items l.initial.end-iterator) ≤ vec_capacity l.shutters)
-    × (l.yielded ++ into_iter_items l.end-iterator ≡ into_iter_items l.initial.end-iterator)
-    × (into_iter_len l.end-iterator ≡ length (into_iter_items l.end-iterator))
-    × (into_iter_items l.initial.end-iterator ≡ l.fn.bundle.ends)
+invariant-loop-end g l = record {
+  made : AreNew (are_used l.fn.shared.config) 0 l.yielded l.shutters.items;
+  room : length l.fn.ends.items ≤ vec_capacity l.shutters;
+  split : l.yielded ++ into_iter_items l.end-iterator ≡ l.fn.ends.items;
+  len : into_iter_len l.end-iterator ≡ length (into_iter_items l.end-iterator);
+}

@@ -1,6 +1,5 @@
 use Rattle.std.proofs.Common.{ℕ, sym, subst}
 use Rattle.process_packet.specs.declared.config.Config.{Config}
-use Rattle.router_pipes.specs.Dealing.{piping}
 use Rattle.run_report.specs.Room.{HaveSpace}
 use Rattle.router_run.specs.WorkerParts.{AreWorkerParts}
 use Rattle.router_pipes.proofs.OkLemmas.{of_ok}
@@ -20,4 +19,4 @@ pub returns-clause-worker_parts : goal.returns-clause-worker_parts
 returns-clause-worker_parts g c =
     let w = c.in_ok-worker_parts.worker_parts in
     let made = of_ok _ c.make_all-worker_parts.result w c.in_ok-worker_parts.ensures.0 c.make_all-worker_parts.ensures in
-    subst (λ (k : Config). AreWorkerParts k (piping w.pipes.inner.items w.pipes.middle w.pipes.outer.items w.pipes.free.items) w.pipes.inner_rooms.items w.pipes.outer_rooms.items w.receivers.items w.processors.items w.slow w.forwarders.items w.shutters.items w.pipes.fillers.items) c.in_ok-base.ensures.shared made
+    subst (λ (k : Config). AreWorkerParts k w.pipes w.receivers.items w.processors.items w.slow w.forwarders.items w.shutters.items w.fillers.items) c.in_ok-base.ensures.shared made

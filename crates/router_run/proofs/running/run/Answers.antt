@@ -1,6 +1,6 @@
 use Rattle.std.proofs.Common.{length, refl, arith}
 use Rattle.std.specs.Arc.{arc_value}
-use Rattle.router_pipes.specs.Dealing.{piping}
+use Rattle.router_pipes.specs.Pipes.{piping_of}
 use Rattle.router_run.proofs.TeamLemmas.{for_as}
 use Rattle.router_run.proofs.Begin.{begins, crew_by, is_crew}
 use Rattle.router_run.proofs.running.run.Goals as goal
@@ -35,11 +35,10 @@ invariant_of-result g c =
     let rear = c.start_rear-slow.ensures c.if-are_all.true in
     let front = c.start_front-receivers.ensures rear.0 in (
       c.requires.workers,
-      crew_by (arc_value c.args.prepared.base.common.shared).config (piping made.pipes.inner.items made.pipes.middle made.pipes.outer.items made.pipes.free.items) _ _ _ _ _ _ _ _ made.shutters.items
+      crew_by (arc_value c.args.prepared.base.common.shared).config (piping_of made.pipes) _ _ _ _ _ _ _ _ made.shutters.items
           front.0 front.1 rear.1 rear.2
-          (is_crew g.K.Sink.failed _ _ made.pipes.inner_rooms.items made.pipes.outer_rooms.items made.receivers.items made.processors.items made.slow made.forwarders.items made.shutters.items made.pipes.fillers.items c.args.sources.items c.args.sinks.items c.requires.worker_parts c.requires.sources.1 c.requires.sinks.1),
-      c.requires.worker_parts.inner_room,
-      c.requires.worker_parts.outer_room,
+          (is_crew g.K.Sink.failed _ made.pipes made.receivers.items made.processors.items made.slow made.forwarders.items made.shutters.items made.fillers.items c.args.sources.items c.args.sinks.items c.requires.worker_parts c.requires.sources.1 c.requires.sinks.1),
+      c.requires.worker_parts.made,
       c.requires.space,
     )
 
@@ -56,8 +55,8 @@ returns-then-are_all g c =
     (let b = c.requires.worker_parts.entering.count in omega arith)
     (let b = c.requires.worker_parts.leaving.count in omega arith)
     (c.requires.sources.1, c.requires.sinks.1)
-    (crew_by config (piping made.pipes.inner.items made.pipes.middle made.pipes.outer.items made.pipes.free.items) _ _ _ _ _ _ _ _ made.shutters.items
+    (crew_by config (piping_of made.pipes) _ _ _ _ _ _ _ _ made.shutters.items
     front.0 front.1 rear.1 rear.2
-    (is_crew g.K.Sink.failed _ _ made.pipes.inner_rooms.items made.pipes.outer_rooms.items made.receivers.items made.processors.items made.slow made.forwarders.items made.shutters.items made.pipes.fillers.items c.args.sources.items c.args.sinks.items c.requires.worker_parts c.requires.sources.1 c.requires.sinks.1))
+    (is_crew g.K.Sink.failed _ made.pipes made.receivers.items made.processors.items made.slow made.forwarders.items made.shutters.items made.fillers.items c.args.sources.items c.args.sinks.items c.requires.worker_parts c.requires.sources.1 c.requires.sinks.1))
     c.requires.worker_parts.shutting
     c.requires.worker_parts.filled

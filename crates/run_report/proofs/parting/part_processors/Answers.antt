@@ -1,25 +1,31 @@
-use Rattle.std.proofs.Common.{length, refl, sym, ◌∙◌, ap, subst, arith, vec_capacity}
+use Rattle.std.proofs.Common.{[], ◌∷◌, ◌++◌, List, length, map, refl, sym, ◌∙◌, ap, subst, arith, vec_capacity}
+use Rattle.order_laws.specs.Item.{Arrival, Outgoing}
+use Rattle.order_laws.specs.Settled.{SlowPathRequest}
+use Rattle.ruled_pipe.specs.Pipe.{IsEndOf}
+use Rattle.ruled_pipe.specs.Producer.{Sender}
+use Rattle.router_rules.specs.Rules.{kinds}
+use Rattle.router_stages.specs.Working.{Working}
+use Rattle.router_laws.specs.Returned.{AllAt}
 use Rattle.stage_parts.specs.Outlet.{IsMarked, Offering}
 use Rattle.stage_parts.specs.Outlets.{senders}
 use Rattle.router_pipes.specs.Handing.{AreMarked, NeverClosed}
-use Rattle.pipe_ends.specs.Rows.{rows_of}
-use Rattle.run_report.proofs.PartLemmas.{each_same, each_none, longer, none_left, started, same_after, grown, one_after, room_kept, fits_still}
-use Rattle.wired_workers.proofs.RestLemmas.{all_done, each_back, each_first, shorter}
+use Rattle.router_pipes.specs.Pipes.{HaveBack, piping_of}
+use Rattle.router_pipes.proofs.PipesLemmas.{middle_end_next, outer_row_next}
+use Rattle.pipe_ends.specs.Rows.{AreEndsOf}
+use Rattle.run_report.proofs.PartLemmas.{each_same, each_none, longer, none_left, started, same_after, grown, room_kept, fits_still}
+use Rattle.wired_workers.proofs.RestLemmas.{all_done, all_next, each_back, shorter}
 use Rattle.run_report.proofs.parting.part_processors.Goals as goal
 
 pub loop-k-init : goal.loop-k-init
 loop-k-init g c =
     let e = c.of-processors.ensures in
+    let p = piping_of c.args.pipes.now in
     record {
       left = let a = ap length e in omega arith;
-      ends = each_same _ _ _ e c.requires.ends;
-      rows = (c.requires.rows.0, let a = ap length e in let r = c.requires.rows.1 in omega arith, omega arith);
+      ends = subst (λ (xs : List (Working _)). AllAt (λ i w. AreEndsOf i p.outer (senders w.side.links) × IsEndOf p.middle i w.slow.sender) 0 xs) (sym e) c.requires.ends;
+      back = ([], refl, started _ _ _ _ refl e, ([], refl, started _ _ _ _ refl e, λ rs back. back));
       takers = started _ _ _ _ c.requires.takers.0 e;
       taker_room = (ap length c.requires.takers.0, c.requires.takers.1);
-      asking = started _ _ _ _ c.requires.asking.0 e;
-      asking_room = (ap length c.requires.asking.0, c.requires.asking.1);
-      bundles = started _ _ _ _ (ap rows_of c.requires.bundles.0) e;
-      bundle_room = (ap length c.requires.bundles.0, c.requires.bundles.1, refl);
       shares = same_after _ _ _ _ e;
       share_room = (let a = ap length e in let r = c.requires.shares in omega arith, refl);
       laws = λ all. each_same _ _ _ (sym e) all;
@@ -29,65 +35,85 @@ loop-k-init g c =
 pub next-processor-requires : goal.next-processor-requires
 next-processor-requires g c = let t = c.loop-k-test.true in let n = c.len-count.ensures in let o = c.args.processors.ok in let l = c.loop-k.invariant.left in omega arith
 
-pub next-row-requires : goal.next-row-requires
-next-row-requires g c = let t = c.loop-k-test.true in let n = c.len-count.ensures in let o = c.args.processors.ok in let l = c.loop-k.invariant.left in let r = c.loop-k.invariant.rows.1 in omega arith
-
 pub push_reserved-requires : goal.push_reserved-requires
 push_reserved-requires g c = let t = c.loop-k-test.true in let n = c.len-count.ensures in let o = c.args.processors.ok in let l = c.loop-k.invariant.left in let r = c.loop-k.invariant.taker_room in let a = r.0 in let b = r.1 in omega arith
 
-pub put-requires : goal.put-requires
-put-requires g c = let t = c.loop-k-test.true in let n = c.len-count.ensures in let o = c.args.processors.ok in let l = c.loop-k.invariant.left in let r = c.loop-k.invariant.asking_room in let a = r.0 in let b = r.1 in omega arith
+pub take_back_request_end-requires : goal.take_back_request_end-requires
+take_back_request_end-requires g c =
+    let at = c.loop-k in
+    let p = piping_of c.args.pipes.now in
+    let rs = c.requires.back.0 in
+    let ms = at.invariant.back in
+    let ends = (all_next (λ i w. AreEndsOf i p.outer (senders w.side.links) × IsEndOf p.middle i w.slow.sender) at.k at.processors c.next-processor.new.self c.next-processor.result c.next-processor.ensures at.invariant.ends).0 in
+    middle_end_next rs ms.0 ms.3.0 p at.pipes (ms.3.3 rs c.requires.back.1) at.k c.into_parts-from.result.2.sender
+    (subst (λ (o : Offering (SlowPathRequest kinds)). IsEndOf p.middle at.k o.sender) (sym c.into_parts-from.ensures.parts.2) ends.1) ms.1
+
+pub take_back_link_ends-requires : goal.take_back_link_ends-requires
+take_back_link_ends-requires g c =
+    let at = c.loop-k in
+    let p = piping_of c.args.pipes.now in
+    let rs = c.requires.back.0 in
+    let ms = at.invariant.back in
+    let ends = (all_next (λ i w. AreEndsOf i p.outer (senders w.side.links) × IsEndOf p.middle i w.slow.sender) at.k at.processors c.next-processor.new.self c.next-processor.result c.next-processor.ensures at.invariant.ends).0 in
+    let back = c.take_back_request_end.ensures.back rs ms.0 ms.3.0 p (ms.3.3 rs c.requires.back.1) in
+    outer_row_next rs _ ms.3.0 p c.take_back_request_end.new.self back at.k _
+    (subst (λ (row : List (Sender (Outgoing kinds))). AreEndsOf at.k p.outer row) (sym (ap senders c.into_parts-from.ensures.parts.1)) ends.0) ms.3.1
 
 pub push_reserved-requires-in-loop-k : goal.push_reserved-requires-in-loop-k
-push_reserved-requires-in-loop-k g c = let t = c.loop-k-test.true in let n = c.len-count.ensures in let o = c.args.processors.ok in let l = c.loop-k.invariant.left in let r = c.loop-k.invariant.bundle_room in let a = r.0 in let b = r.1 in omega arith
-
-pub push_reserved-requires-in-loop-k-2 : goal.push_reserved-requires-in-loop-k-2
-push_reserved-requires-in-loop-k-2 g c = let r = c.loop-k.invariant.share_room.0 in let i = ap length c.next-processor.ensures in omega arith
+push_reserved-requires-in-loop-k g c = let r = c.loop-k.invariant.share_room.0 in let i = ap length c.next-processor.ensures in omega arith
 
 pub loop-k-preserved : goal.loop-k-preserved
 loop-k-preserved g c =
-    let inv = c.loop-k.invariant in
+    let at = c.loop-k in
+    let inv = at.invariant in
+    let p = piping_of c.args.pipes.now in
     let is = c.next-processor.ensures in
-    let row = c.next-row.ensures in
     let parts = c.into_parts-from.ensures.parts in
-    let ends = c.bare.ensures.same ∙ ap senders parts.1 in
+    let ends = ap senders parts.1 in
+    let asked = ap (λ (o : Offering (SlowPathRequest kinds)). o.sender) parts.2 in
     let took = c.push_reserved.ensures in
-    let put = c.push_reserved-in-loop-k.ensures in
-    let shared = c.push_reserved-in-loop-k-2.ensures in
+    let shared = c.push_reserved-in-loop-k.ensures in
     let takers = c.push_reserved.new.self in
-    let asking = c.put.new.self in
-    let bundles = c.push_reserved-in-loop-k.new.self in
-    let shares = c.push_reserved-in-loop-k-2.new.self in
+    let shares = c.push_reserved-in-loop-k.new.self in
+    let ms = inv.back in
+    let ls = inv.back.3 in
     record {
       left = shorter _ _ _ _ _ is inv.left;
-      ends = (each_first _ _ _ _ is inv.ends).1;
-      rows = ((each_first _ _ _ _ row inv.rows.0).1, (let a = ap length is in let b = ap length row in let r = inv.rows.1 in omega arith), shorter _ _ _ _ _ row inv.rows.2);
+      ends = (all_next (λ i w. AreEndsOf i p.outer (senders w.side.links) × IsEndOf p.middle i w.slow.sender) at.k at.processors c.next-processor.new.self c.next-processor.result is inv.ends).1;
+      back = (
+        _,
+        longer _ ms.0 _ _ refl ms.1,
+        grown _ ms.0 _ _ _ _ _ _ is refl asked ms.2,
+        (
+          _,
+          longer _ ls.0 _ _ refl ls.1,
+          grown _ ls.0 _ _ _ _ _ _ is refl ends ls.2,
+          (λ rs back. c.take_back_link_ends.ensures.back rs _ ls.0 p (c.take_back_request_end.ensures.back rs ms.0 ls.0 p (ls.3 rs back))),
+        ),
+      );
       takers = grown _ _ takers.items _ _ _ _ _ is took.items (c.into_consumer.ensures ∙ parts.0) inv.takers;
       taker_room = (longer _ _ takers.items _ took.items inv.taker_room.0, fits_still _ _ (vec_capacity takers) took.capacity inv.taker_room.1);
-      asking = grown _ _ asking.ends _ _ _ _ _ is c.put.ensures.0 (c.into_producer.ensures.same ∙ ap (λ (o : Offering _). o.sender) parts.2) inv.asking;
-      asking_room = (longer _ _ asking.ends _ c.put.ensures.0 inv.asking_room.0, fits_still _ _ asking.room c.put.ensures.1 inv.asking_room.1);
-      bundles = grown _ _ (rows_of bundles.items) _ _ _ _ _ is (one_after _ _ bundles.items _ put.items) ends inv.bundles;
-      bundle_room = (longer _ _ bundles.items _ put.items inv.bundle_room.0, fits_still _ _ (vec_capacity bundles) put.capacity inv.bundle_room.1, put.capacity ∙ inv.bundle_room.2);
       shares = grown _ _ shares.items _ _ _ _ _ is shared.items parts.4 inv.shares;
       share_room = (room_kept _ shares.items _ _ _ _ _ (vec_capacity shares) shared.items is shared.capacity inv.share_room.0, shared.capacity ∙ inv.share_room.1);
-      laws = each_back _ _ _ _ _ is inv.laws (c.into_parts-from.ensures.law, subst (λ xs. NeverClosed xs) ends c.bare.ensures.unclosed);
-      marks = each_back _ _ _ _ _ is inv.marks (
-        subst (λ xs. AreMarked xs) parts.1 c.bare.ensures.marks,
-        subst (λ (o : Offering _). IsMarked o.sender o.ended) parts.2 (subst (λ s. IsMarked s c.into_parts-from.result.2.ended) c.into_producer.ensures.same c.into_producer.ensures.marks),
-      );
+      laws = each_back _ _ _ _ _ is inv.laws (c.into_parts-from.ensures.law, subst (λ xs. NeverClosed xs) ends c.take_back_link_ends.ensures.unclosed);
+      marks = each_back _ _ _ _ _ is inv.marks (subst (λ xs. AreMarked xs) parts.1 c.take_back_link_ends.ensures.marks, subst (λ (o : Offering _). IsMarked o.sender o.ended) parts.2 c.take_back_request_end.ensures.marks);
     }
 
 pub destroy_empty-requires : goal.destroy_empty-requires
 destroy_empty-requires g c = none_left _ _ _ _ c.loop-k-test.false (c.len-count.ensures ∙ c.args.processors.ok.0) c.loop-k.invariant.left
 
+pub returns-clause-back : goal.returns-clause-back
+returns-clause-back g c = λ rs was.
+    let at = c.loop-k in
+    let none = none_left _ _ _ _ c.loop-k-test.false (c.len-count.ensures ∙ c.args.processors.ok.0) at.invariant.left in
+    let ms = at.invariant.back in
+    let ls = at.invariant.back.3 in
+    let p = piping_of c.args.pipes.now in
+    subst (λ (row : List (Sender (SlowPathRequest kinds))). HaveBack rs row (map (λ w. senders w.side.links) c.args.processors.items) p at.pipes) (all_done _ ms.0 _ _ none ms.2)
+    (subst (λ (rows : List (List (Sender (Outgoing kinds)))). HaveBack rs ms.0 rows p at.pipes) (all_done _ ls.0 _ _ none ls.2) (ls.3 rs was))
+
 pub returns-clause-takers : goal.returns-clause-takers
 returns-clause-takers g c = all_done _ _ _ _ (none_left _ _ _ _ c.loop-k-test.false (c.len-count.ensures ∙ c.args.processors.ok.0) c.loop-k.invariant.left) c.loop-k.invariant.takers
-
-pub returns-clause-asking : goal.returns-clause-asking
-returns-clause-asking g c = all_done _ _ _ _ (none_left _ _ _ _ c.loop-k-test.false (c.len-count.ensures ∙ c.args.processors.ok.0) c.loop-k.invariant.left) c.loop-k.invariant.asking
-
-pub returns-clause-bundles : goal.returns-clause-bundles
-returns-clause-bundles g c = (all_done _ _ _ _ (none_left _ _ _ _ c.loop-k-test.false (c.len-count.ensures ∙ c.args.processors.ok.0) c.loop-k.invariant.left) c.loop-k.invariant.bundles, c.loop-k.invariant.bundle_room.2)
 
 pub returns-clause-shares : goal.returns-clause-shares
 returns-clause-shares g c = (all_done _ _ _ _ (none_left _ _ _ _ c.loop-k-test.false (c.len-count.ensures ∙ c.args.processors.ok.0) c.loop-k.invariant.left) c.loop-k.invariant.shares, c.loop-k.invariant.share_room.1)

@@ -1,21 +1,25 @@
-use Rattle.std.proofs.Common.{length, refl, sym, ◌∙◌, ap, subst, arith, vec_capacity}
+use Rattle.std.proofs.Common.{[], ◌∷◌, ◌++◌, List, length, refl, sym, ◌∙◌, ap, subst, arith, vec_capacity}
+use Rattle.order_laws.specs.Item.{Arrival}
+use Rattle.ruled_pipe.specs.Producer.{Sender}
+use Rattle.router_rules.specs.Rules.{kinds}
+use Rattle.router_stages.specs.Receiving.{Receiving}
 use Rattle.stage_parts.specs.Outlets.{senders}
+use Rattle.router_laws.specs.Returned.{AllAt}
 use Rattle.router_pipes.specs.Handing.{AreMarked, NeverClosed}
-use Rattle.pipe_ends.specs.Rows.{rows_of}
-use Rattle.run_report.proofs.PartLemmas.{each_same, each_none, longer, none_left, started, same_after, grown, one_after, room_kept, fits_still}
-use Rattle.wired_workers.proofs.RestLemmas.{all_done, each_back, each_first, shorter}
+use Rattle.router_pipes.specs.Pipes.{HaveBack, piping_of}
+use Rattle.router_pipes.proofs.PipesLemmas.{inner_row_next}
+use Rattle.pipe_ends.specs.Rows.{AreEndsOf}
+use Rattle.run_report.proofs.PartLemmas.{each_same, each_none, longer, none_left, started, same_after, grown, room_kept, fits_still}
+use Rattle.wired_workers.proofs.RestLemmas.{all_done, all_next, each_back, shorter}
 use Rattle.run_report.proofs.parting.part_receivers.Goals as goal
 
 pub loop-k-init : goal.loop-k-init
 loop-k-init g c =
     let e = c.of-receivers.ensures in
-    let f = c.of-rows.ensures in
     record {
       left = let a = ap length e in omega arith;
-      ends = each_same _ _ _ e c.requires.ends;
-      rows = (each_same _ _ _ f c.requires.rows.0, let a = ap length e in let b = ap length f in let r = c.requires.rows.1 in omega arith);
-      bundles = started _ _ _ _ (ap rows_of c.requires.bundles.0) e;
-      bundle_room = (ap length c.requires.bundles.0, c.requires.bundles.1);
+      ends = subst (λ (xs : List (Receiving _)). AllAt (λ a r. AreEndsOf a (piping_of c.args.pipes.now).inner (senders r.side.processors)) 0 xs) (sym e) c.requires.ends;
+      back = ([], refl, started _ _ _ _ refl e, c.requires.back);
       sources = started _ _ _ _ c.requires.sources.0 e;
       source_room = (ap length c.requires.sources.0, c.requires.sources.1);
       shares = same_after _ _ _ _ e;
@@ -28,51 +32,55 @@ loop-k-init g c =
 pub next-receiver-requires : goal.next-receiver-requires
 next-receiver-requires g c = let t = c.loop-k-test.true in let n = c.len-count.ensures in let o = c.args.receivers.ok in let l = c.loop-k.invariant.left in omega arith
 
-pub next-row-requires : goal.next-row-requires
-next-row-requires g c = let t = c.loop-k-test.true in let n = c.len-count.ensures in let o = c.args.receivers.ok in let l = c.loop-k.invariant.left in let r = c.loop-k.invariant.rows.1 in omega arith
+pub take_back_receiver_ends-requires : goal.take_back_receiver_ends-requires
+take_back_receiver_ends-requires g c =
+    let at = c.loop-k in
+    let p = piping_of c.args.pipes.now in
+    let ends = (all_next (λ a r. AreEndsOf a p.inner (senders r.side.processors)) at.k at.receivers c.next-receiver.new.self c.next-receiver.result c.next-receiver.ensures at.invariant.ends).0 in
+    let back = at.invariant.back in
+    inner_row_next back.0 [] [] p at.pipes back.3 at.k _ (subst (λ (row : List (Sender (Arrival kinds))). AreEndsOf at.k p.inner row) (sym (ap senders c.into_parts-source.ensures.parts.1)) ends) back.1
 
 pub push_reserved-requires : goal.push_reserved-requires
-push_reserved-requires g c = let t = c.loop-k-test.true in let n = c.len-count.ensures in let o = c.args.receivers.ok in let l = c.loop-k.invariant.left in let r = c.loop-k.invariant.bundle_room in let a = r.0 in let b = r.1 in omega arith
+push_reserved-requires g c = let t = c.loop-k-test.true in let n = c.len-count.ensures in let o = c.args.receivers.ok in let l = c.loop-k.invariant.left in let r = c.loop-k.invariant.source_room in let a = r.0 in let b = r.1 in omega arith
 
 pub push_reserved-requires-in-loop-k : goal.push_reserved-requires-in-loop-k
-push_reserved-requires-in-loop-k g c = let t = c.loop-k-test.true in let n = c.len-count.ensures in let o = c.args.receivers.ok in let l = c.loop-k.invariant.left in let r = c.loop-k.invariant.source_room in let a = r.0 in let b = r.1 in omega arith
-
-pub push_reserved-requires-in-loop-k-2 : goal.push_reserved-requires-in-loop-k-2
-push_reserved-requires-in-loop-k-2 g c = let r = c.loop-k.invariant.share_room.0 in let i = ap length c.next-receiver.ensures in omega arith
+push_reserved-requires-in-loop-k g c = let r = c.loop-k.invariant.share_room.0 in let i = ap length c.next-receiver.ensures in omega arith
 
 pub loop-k-preserved : goal.loop-k-preserved
 loop-k-preserved g c =
-    let inv = c.loop-k.invariant in
+    let at = c.loop-k in
+    let inv = at.invariant in
+    let p = piping_of c.args.pipes.now in
     let is = c.next-receiver.ensures in
-    let row = c.next-row.ensures in
     let parts = c.into_parts-source.ensures.parts in
-    let ends = c.bare.ensures.same ∙ ap senders parts.1 in
-    let put = c.push_reserved.ensures in
-    let read = c.push_reserved-in-loop-k.ensures in
-    let shared = c.push_reserved-in-loop-k-2.ensures in
-    let rows = c.push_reserved.new.self in
-    let sources = c.push_reserved-in-loop-k.new.self in
-    let shares = c.push_reserved-in-loop-k-2.new.self in
+    let ends = ap senders parts.1 in
+    let taken = c.take_back_receiver_ends.ensures in
+    let read = c.push_reserved.ensures in
+    let shared = c.push_reserved-in-loop-k.ensures in
+    let sources = c.push_reserved.new.self in
+    let shares = c.push_reserved-in-loop-k.new.self in
     record {
       left = shorter _ _ _ _ _ is inv.left;
-      ends = (each_first _ _ _ _ is inv.ends).1;
-      rows = ((each_first _ _ _ _ row inv.rows.0).1, let a = ap length is in let b = ap length row in let r = inv.rows.1 in omega arith);
-      bundles = grown _ _ (rows_of rows.items) _ _ _ _ _ is (one_after _ _ rows.items _ put.items) ends inv.bundles;
-      bundle_room = (longer _ _ rows.items _ put.items inv.bundle_room.0, fits_still _ _ (vec_capacity rows) put.capacity inv.bundle_room.1);
+      ends = (all_next (λ a r. AreEndsOf a p.inner (senders r.side.processors)) at.k at.receivers c.next-receiver.new.self c.next-receiver.result is inv.ends).1;
+      back = (_, longer _ inv.back.0 _ _ refl inv.back.1, grown _ inv.back.0 _ _ _ _ _ _ is refl ends inv.back.2, taken.back inv.back.0 [] [] p inv.back.3);
       sources = grown _ _ sources.items _ _ _ _ _ is read.items parts.0 inv.sources;
       source_room = (longer _ _ sources.items _ read.items inv.source_room.0, fits_still _ _ (vec_capacity sources) read.capacity inv.source_room.1);
       shares = grown _ _ shares.items _ _ _ _ _ is shared.items parts.3 inv.shares;
       share_room = (room_kept _ shares.items _ _ _ _ _ (vec_capacity shares) shared.items is shared.capacity inv.share_room.0, shared.capacity ∙ inv.share_room.1);
-      laws = each_back _ _ _ _ _ is inv.laws (c.into_parts-source.ensures.law, subst (λ xs. NeverClosed xs) ends c.bare.ensures.unclosed);
+      laws = each_back _ _ _ _ _ is inv.laws (c.into_parts-source.ensures.law, subst (λ xs. NeverClosed xs) ends taken.unclosed);
       quiet = each_back _ _ _ _ _ is inv.quiet c.into_parts-source.ensures.quiet;
-      marks = each_back _ _ _ _ _ is inv.marks (subst (λ xs. AreMarked xs) parts.1 c.bare.ensures.marks);
+      marks = each_back _ _ _ _ _ is inv.marks (subst (λ xs. AreMarked xs) parts.1 taken.marks);
     }
 
 pub destroy_empty-requires : goal.destroy_empty-requires
 destroy_empty-requires g c = none_left _ _ _ _ c.loop-k-test.false (c.len-count.ensures ∙ c.args.receivers.ok.0) c.loop-k.invariant.left
 
-pub returns-clause-bundles : goal.returns-clause-bundles
-returns-clause-bundles g c = all_done _ _ _ _ (none_left _ _ _ _ c.loop-k-test.false (c.len-count.ensures ∙ c.args.receivers.ok.0) c.loop-k.invariant.left) c.loop-k.invariant.bundles
+pub returns-clause-back : goal.returns-clause-back
+returns-clause-back g c =
+    let at = c.loop-k in
+    let back = at.invariant.back in
+    let all = all_done _ back.0 _ _ (none_left _ _ _ _ c.loop-k-test.false (c.len-count.ensures ∙ c.args.receivers.ok.0) at.invariant.left) back.2 in
+    subst (λ (rows : List (List (Sender (Arrival kinds)))). HaveBack rows [] [] (piping_of c.args.pipes.now) at.pipes) all back.3
 
 pub returns-clause-sources : goal.returns-clause-sources
 returns-clause-sources g c = all_done _ _ _ _ (none_left _ _ _ _ c.loop-k-test.false (c.len-count.ensures ∙ c.args.receivers.ok.0) c.loop-k.invariant.left) c.loop-k.invariant.sources

@@ -1,20 +1,22 @@
-use Rattle.std.proofs.Common.{◌≡◌, ◌+◌, ◌++◌, ◌≤◌, length, map, true, vec_capacity}
+use Rattle.std.proofs.Common.{◌≡◌, ◌+◌, ◌++◌, ◌≤◌, [], List, length, map, true, vec_capacity}
 use Rattle.order_laws.specs.Deeds.{Each}
+use Rattle.order_laws.specs.Item.{Arrival}
+use Rattle.ruled_pipe.specs.Producer.{Sender}
 use Rattle.router_laws.specs.Keeping.{IsReceiving}
+use Rattle.router_laws.specs.Returned.{AllAt}
+use Rattle.router_rules.specs.Rules.{kinds}
 use Rattle.router_stages.specs.Receiving.{EndsQuietly}
 use Rattle.stage_parts.specs.Outlets.{senders}
 use Rattle.router_pipes.specs.Handing.{AreMarked, NeverClosed}
-use Rattle.pipe_ends.specs.Rows.{rows_of}
-use Rattle.run_report.specs.Room.{IsRoomy}
+use Rattle.router_pipes.specs.Pipes.{HaveBack, piping_of}
+use Rattle.pipe_ends.specs.Rows.{AreEndsOf}
 use Rattle.run_report.proofs.parting.part_receivers.Given as goal
 
 abbrev pub invariant-loop-k : goal.invariant-loop-k
 invariant-loop-k g l = record {
   left : l.k + length l.receivers ≡ length l.fn.receivers.items;
-  ends : Each (λ r. length r.side.processors ≡ l.pipes) l.receivers;
-  rows : Each (IsRoomy l.pipes) l.rows × (length l.receivers ≤ length l.rows);
-  bundles : rows_of l.bundles.items ++ map (λ r. senders r.side.processors) l.receivers ≡ map (λ r. senders r.side.processors) l.fn.receivers.items;
-  bundle_room : (length l.bundles.items ≡ l.k) × (length l.fn.receivers.items ≤ vec_capacity l.bundles);
+  ends : AllAt (λ a r. AreEndsOf a (piping_of l.initial.pipes).inner (senders r.side.processors)) l.k l.receivers;
+  back : (rows : List (List (Sender (Arrival kinds)))) × (length rows ≡ l.k) × (rows ++ map (λ r. senders r.side.processors) l.receivers ≡ map (λ r. senders r.side.processors) l.fn.receivers.items) × HaveBack rows [] [] (piping_of l.initial.pipes) l.pipes;
   sources : l.sources.items ++ map (λ r. r.source) l.receivers ≡ map (λ r. r.source) l.fn.receivers.items;
   source_room : (length l.sources.items ≡ l.k) × (length l.fn.receivers.items ≤ vec_capacity l.sources);
   shares : l.shares.items ++ map (λ r. r.side.share) l.receivers ≡ l.fn.shares.items ++ map (λ r. r.side.share) l.fn.receivers.items;

@@ -8,8 +8,8 @@ use Rattle.stage_parts.specs.Outlet.{Offering}
 use Rattle.router_pipes.proofs.OkLemmas.{of_ok}
 use Rattle.wired_workers.proofs.entering.entering_at.Goals as goal
 
-pub outlets-processors-requires-clause-bundle : goal.outlets-processors-requires-clause-bundle
-outlets-processors-requires-clause-bundle g c = c.requires.bundle.0
+pub outlets-processors-requires-clause-new : goal.outlets-processors-requires-clause-new
+outlets-processors-requires-clause-new g c = c.requires.ends.0
 
 pub invariant_of-result : goal.invariant_of-result
 invariant_of-result g c =
@@ -19,7 +19,7 @@ invariant_of-result g c =
     let long = length-map c.in_ok-processors.processors.items (λ (o : Offering (Arrival kinds)). o.sender) in (
       c.requires.config ∙ ap (λ (s : Shared). Some s.config) (sym own),
       subst (λ (s : Shared). c.args.link < link_count s.config) (sym own) c.requires.link,
-      sym long ∙ (ap length same ∙ (c.requires.bundle.1 ∙ ap (λ (s : Shared). s.config.processors) (sym own))),
+      sym long ∙ (ap length same ∙ (c.requires.ends.1 ∙ ap (λ (s : Shared). s.config.processors) (sym own))),
       of_ok _ c.outlets-processors.result c.in_ok-processors.processors is c.outlets-processors.ensures.fresh,
       c.requires.free,
       c.requires.share,

@@ -6,7 +6,7 @@ use Rattle.router_rules.specs.declared.shared.Shared.{Shared}
 use Rattle.router_pipes.specs.Closing.{Closing}
 use Rattle.router_run.specs.Run.{Run}
 use Rattle.router_run.proofs.CrewLemmas.{controller_long, controller_used, crew_after}
-use Rattle.router_run.proofs.Finish.{crew_as, left_as, space_as}
+use Rattle.router_run.proofs.Finish.{all_made_as, crew_as, space_as}
 use Rattle.router_run.proofs.running.Running.close_link.Goals as goal
 
 pub close-requires-clause-count : goal.close-requires-clause-count
@@ -26,9 +26,8 @@ invariant_of-self g c =
     let same = ap (λ (s : Shared). s.config) value in (
       c.self.invariant.0 ∙ ap (λ (k : Config). 2 * link_count k + k.processors + 1) (sym same),
       crew_as _ _ _ _ same (crew_after _ _ _ _ _ _ old.controller.shutters.items new.shutters.items c.self.invariant.1 c.close.ensures.stay),
-      left_as _ _ old.pipes.inner.items old.pipes.inner_rooms.items (ap link_count same) c.self.invariant.2,
-      left_as _ _ old.pipes.outer.items old.pipes.outer_rooms.items (ap (λ (k : Config). k.processors + 2) same) c.self.invariant.3,
-      space_as _ _ _ same c.self.invariant.4,
+      all_made_as _ _ _ old.pipes same c.self.invariant.2,
+      space_as _ _ _ same c.self.invariant.3,
     )
 
 pub returns-clause-closing : goal.returns-clause-closing
