@@ -1,6 +1,5 @@
 pub mod Lists
 pub mod OpenedLemmas
-pub mod RowLemmas
 pub mod SettledLemmas
 pub mod ShuttingLemmas
 pub mod TakenBackLemmas

@@ -1,12 +1,7 @@
 -- What is taken of a list, from the front.
-use Rattle.std.proofs.Common.{◌≡◌, ℕ, List, [], ◌∷◌, ◌++◌, length, refl, sym, ap, ◌∙◌, append_assoc, append-nil, arith}
+use Rattle.std.proofs.Common.{◌≡◌, ℕ, List, [], ◌∷◌, ◌++◌, length, sym, ap, ◌∙◌, append_assoc, append-nil, arith}
 
 module _ {X : Type 0} where
-  -- nothing is left
-  pub nothing_left : (l : List X) → length l ≡ 0 → l ≡ []
-  nothing_left [] h = refl
-  nothing_left (x ∷ xs) h = absurd (omega arith)
-
   -- what is left begins with the next one
   pub with_next : (xs old new all : List X) (x : X) → old ≡ x ∷ new → xs ++ old ≡ all → xs ++ x ∷ new ≡ all
   with_next xs old new all x is split = ap (λ (l : List X). xs ++ l) (sym is) ∙ split

@@ -1,7 +1,6 @@
 -- The controller's ends.
 use Rattle.std.proofs.Common.{◌≡◌, ℕ, zero, suc, ◌+◌, ◌<◌, ◌≤◌, Bool, true, false, ◌||◌, List, [], ◌∷◌, ◌++◌, length, MatchBool, slice_get, slice_index_or, slice_set, refl, sym, ap, subst, ◌∙◌, arith, length-append}
 use Rattle.std.proofs.Math.Bool.{or-true}
-use Rattle.std.proofs.lemmas.List.{map-append}
 use Rattle.order_laws.specs.Deeds.{closes, has_mark, payload_of, payloads}
 use Rattle.ruled_pipe.specs.declared.entry.Entry.{Entry}
 use Rattle.ruled_pipe.specs.declared.entry.Load.TheVariants.{Marked}
@@ -96,9 +95,6 @@ module _ {T : Type 0} where
     closed = e.closed ∙ s.1;
     ended = e.ended;
   }
-
-  pub still_then : (a b c : Shutting T) → IsStill a b → IsStill b c → IsStill a c
-  still_then a b c s e = ((e.0.0 ∙ s.0.0, e.0.1 ∙ s.0.1, e.0.2 ∙ s.0.2, e.0.3 ∙ s.0.3, e.0.4 ∙ s.0.4), e.1 ∙ s.1, e.2)
 
   -- ---- one after another gets its end mark
 
@@ -230,24 +226,6 @@ module _ {T : Type 0} where
   pub marking_more : (hs : List (Shutting T)) (h : Shutting T) → AreMarking hs → IsShutting h → AreMarking (hs ++ h ∷ [])
   marking_more [] h a is = (is, tt)
   marking_more (x ∷ hs) h a is = (a.0, marking_more hs h a.1 is)
-
-  pub ends_after : (hs : List (Shutting T)) (h : Shutting T) → shutter_ends (hs ++ h ∷ []) ≡ shutter_ends hs ++ h.end ∷ []
-  ends_after hs h = map-append (λ (x : Shutting T). x.end) hs (h ∷ [])
-
-  pub back_more : (hs : List (Shutting T)) (row next : List (Sender T)) (h : Shutting T) (e : Sender T) → row ≡ shutter_ends hs → AreMarking hs → next ≡ row ++ e ∷ [] → e ≡ h.end → IsShutting h
-      → (next ≡ shutter_ends (hs ++ h ∷ [])) × AreMarking (hs ++ h ∷ [])
-  back_more hs row next h e same marked put is one = (
-    put ∙ (ap (λ (l : List (Sender T)). l ++ e ∷ []) same ∙ (ap (λ (x : Sender T). shutter_ends hs ++ x ∷ []) is ∙ sym (ends_after hs h))),
-    marking_more hs h marked one,
-  )
-
-  ends_long : (hs : List (Shutting T)) → length (shutter_ends hs) ≡ length hs
-  ends_long [] = refl
-  ends_long (h ∷ hs) = ap suc (ends_long hs)
-
-  pub one_left : (all hs rest : List (Shutting T)) (h : Shutting T) (row : List (Sender T)) (room : ℕ) → hs ++ h ∷ rest ≡ all → row ≡ shutter_ends hs → length all ≤ room → length row < room
-  one_left all hs rest h row room split same fits =
-      let a = ap length split in let b = ap length same in let c = ends_long hs in omega (arith, length-append hs (h ∷ rest))
 
   pub push_marks : (hs : List (Shutting T)) → AreMarking hs → PushMarks hs
   push_marks [] a j s at = cc

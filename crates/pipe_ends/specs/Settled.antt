@@ -8,7 +8,6 @@ use Rattle.ruled_pipe.specs.Gathered.{IsWhole, EndsWithMark, ends_in}
 use Rattle.stage_laws.specs.Ends.{pushes}
 use Rattle.stage_laws.specs.Gathers.{IsDrained, TookAll}
 use Rattle.stage_laws.specs.Workers.{IsColumn}
-use Rattle.pipe_ends.specs.Rows.{Row}
 
 module _ {T : Type 0} where
   -- of a pipe that is used a producer's last offer is its only end mark; of one that isn't it has offered nothing
@@ -21,11 +20,6 @@ module _ {T : Type 0} where
   AreFinished uses k p [] [] = Unit {0}
   AreFinished uses k p (s ∷ ss) (e ∷ es) = (IsEndOf s p e × IsFinal (uses k) e.offers) × AreFinished uses (suc k) p ss es
   AreFinished uses k p _ _ = ⊥
-
-  -- the workers' bundles, from worker p on
-  abbrev pub AreBundles : (uses : ℕ → Bool) → ℕ → List Shape → List (Row T) → Type 0
-  AreBundles uses p shapes [] = Unit {0}
-  AreBundles uses p shapes (b ∷ bs) = AreFinished uses 0 p shapes b.ends × AreBundles uses (suc p) shapes bs
 
   -- the producers of one pipe, from number p on, which have ended
   abbrev pub AreOfPipe : Bool → ℕ → Shape → List (Sender T) → Type 0
@@ -51,25 +45,19 @@ module _ {T : Type 0} where
     pub ends : AreOfPipe used 0 s senders
     pub taker : HasTaken used s t
 
-  -- some pipes are used, and all their workers have ended
-  pub record HaveEnded (shapes : List Shape) (bundles : List (Row T)) (takers : List (Taker T)) : Type 0 where
-    pub uses : ℕ → Bool
-    pub theirs : AreBundles uses 0 shapes bundles
-    pub taken : AreTaken uses 0 (length bundles) shapes takers
-
   -- What is known of a pipe in the end: all that was accepted was taken, nothing is held, and each refusal is as one at a full queue, as far as its producer's own pushes tell
   pub record IsDone (s : Shape) (senders : List (Sender T)) (t : Taker T) : Type 0 where
     pub whole : (held : List (Entry T)) × IsWhole s.capacity senders t.taken held
     pub drained : (held : List (Entry T)) → IsWhole s.capacity senders t.taken held → IsDrained s.capacity senders t.taken held
     pub took : TookAll senders (pushes t.taken)
 
-  -- pipe k of these bundles: its producers are one of each bundle
+  -- pipe k of these rows, one row a worker: its producers are one of each row
   pub record IsSettledAt (k : ℕ) (rows : List (List (Sender T))) (s : Shape) (t : Taker T) : Type 0 where
     pub row : List (Sender T)
     pub column : IsColumn k rows row
     pub done : IsDone s row t
 
-  -- all pipes of these bundles, from number k on
+  -- all pipes of these rows, from number k on
   abbrev pub AreSettled : ℕ → List (List (Sender T)) → List Shape → List (Taker T) → Type 0
   AreSettled k rows [] [] = Unit {0}
   AreSettled k rows (s ∷ ss) (t ∷ ts) = IsSettledAt k rows s t × AreSettled (suc k) rows ss ts

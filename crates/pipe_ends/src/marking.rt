@@ -1,10 +1,9 @@
 //! Ends that push marks alone, all of one worker.
 
-ghost use Rattle.std.specs.Prelude.{◌≡◌, ◌≤◌, ◌<◌, [], length, true, slice_index_or};
+ghost use Rattle.std.specs.Prelude.{◌≡◌, ◌<◌, length, true, slice_index_or};
 ghost use Rattle.pipe_ends.specs.TakenBack.{AreNext, after_row};
 ghost use Rattle.pipe_ends.specs.Shutting.{AreMarking, AreUnended, ClosesAt, EachEnds, PushMarks, Shutting, shutter_ends};
 
-use crate::ends::Ends;
 use crate::shutter::Shutter;
 use ruled_pipe::Keeper;
 use std::sync::Wait;
@@ -27,20 +26,6 @@ pub fn mark_all<T: Drop, R: Wait>(rt: &R, shutters: &mut Vec<Shutter<T>>)
     for k in 0..shutters.len() {
         shutters[k].end(rt);
     }
-}
-
-/// The producers of these ends, put where there is room for them. It takes no memory.
-pub fn bare_shutters<T: Drop>(shutters: Vec<Shutter<T>>, room: Ends<T>) -> Ends<T>
-    requires { (room.ends ≡ []) × (length shutters.items ≤ room.room) }
-    ensures same { result.ends ≡ shutter_ends shutters.items }
-    ensures marking { AreMarking shutters.items }
-    ensures marks { PushMarks shutters.items }
-{
-    let mut row = room;
-    for shutter in shutters {
-        row.put(shutter.into_producer());
-    }
-    row
 }
 
 /// The pipes take back these ends, one of each, in order. It takes no memory.

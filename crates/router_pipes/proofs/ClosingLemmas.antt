@@ -44,15 +44,6 @@ module _ {T : Type 0} where
   pub is_tried : (at : ℕ) (is_there : Bool) (old new : List (Shutting T)) → ClosesAt at is_there old new → TriesAt at old new
   is_tried at is_there old new c = record { is_there = is_there; closes = c.closes }
 
-  pub ends_stay : (at : ℕ) (is_there : Bool) (old new : List (Shutting T)) → ClosesAt at is_there old new → StayEnds old new
-  ends_stay at is_there old new c = record { unended = c.unended; same = c.same }
-
-  pub same_stay : (hs : List (Shutting T)) → AreUnended hs → StayEnds hs hs
-  same_stay hs are = record { unended = are; same = λ uses k p shapes is. is }
-
-  pub stay_then : (a b c : List (Shutting T)) → StayEnds a b → StayEnds b c → StayEnds a c
-  stay_then a b c x y = record { unended = y.unended; same = λ uses k p shapes are. y.same uses k p shapes (x.same uses k p shapes are) }
-
   -- ---- one band
 
   pub single_tried : (low : ℕ) (old new : List (Shutting T)) → TriesAt low old new → ((j : ℕ) → (j ≡ low → ⊥) → slice_get new j ≡ slice_get old j) → TriesMarks false low old new
@@ -66,9 +57,6 @@ module _ {T : Type 0} where
 
   pub single_pushed : (low : ℕ) (x : Unit {0}) (old new : List (Shutting T)) → closed_at old low ≡ false → closed_at new low ≡ true → TriesMarks false low old new → ClosesMarks false low (Ok x) old new
   single_pushed low x old new was is tries = (λ all. false≢true (sym was ∙ all.0), single_closed low new is, tries)
-
-  pub single_full : (low : ℕ) (old new : List (Shutting T)) → closed_at new low ≡ false → TriesMarks false low old new → ClosesMarks false low (Err Full) old new
-  single_full low old new is tries = (λ all. false≢true (sym is ∙ all.0), tries)
 
   -- ---- two bands
 
@@ -119,12 +107,6 @@ module _ {T : Type 0} where
   shutters_long uses k p [] (h ∷ hs) are = absurd are
   shutters_long uses k p (s ∷ ss) [] are = absurd are
   shutters_long uses k p (s ∷ ss) (h ∷ hs) are = let e = shutters_long uses (suc k) p ss hs are.1 in omega arith
-
-  pub known_closes : (c : Config) (id : ℕ) (r : Result (Unit {0}) CloseFault) (old new : List (Shutting T)) → link_index c id < link_count c → ClosesMarks (has_two_bands c (link_index c id)) (2 * link_index c id) r old new → Closing c id r old new
-  known_closes c id (Ok x) old new lt is = (lt, is)
-  known_closes c id (Err Full) old new lt is = (lt, is)
-  known_closes c id (Err AlreadyClosed) old new lt is = (lt, is)
-  known_closes c id (Err Unknown) old new lt is = absurd is
 
 -- an interface that no link has is numbered after all links
 index_cases : (c : Config) (id : ℕ) (b : Bool) → has_link (network c) id ≡ b → link_index c id ≤ link_count c

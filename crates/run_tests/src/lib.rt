@@ -7,8 +7,6 @@ mod closing;
 #[cfg(test)]
 mod cues;
 #[cfg(test)]
-mod dealing;
-#[cfg(test)]
 mod gate;
 #[cfg(test)]
 mod gates;
@@ -18,6 +16,8 @@ mod loopback;
 mod many;
 #[cfg(test)]
 mod memory;
+#[cfg(test)]
+mod minting;
 #[cfg(test)]
 mod no_hosts;
 #[cfg(test)]

@@ -19,9 +19,6 @@ module _ {X : Type 0} where
   pub rest_next : (P : ℕ → X → Type 0) (n total : ℕ) (old new : List X) (x : X) → old ≡ x ∷ new → IsRest P n total old → IsRest P (n + 1) total new
   rest_next P n total old new x is r = record { each = (all_next P n old new x is r.each).1; count = let c = r.count in let l = ap length is in omega arith }
 
-  pub each_first : (P : X → Type 0) (old new : List X) (x : X) → old ≡ x ∷ new → Each P old → P x × Each P new
-  each_first P old new x is all = let e = subst (λ (xs : List X). Each P xs) is all in (e.0, e.1)
-
   -- what held of all where it held of what is left, and of the next
   pub each_back : (P : X → Type 0) (T : Type 0) (old new : List X) (x : X) → old ≡ x ∷ new → (Each P old → T) → P x → Each P new → T
   each_back P T old new x is back p all = back (subst (λ (xs : List X). Each P xs) (sym is) (p, all))
