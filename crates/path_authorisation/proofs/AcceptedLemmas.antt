@@ -1,22 +1,22 @@
 -- The hop fields that a router accepts: where a packet comes and where it leaves they carry their MACs, and over a link they follow one
 -- another.
-use Rattle.std.proofs.Common.{◌≡◌, ◌⊎◌, ◌+◌, ◌&&◌, not, ℕ, Bool, true, false, List, Option, Some, None, refl, sym, ap, subst, ◌∙◌, inl, inr, if◌then◌else◌}
+use Rattle.std.proofs.Common.{◌≡◌, ◌≢◌, ◌⊎◌, ◌+◌, ◌&&◌, not, ℕ, Bool, true, false, List, Option, Some, None, refl, sym, ap, ap₂, subst, ◌∙◌, inl, inr, if◌then◌else◌}
 use Rattle.scion_packet.specs.Packet.{Packet, packet_of}
-use Rattle.scion_packet.specs.Path.{Place, place_at}
+use Rattle.scion_packet.specs.Path.{HopField, Place, place_at}
 use Rattle.process_packet.specs.declared.decision.Decision.TheVariants as decision
 use Rattle.process_packet.specs.declared.underlay.Underlay.{Underlay}
 use Rattle.process_packet.specs.Chaining.{FollowsOn, IsSameHop}
-use Rattle.process_packet.specs.Conditions.{CarriesMac}
+use Rattle.process_packet.specs.Conditions.{CarriesMac, ComesInBy, GoesOutBy}
 use Rattle.process_packet.specs.Decide.{decide}
 use Rattle.process_packet.specs.Laws.{LeftLawfully, changes}
 use Rattle.process_packet.specs.Network.{Network, is_local}
-use Rattle.process_packet.specs.PacketState.{PacketState, arrives, changed_over, hop, info, is_authentic, is_followed, is_last_of_segment, next_segment, past_switch}
-use Rattle.process_packet.specs.Shown.{StandsToLeave}
+use Rattle.process_packet.specs.PacketState.{PacketState, arrives, egress, ingress, changed_over, hop, info, is_authentic, is_followed, is_last_of_segment, next_segment, past_switch}
+use Rattle.process_packet.specs.Shown.{StandsToLeave, turned}
 use Rattle.process_packet.proofs.ChainingLemmas.{not_spliced}
-use Rattle.process_packet.proofs.ConditionLemmas.{authentic_here, carries_mac, is_here, refuted}
+use Rattle.process_packet.proofs.ConditionLemmas.{authentic_here, carries_mac, comes_in_by, goes_out_by, ingress_alone, is_here, refuted}
 use Rattle.process_packet.proofs.LawLemmas.{left_lawfully, told}
 use Rattle.process_packet.proofs.RowsPassed.{turned_is}
-use Rattle.process_packet.proofs.TurningLemmas.{turned_stays}
+use Rattle.process_packet.proofs.TurningLemmas.{turned_along, turned_hop, turned_stays}
 use Rattle.walk_laws.specs.Configured.{AreNumbered}
 use Rattle.walk_laws.specs.Net.{Agrees, Net}
 use Rattle.path_authorisation.specs.Sendings.{ComesFrom, IsOnLongPath, IsSending, Sending, arrival, at_entry, at_exit, left}
@@ -59,6 +59,10 @@ exit_by t out to authentic (inl way) = ap is_authentic (stays_at t (ends_so (is_
 exit_by t out to authentic (inr (inl way)) = ap is_authentic (stays_at t way.stays) ∙ authentic
 exit_by t out to authentic (inr (inr way)) = ap (λ (b : Bool). is_authentic (if b then changed_over t else t)) way.changes ∙ way.authentic
 
+past_is : {t u : PacketState} → StandsToLeave t u → past_switch t ≡ u
+past_is {t} (StandsToLeave.stays still) = ap (λ (b : Bool). if b then changed_over t else t) still
+past_is {t} (StandsToLeave.changes_over ends unexpired authentic) = ap (λ (b : Bool). if b then changed_over t else t) ends
+
 module _ (net : Net) (s : Sending) (is : IsSending net s) (long : IsOnLongPath s) where
   entry_authentic : is_authentic (at_entry s) ≡ true
   entry_authentic = authentic_here (state net s is long) (authorised net s is long).authentic
@@ -76,11 +80,26 @@ module _ (net : Net) (s : Sending) (is : IsSending net s) (long : IsOnLongPath s
   pub carries_exit : CarriesMac s.here.network.key (info (at_exit s)).segment_id (info (at_exit s)) (hop (at_exit s))
   carries_exit = carries_by s.here.network (at_exit s) (exit_network s) exit_authentic
 
--- ---- at one router and the next
+  -- it comes by the link that the one names, and leaves by the link that the other names
+  pub names_entry : s.link ≢ 0 → s.link ≡ ingress (at_entry s)
+  names_entry outside =
+      let a : PacketState = state net s is long in
+      ingress_alone s.link ((authorised net s is long).by_its_link outside)
+      ∙ ap₂ (λ (b : Bool) (h : HopField). if b then h.construction_ingress else h.construction_egress) (sym (turned_along a)) (sym (turned_hop a))
 
-past_is : {t u : PacketState} → StandsToLeave t u → past_switch t ≡ u
-past_is {t} (StandsToLeave.stays still) = ap (λ (b : Bool). if b then changed_over t else t) still
-past_is {t} (StandsToLeave.changes_over ends unexpired authentic) = ap (λ (b : Bool). if b then changed_over t else t) ends
+  pub comes_by : s.link ≢ 0 → ComesInBy (info (at_entry s)) (hop (at_entry s)) s.link
+  comes_by outside =
+      subst (ComesInBy (info (at_entry s)) (hop (at_entry s))) (sym (names_entry outside)) (comes_in_by (info (at_entry s)) (hop (at_entry s)))
+
+  exit_is : (u : PacketState) → StandsToLeave (turned (state net s is long)) u → at_exit s ≡ u
+  exit_is u leaves = ap past_switch (turned_is (state net s is long)) ∙ past_is leaves
+
+  pub leaves_by : s.to ≡ None → GoesOutBy (info (at_exit s)) (hop (at_exit s)) s.out
+  leaves_by none =
+      let w = sent_by_link net s is long none in
+      subst (GoesOutBy (info (at_exit s)) (hop (at_exit s))) (ap egress (exit_is w.exit w.by.leaves) ∙ w.by.link) (goes_out_by (info (at_exit s)) (hop (at_exit s)))
+
+-- ---- at one router and the next
 
 module _ (net : Net) (agrees : Agrees net) (numbered : AreNumbered net) (s t : Sending) (is : IsSending net s) (next : IsSending net t) (long : IsOnLongPath s) (comes : ComesFrom net s t) where
   pub wired : s.to ≡ None → IsOverWire s.here s.out t.here t.link
@@ -105,7 +124,7 @@ module _ (net : Net) (agrees : Agrees net) (numbered : AreNumbered net) (s t : S
   next_begins none last =
       let w = sent_by_link net s is long none in
       let u : PacketState = w.exit in
-      let exit : at_exit s ≡ u = ap past_switch (turned_is (state net s is long)) ∙ past_is w.by.leaves in
+      let exit : at_exit s ≡ u = exit_is net s is long u w.by.leaves in
       let place : (packet_of t.bytes).path.place ≡ (if is_last_of_segment u then next_segment u.path.place else place_at u.path.place.segment (u.path.place.position + 1)) =
       ap (λ (p : Packet). p.path.place) (next_packet net s t is long comes ∙ sym w.by.packet) in
       ap (λ (p : Place). p.segment) ((turned_stays (arrives t.here.network t.link t.source t.moment t.bytes)).place ∙ place ∙ ap (λ (b : Bool). if b then next_segment u.path.place else place_at u.path.place.segment (u.path.place.position + 1)) (sym (ap is_last_of_segment exit) ∙ last))

@@ -10,7 +10,7 @@ use Rattle.walk_laws.specs.PathSegments.{PathSegment}
 use Rattle.path_authorisation.specs.Beaconed.{AreAllBeaconed, IsAfter, IsMade, LooksAt, NoIdentifierCollides, NoMacIsForged}
 use Rattle.path_authorisation.specs.Chained.{AreChained, AreConsecutive, WalksGoAsBeaconed}
 use Rattle.path_authorisation.specs.Sendings.{IsOnItsWay, IsOnLongPath, IsSending, IsWalk, Sending, at_entry, at_exit}
-use Rattle.path_authorisation.proofs.AcceptedLemmas.{carries_entry, carries_exit, follows_on}
+use Rattle.path_authorisation.proofs.AcceptedLemmas.{carries_entry, carries_exit, comes_by, follows_on, leaves_by}
 use Rattle.path_authorisation.proofs.MacLemmas.{chains_to, is_before, is_next}
 use Rattle.path_authorisation.proofs.WalkLemmas.{long_at}
 
@@ -82,6 +82,8 @@ consecutive set x y u v apart c =
 
 pub as_beaconed : WalksGoAsBeaconed
 as_beaconed net set s walk agrees numbered beaconed is long unforged = record {
+  comes_by = λ i a at outside. comes_by net a (is.sent i a at) (long_at net s walk is long i a at) outside;
+  leaves_by = λ i a at none. leaves_by net a (is.sent i a at) (long_at net s walk is long i a at) none;
   along = along net set agrees numbered beaconed s walk is long unforged;
   against = against net set agrees numbered beaconed s walk is long unforged;
   consecutive_along = λ apart i a t at next none more forward.

@@ -12,7 +12,7 @@ use Rattle.process_packet.proofs.TurningLemmas.{turned_along, turned_hop}
 use Rattle.path_authorisation.specs.Beaconed.{IsMade, LooksAt}
 use Rattle.path_authorisation.specs.Delivered.{DeliveriesAreAuthorised}
 use Rattle.path_authorisation.specs.Sendings.{at_entry}
-use Rattle.path_authorisation.proofs.AcceptedLemmas.{carries_entry}
+use Rattle.path_authorisation.proofs.AcceptedLemmas.{carries_entry, names_entry}
 use Rattle.path_authorisation.proofs.WayLemmas.{authorised, state, whole}
 
 pub deliveries_authorised : DeliveriesAreAuthorised
@@ -25,9 +25,7 @@ deliveries_authorised net set s is long outside here unforged =
     ap₂ (λ (b c : Bool). not b && c) (ne_eqb s.link 0 outside) ((is_here s.here.network (packet_of s.bytes).header.destination).1 here) in
     let made : IsMade set s.here (info e) (hop e) =
     unforged 0 s e refl LooksAt.where_it_comes (carries_entry net s is long) in
-    let named : s.link ≡ ingress e =
-    ingress_alone s.link (shown.by_its_link outside)
-    ∙ ap₂ (λ (b : Bool) (h : HopField). if b then h.construction_ingress else h.construction_egress) (sym (turned_along a)) (sym (turned_hop a)) in
+    let named : s.link ≡ ingress e = names_entry net s is long outside in
     record {
       shown = shown;
       ends = shown.destination.ends outside here;

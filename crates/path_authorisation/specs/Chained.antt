@@ -1,6 +1,7 @@
 -- Within a segment a datagram goes from hop field to hop field as they were beaconed.
-use Rattle.std.specs.Prelude.{◌≡◌, ℕ, suc, true, false, List, ◌∷◌, Contains, Some, None}
+use Rattle.std.specs.Prelude.{◌≡◌, ◌≢◌, ℕ, suc, true, false, List, ◌∷◌, Contains, Some, None}
 use Rattle.std.specs.List.{slice_get}
+use Rattle.process_packet.specs.Conditions.{ComesInBy, GoesOutBy}
 use Rattle.process_packet.specs.PacketState.{PacketState, hop, info, is_along}
 use Rattle.walk_laws.specs.Configured.{AreNumbered}
 use Rattle.walk_laws.specs.Net.{Agrees, Net, Router}
@@ -23,9 +24,12 @@ pub record AreConsecutive (set : List PathSegment) (x y : Router) (u v : PacketS
   pub first : IsEntry segment number x (info u) (hop u)
   pub second : IsEntry segment (suc number) y (info v) (hop v)
 
--- Where a datagram crosses a link on its segment, from the hop field by which it leaves one AS to the one at which it comes to the
--- next: in the direction of construction the first of them was made first, against it the second.
+-- A datagram comes into an AS by the link that the hop field names at which it comes, and leaves by the link that the hop field names
+-- by which it leaves. Where it crosses a link on its segment, from the one of these to the other: in the direction of construction the
+-- first of them was made first, against it the second.
 pub record GoesAsBeaconed (set : List PathSegment) (walk : List Sending) : Type 0 where
+  pub comes_by : (i : ℕ) (s : Sending) → slice_get walk i ≡ Some s → s.link ≢ 0 → ComesInBy (info (at_entry s)) (hop (at_entry s)) s.link
+  pub leaves_by : (i : ℕ) (s : Sending) → slice_get walk i ≡ Some s → s.to ≡ None → GoesOutBy (info (at_exit s)) (hop (at_exit s)) s.out
   pub along : (i : ℕ) (s t : Sending) → slice_get walk i ≡ Some s → slice_get walk (suc i) ≡ Some t → s.to ≡ None → IsOnItsWay (at_exit s)
       → is_along (at_exit s) ≡ true → AreChained set s.here t.here (at_exit s) (at_entry t)
   pub against : (i : ℕ) (s t : Sending) → slice_get walk i ≡ Some s → slice_get walk (suc i) ≡ Some t → s.to ≡ None → IsOnItsWay (at_exit s)
