@@ -49,7 +49,7 @@ all_hold P y ys x zero one others below is = subst P is one
 all_hold P y ys x (suc k) one others below is = others x (k, omega arith, is)
 
 -- each element of a list passes
-each : {X : Type 0} (f : X → Bool) (P : X → Type 0) → ((x : X) → Decides (f x) (P x)) → (xs : List X) → Decides (list_all f xs) ((x : X) → Contains xs x → P x)
+pub each : {X : Type 0} (f : X → Bool) (P : X → Type 0) → ((x : X) → Decides (f x) (P x)) → (xs : List X) → Decides (list_all f xs) ((x : X) → Contains xs x → P x)
 each f P d [] = (λ e x there. let below = there.1 in absurd (omega arith), λ all. refl)
 each f P d (y ∷ ys) =
     by_way (f y && list_all f ys)
@@ -71,7 +71,7 @@ some_of f x y ys false one others = (
 )
 
 -- some element of a list passes
-some : {X : Type 0} (f : X → Bool) (x : X) → ((y : X) → Decides (f y) (x ≡ y)) → (ys : List X) → Decides (list_any f ys) (Contains ys x)
+pub some : {X : Type 0} (f : X → Bool) (x : X) → ((y : X) → Decides (f y) (x ≡ y)) → (ys : List X) → Decides (list_any f ys) (Contains ys x)
 some f x d [] = (λ e. let never : false ≡ true = e in absurd cc, λ there. let below = there.1 in absurd (omega arith))
 some f x d (y ∷ ys) = some_of f x y ys (f y) (d y) (some f x d ys)
 
@@ -92,7 +92,7 @@ numbered f P d n (y ∷ ys) =
 
 -- ---- equal values
 
-kind_decides : (a b : LinkKind) → Decides (agreement.same_kind a b) (a ≡ b)
+pub kind_decides : (a b : LinkKind) → Decides (agreement.same_kind a b) (a ≡ b)
 kind_decides Core Core = (λ e. refl, λ is. refl)
 kind_decides Core Parent = (λ e. absurd cc, λ is. absurd cc)
 kind_decides Core Child = (λ e. absurd cc, λ is. absurd cc)
@@ -103,7 +103,7 @@ kind_decides Child Core = (λ e. absurd cc, λ is. absurd cc)
 kind_decides Child Parent = (λ e. absurd cc, λ is. absurd cc)
 kind_decides Child Child = (λ e. refl, λ is. refl)
 
-opposite_decides : (a b : LinkKind) → Decides (agreement.are_opposite a b) (b ≡ opposite a)
+pub opposite_decides : (a b : LinkKind) → Decides (agreement.are_opposite a b) (b ≡ opposite a)
 opposite_decides Core Core = (λ e. refl, λ is. refl)
 opposite_decides Core Parent = (λ e. absurd cc, λ is. absurd cc)
 opposite_decides Core Child = (λ e. absurd cc, λ is. absurd cc)
@@ -127,7 +127,7 @@ underlay_decides a b =
     (λ is. (ap (λ (u : Underlay). u.port) is, ap (λ (u : Underlay). u.ip) is))
     (both (a.port == b.port) (same_ip a.ip b.ip) (Decides-eqb a.port b.port) (ip_decides a.ip b.ip))
 
-service_decides : (a b : Service) → Decides (agreement.same_service a b) (a ≡ b)
+pub service_decides : (a b : Service) → Decides (agreement.same_service a b) (a ≡ b)
 service_decides a b =
     by_way (agreement.same_service a b)
     (λ h. ap₂ (λ (n : ℕ) (u : Underlay). let s : Service = record { number = n; at = u } in s) h.0 h.1)
@@ -141,7 +141,7 @@ range_decides a b =
     (λ is. (ap (λ (r : PortRange). r.first) is, ap (λ (r : PortRange). r.last) is))
     (both (a.first == b.first) (a.last == b.last) (Decides-eqb a.first b.first) (Decides-eqb a.last b.last))
 
-ports_decide : (a b : Option PortRange) → Decides (agreement.same_ports a b) (a ≡ b)
+pub ports_decide : (a b : Option PortRange) → Decides (agreement.same_ports a b) (a ≡ b)
 ports_decide None None = (λ e. refl, λ is. refl)
 ports_decide None (Some b) = (λ e. let never : false ≡ true = e in absurd cc, λ is. absurd cc)
 ports_decide (Some a) None = (λ e. let never : false ≡ true = e in absurd cc, λ is. absurd cc)
@@ -237,18 +237,18 @@ within_decides r q x y =
 abbrev AgreesWith : List Router → ℕ → Router → Type 0
 AgreesWith routers r x = (q : ℕ) (y : Router) → slice_get routers q ≡ Some y → AreOfOneAS x y → AgreeWithin r q x y
 
-as_one_decides : (r q : ℕ) (x y : Router) → Decides (agreement.agree_as r q x y) (AreOfOneAS x y → AgreeWithin r q x y)
+pub as_one_decides : (r q : ℕ) (x y : Router) → Decides (agreement.agree_as r q x y) (AreOfOneAS x y → AgreeWithin r q x y)
 as_one_decides r q x y =
     where_so (agreement.are_of_one_as x.network y.network) (agreement.agree_within (r == q) x y) (as_decides x y) (within_decides r q x y)
 
-with_decides : (routers : List Router) (r : ℕ) (x : Router) → Decides (agreement.agrees_with routers r x) (AgreesWith routers r x)
+pub with_decides : (routers : List Router) (r : ℕ) (x : Router) → Decides (agreement.agrees_with routers r x) (AgreesWith routers r x)
 with_decides routers r x =
     by_way (agreement.agrees_with routers r x)
     (λ h q y there. subst (λ (k : ℕ). AreOfOneAS x y → AgreeWithin r k x y) (zero-add q) (h q y there))
     (λ h q y there. subst (λ (k : ℕ). AreOfOneAS x y → AgreeWithin r k x y) (sym (zero-add q)) (h q y there))
     (numbered (λ (p : ℕ × Router). agreement.agree_as r p.0 x p.1) (λ q y. AreOfOneAS x y → AgreeWithin r q x y) (λ q y. as_one_decides r q x y) 0 routers)
 
-routers_decide : (routers : List Router) → Decides (agreement.routers_agree routers) ((r : ℕ) (x : Router) → slice_get routers r ≡ Some x → AgreesWith routers r x)
+pub routers_decide : (routers : List Router) → Decides (agreement.routers_agree routers) ((r : ℕ) (x : Router) → slice_get routers r ≡ Some x → AgreesWith routers r x)
 routers_decide routers =
     by_way (agreement.routers_agree routers)
     (λ h r x there. subst (λ (k : ℕ). AgreesWith routers k x) (zero-add r) (h r x there))
@@ -273,7 +273,7 @@ link_found : (routers : List Router) (e : End) (l : Link) (x : Router) → slice
 link_found routers e l x at is = ap (option_and_then (λ (y : Router). own_link y.network e.link)) at ∙ is
 
 -- the AS that is named, if one is
-named_decides : (o : Option Domain) (y : Router) → Decides (agreement.is_named o y.network) (IsNamed o y)
+pub named_decides : (o : Option Domain) (y : Router) → Decides (agreement.is_named o y.network) (IsNamed o y)
 named_decides None y = (λ e. record { isd = λ d is. absurd cc; autonomous_system = λ d is. absurd cc }, λ is. refl)
 named_decides (Some d) y =
     let n = y.network in
@@ -353,7 +353,7 @@ wired_decides routers w (Some out) (Some into) =
     (names_decide routers out w.other))
     (names_decide routers into w.one))
 
-wire_decides : (net : Net) (w : Wire) → Decides (agreement.is_wire net.routers w) (IsWire net w)
+pub wire_decides : (net : Net) (w : Wire) → Decides (agreement.is_wire net.routers w) (IsWire net w)
 wire_decides net w =
     let o = agreement.link_at net.routers w.one in
     let i = agreement.link_at net.routers w.other in
@@ -398,7 +398,7 @@ wire_decides net w =
 differ_decides : (a b : End) → Decides (not (agreement.same_end a b)) (a ≢ b)
 differ_decides a b = Decides-not (agreement.same_end a b) (end_decides a b)
 
-apart_decides : (v w : Wire) → Decides (agreement.are_apart v w) (AreApart v w)
+pub apart_decides : (v w : Wire) → Decides (agreement.are_apart v w) (AreApart v w)
 apart_decides v w =
     let a = not (agreement.same_end v.one w.one) in
     let b = not (agreement.same_end v.one w.other) in
@@ -412,7 +412,7 @@ apart_decides v w =
 abbrev IsApart : List Wire → ℕ → Wire → Type 0
 IsApart wires j v = (k : ℕ) (w : Wire) → slice_get wires k ≡ Some w → j ≢ k → AreApart v w
 
-is_apart_decides : (wires : List Wire) (j : ℕ) (v : Wire) → Decides (agreement.is_apart wires j v) (IsApart wires j v)
+pub is_apart_decides : (wires : List Wire) (j : ℕ) (v : Wire) → Decides (agreement.is_apart wires j v) (IsApart wires j v)
 is_apart_decides wires j v =
     by_way (agreement.is_apart wires j v)
     (λ h k w there. subst (λ (i : ℕ). j ≢ i → AreApart v w) (zero-add k) (h k w there))
@@ -454,10 +454,10 @@ all_alike : {X : Type 0} (f g : X → Bool) → ((x : X) → f x ≡ g x) → (x
 all_alike f g same [] = refl
 all_alike f g same (x ∷ xs) = ap₂ (λ (a b : Bool). a && b) (same x) (all_alike f g same xs)
 
-config_agrees_is : (configs : List Config) (r : ℕ) (x : Router) → agreement.agrees_with (map router_of configs) r x ≡ agreement.config_agrees configs r x
+pub config_agrees_is : (configs : List Config) (r : ℕ) (x : Router) → agreement.agrees_with (map router_of configs) r x ≡ agreement.config_agrees configs r x
 config_agrees_is configs r x = all_mapped router_of (λ (p : ℕ × Router). agreement.agree_as r p.0 x p.1) 0 configs
 
-configs_agree_is : (configs : List Config) → agreement.routers_agree (map router_of configs) ≡ agreement.configs_agree configs
+pub configs_agree_is : (configs : List Config) → agreement.routers_agree (map router_of configs) ≡ agreement.configs_agree configs
 configs_agree_is configs =
     all_mapped router_of (λ (p : ℕ × Router). agreement.agrees_with (map router_of configs) p.0 p.1) 0 configs
     ∙ all_alike (λ (p : ℕ × Config). agreement.agrees_with (map router_of configs) p.0 (router_of p.1)) (λ (p : ℕ × Config). agreement.config_agrees configs p.0 (router_of p.1))

@@ -16,3 +16,5 @@ pub mod Configured
 pub mod ExampleTurn
 pub mod ExamplePorts
 pub mod Examples
+pub mod Misfit
+pub mod MisfitSearch

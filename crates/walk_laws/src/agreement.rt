@@ -12,7 +12,7 @@ use process_packet::{Config, Link, PortRange, Service};
 use segment_switch::LinkKind;
 
 /// Whether both are the same kind.
-fn same_kind(one: LinkKind, other: LinkKind) -> bool
+pub(crate) fn same_kind(one: LinkKind, other: LinkKind) -> bool
     ensures { result ≡ agreement.same_kind one other }
 {
     matches!(
@@ -24,7 +24,7 @@ fn same_kind(one: LinkKind, other: LinkKind) -> bool
 }
 
 /// Whether the ends of a link may see each other so.
-fn are_opposite(one: LinkKind, other: LinkKind) -> bool
+pub(crate) fn are_opposite(one: LinkKind, other: LinkKind) -> bool
     ensures { result ≡ agreement.are_opposite one other }
 {
     matches!(
@@ -43,7 +43,7 @@ fn are_of_one_as(one: &Config, other: &Config) -> bool
 }
 
 /// Whether the router has no link of this number, and lists it as an interface of the other router.
-fn lists(config: &Config, other: &Config, link: &Link) -> bool
+pub(crate) fn lists(config: &Config, other: &Config, link: &Link) -> bool
     ensures { result ≡ agreement.lists (network config.now) other.now.internal link.now }
 {
     config.own_link(link.id).is_none()
@@ -68,7 +68,7 @@ fn lists_router(config: &Config, other: &Config) -> bool
 }
 
 /// Whether the router's configuration lists the service.
-fn has_service(config: &Config, service: &Service) -> bool
+pub(crate) fn has_service(config: &Config, service: &Service) -> bool
     ensures { result ≡ agreement.has_service config.now.services.items service.now }
 {
     config.services.iter().any(|other| service.number == other.number && service.at == other.at)
@@ -85,7 +85,7 @@ fn shares_services(config: &Config, other: &Config) -> bool
 }
 
 /// Whether both are the same range of ports, or neither is there.
-fn same_ports(one: &Option<PortRange>, other: &Option<PortRange>) -> bool
+pub(crate) fn same_ports(one: &Option<PortRange>, other: &Option<PortRange>) -> bool
     ensures { result ≡ agreement.same_ports one.now other.now }
 {
     match (one, other) {
@@ -106,13 +106,21 @@ fn agree_within(same: bool, one: &Config, other: &Config) -> bool
         && (same || lists_router(one, other))
 }
 
+/// Whether the routers at these places agree, unless they are of different ASes.
+pub(crate) fn agree_as(router: usize, place: usize, config: &Config, other: &Config) -> bool
+    ensures { result ≡ agreement.agree_as router place (router_of config.now) (router_of other.now) }
+{
+    !are_of_one_as(config, other) || agree_within(router == place, config, other)
+}
+
 /// Whether a router agrees with each that is of its AS.
-fn agrees_with(configs: &[Config], router: usize, config: &Config) -> bool
+pub(crate) fn agrees_with(configs: &[Config], router: usize, config: &Config) -> bool
     ensures { result ≡ agreement.config_agrees configs.now router (router_of config.now) }
 {
-    configs.iter().enumerate().all(|(place, other)| {
-        !are_of_one_as(config, other) || agree_within(router == place, config, other)
-    })
+    configs
+        .iter()
+        .enumerate()
+        .all(|(place, other)| agree_as(router, place, config, other))
 }
 
 /// Whether the routers of each AS agree.
@@ -126,14 +134,14 @@ fn routers_agree(configs: &[Config]) -> bool
 }
 
 /// Whether both are the same end.
-fn same_end(one: &End, other: &End) -> bool
+pub(crate) fn same_end(one: &End, other: &End) -> bool
     ensures { result ≡ agreement.same_end one.now other.now }
 {
     one.router == other.router && one.link == other.link
 }
 
 /// The link that the end names.
-fn link_at<'a>(configs: &'a [Config], end: &End) -> Option<&'a Link>
+pub(crate) fn link_at<'a>(configs: &'a [Config], end: &End) -> Option<&'a Link>
     ensures { option_copied result ≡ agreement.link_at (map router_of configs.now) end.now }
 {
     match configs.get(end.router) {
@@ -162,7 +170,7 @@ fn names(link: &Link, there: &Config) -> bool
 }
 
 /// The same, of the router that the end names.
-fn names_end(configs: &[Config], link: &Link, end: &End) -> bool
+pub(crate) fn names_end(configs: &[Config], link: &Link, end: &End) -> bool
     ensures { result ≡ agreement.names_end (map router_of configs.now) link.now end.now }
 {
     match configs.get(end.router) {
@@ -182,7 +190,7 @@ fn are_wired(configs: &[Config], wire: &Wire, out: &Link, into: &Link) -> bool
 }
 
 /// Whether the wire joins two links of these routers.
-fn is_wire(configs: &[Config], wire: &Wire) -> bool
+pub(crate) fn is_wire(configs: &[Config], wire: &Wire) -> bool
     ensures { result ≡ agreement.is_wire (map router_of configs.now) wire.now }
 {
     match (link_at(configs, &wire.one), link_at(configs, &wire.other)) {
@@ -194,7 +202,7 @@ fn is_wire(configs: &[Config], wire: &Wire) -> bool
 }
 
 /// Whether the wires have no end in common.
-fn are_apart(one: &Wire, other: &Wire) -> bool
+pub(crate) fn are_apart(one: &Wire, other: &Wire) -> bool
     ensures { result ≡ agreement.are_apart one.now other.now }
 {
     !same_end(&one.one, &other.one)
@@ -204,7 +212,7 @@ fn are_apart(one: &Wire, other: &Wire) -> bool
 }
 
 /// Whether the wire has no end in common with any other.
-fn is_apart(wires: &[Wire], place: usize, wire: &Wire) -> bool
+pub(crate) fn is_apart(wires: &[Wire], place: usize, wire: &Wire) -> bool
     ensures { result ≡ agreement.is_apart wires.now place wire.now }
 {
     wires.iter().enumerate().all(|(other_place, other)| place == other_place
