@@ -1,0 +1,8 @@
+use Rattle.std.proofs.Common.{ap}
+use Rattle.std.proofs.lemmas.Option.{slice_get_past}
+use Rattle.net_check.specs.Wires.{of_router}
+use Rattle.net_check.proofs.Added.{none_added}
+use Rattle.net_check.proofs.wires.add_router.Goals as goal
+
+pub returns-in-None : goal.returns-in-None
+returns-in-None c = none_added c.args.list.now.items _ (ap (of_router c.args.router) (slice_get_past c.args.configs.now c.args.router c.in-None.ensures.lookup.3))

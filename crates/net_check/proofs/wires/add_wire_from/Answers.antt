@@ -1,0 +1,8 @@
+use Rattle.std.proofs.Common.{Some, ap}
+use Rattle.std.proofs.lemmas.Option.{slice_get_past}
+use Rattle.net_check.specs.Wires.{between}
+use Rattle.net_check.proofs.Added.{none_added}
+use Rattle.net_check.proofs.wires.add_wire_from.Goals as goal
+
+pub returns-in-None : goal.returns-in-None
+returns-in-None c = none_added c.args.list.now.items _ (ap (between (Some c.args.one.now)) (slice_get_past c.args.links.now c.args.other c.in-None.ensures.lookup.3))
