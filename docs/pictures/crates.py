@@ -1,8 +1,8 @@
 #!/usr/bin/env python3
 """Draws the layers of crates: reads crates.txt (or the file that is named), writes the picture's source for `dot`.
 
-Crates of tests, samples and benches are left out, and so is an edge to a crate that is reached by other edges too. A crate that
-is in no layer below stops the script, so that a new one finds its place.
+Crates of tests, samples, benches and the import are left out, and so is an edge to a crate that is reached by other edges
+too. A crate that is in no layer below stops the script, so that a new one finds its place.
 """
 
 import os
@@ -27,7 +27,7 @@ LAYERS = [
     ("sockets", "#f8dcd3", "udp_devices"),
     ("text and commands", "#e6def0", "text_values router_config config_warnings net_check router_lines router_engine run_engine udp_router command_words router_faults check_command router_program"),
 ]
-LEFT_OUT = {"path_trial", "path_probe", "try_net"}
+LEFT_OUT = {"path_trial", "path_probe", "try_net", "key_derivation"}
 
 
 def is_left_out(name):
