@@ -1,10 +1,12 @@
 -- The shares handed back: what they posted and still hold, added up.
-use Rattle.std.proofs.Common.{◌≡◌, ℕ, ◌+◌, ◌-◌, ◌*◌, ◌^◌, ◌≤◌, true, List, [], ◌∷◌, ◌++◌, length, refl, sym, ap, ◌∙◌, subst, length-append, arith}
+use Rattle.std.proofs.Common.{◌≡◌, ℕ, ◌+◌, ◌-◌, ◌*◌, ◌^◌, ◌≤◌, List, [], ◌∷◌, ◌++◌, length, refl, sym, ap, ◌∙◌, subst, length-append, arith}
 use Rattle.std.proofs.lemmas.List.Sums.{fold-append}
 use Rattle.process_packet.specs.Cause.{causes}
 use Rattle.process_packet.specs.declared.totals.Totals.{Totals}
+use Rattle.packet_ledger.specs.declared.tokens.Table.{Table}
 use Rattle.packet_ledger.specs.declared.tokens.View.{View}
 use Rattle.packet_ledger.specs.Amounts.{count_at, nothing, plus}
+use Rattle.packet_ledger.specs.Shown.{no_rows}
 use Rattle.packet_ledger.specs.Tokens.{Audited, gathered, keeper, kept}
 use Rattle.packet_ledger.specs.Share.{Held, counts_of, posted_by}
 use Rattle.packet_ledger.proofs.Counting.{same_counts, plus_at, plus_nothing, nothing_at}
@@ -19,7 +21,7 @@ pub gathered_next : (xs : List Held) (s : Held) (v0 v w : View) → v ≡ gather
 gathered_next xs s v0 v w is then =
     let next : w ≡ gathered 1 (plus (posted_by xs) s.posted) (gathered (length xs) (posted_by xs) v0) = then ∙ ap (λ (u : View). gathered 1 (plus u.posted s.posted) u) is in
     let n : v0.parts + length xs + 1 ≡ v0.parts + length (xs ++ s ∷ []) = omega (arith, length-append xs (s ∷ [])) in
-    next ∙ (λ i. record { keeps = v0.keeps; parts = n i; posted = sym (posted_next xs s) i; booked = v0.booked })
+    next ∙ (λ i. record { keeps = v0.keeps; parts = n i; posted = sym (posted_next xs s) i; booked = v0.booked; rows = v0.rows; seen = nothing; seen_rows = no_rows })
 
 -- each posted at most its most
 pub posted_most : (xs : List Held) (s : Held) (i : ℕ) → count_at i (posted_by xs) ≤ length xs * 2 ^ 109 → count_at i s.posted ≤ 2 ^ 109 → count_at i (posted_by (xs ++ s ∷ [])) ≤ length (xs ++ s ∷ []) * 2 ^ 109
@@ -34,17 +36,17 @@ gives_all shares m zero' v0 v1 v2 all isZero is1 is2 most i =
     let b = ap (count_at i) isZero in let z = nothing_at i in let s = most i in omega arith
 
 -- with every share taken in, the sums are all that was posted, and the book's token can be as it was
-pub closes : (workers n m : ℕ) (totals zero' : Totals) (shares : List Held) (v0 v1 v2 v3 : View) → workers ≤ 65536 → n ≡ workers → m ≡ n → length totals.dropped ≡ causes → zero' ≡ nothing
-    → v0 ≡ keeper (65537 - workers) nothing totals → v1 ≡ gathered n (posted_by shares) v0 → Audited v1 v2 → v3 ≡ kept m zero' v2
-    → (v3 ≡ keeper (65537 - workers) nothing totals) × (totals ≡ posted_by shares)
-closes workers n m totals zero' shares v0 v1 v2 v3 few all given long isZero is0 is1 told is3 =
+pub closes : (workers n m : ℕ) (totals zero' : Totals) (rows : Table) (shares : List Held) (v0 v1 v2 v3 : View) → workers ≤ 65536 → n ≡ workers → m ≡ n → length totals.dropped ≡ causes → zero' ≡ nothing
+    → v0 ≡ keeper (65537 - workers) nothing totals rows → v1 ≡ gathered n (posted_by shares) v0 → Audited v1 v2 → v3 ≡ kept m zero' rows v2
+    → (v3 ≡ keeper (65537 - workers) nothing totals rows) × (totals ≡ posted_by shares)
+closes workers n m totals zero' rows shares v0 v1 v2 v3 few all given long isZero is0 is1 told is3 =
     let parts : 65537 - workers + n ≡ 65537 = omega arith in
-    let first : v1 ≡ record { keeps = true; parts = 65537; posted = posted_by shares; booked = totals } = is1 ∙ ap (gathered n (posted_by shares)) is0 ∙ (λ i. record { keeps = true; parts = parts i; posted = posted_by shares; booked = totals }) in
+    let first : v1 ≡ keeper 65537 (posted_by shares) totals rows = is1 ∙ ap (gathered n (posted_by shares)) is0 ∙ (λ i. keeper (parts i) (posted_by shares) totals rows) in
     let P : View → Type 0 = λ u. (u.parts ≡ 65537 → (i : ℕ) → count_at i u.posted ≡ count_at i u.booked) × (length u.posted.dropped ≡ causes) in
     let whole = subst P first (told.2, told.3) in
     let second = told.0 ∙ first in
     let b = plus_nothing totals long in
     let rest : 65537 - m ≡ 65537 - workers = omega arith in (
-      is3 ∙ (λ i. kept m (isZero i) (second i)) ∙ (λ i. keeper (rest i) nothing (b i)),
+      is3 ∙ (λ i. kept m (isZero i) rows (second i)) ∙ (λ i. keeper (rest i) nothing (b i) rows),
       same_counts totals (posted_by shares) (long ∙ sym whole.1) (λ i. sym (whole.0 refl i)),
     )

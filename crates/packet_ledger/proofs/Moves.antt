@@ -6,10 +6,13 @@ use Rattle.crossbeam_utils.specs.Register.{Turns, Forks, Merges}
 use Rattle.atomic_table.proofs.Lists.{at_set, at_snoc, set_again}
 use Rattle.process_packet.specs.Cause.{causes}
 use Rattle.process_packet.specs.declared.totals.Totals.{Totals}
+use Rattle.packet_ledger.specs.declared.tokens.Table.{Table}
 use Rattle.packet_ledger.specs.declared.tokens.View.{View}
 use Rattle.packet_ledger.specs.Amounts.{count_at, nothing, plus, AtMost}
-use Rattle.packet_ledger.specs.Tokens.{keeper, holder, nobody, kept, given, joined, total, posted_at, Fits, Balanced, Audited}
+use Rattle.packet_ledger.specs.Shown.{AreUpTo, no_rows}
+use Rattle.packet_ledger.specs.Tokens.{keeper, holder, looker, unlooked, nobody, kept, given, joined, total, posted_at, Fits, Balanced, Audited}
 use Rattle.packet_ledger.proofs.Counting.{nothing_at, plus_at, length-add_each, plus_nothing, nothing_plus}
+use Rattle.packet_ledger.proofs.Rows.{no_rows_are, rows_from, same_rows}
 
 off : {P : Type 0} → false ≡ true → P
 off e = absurd (true≢false (sym e))
@@ -37,33 +40,96 @@ all_set F views by w mine others j u e =
     (λ (x : (j ≢ by) × (get_elem? views j ≡ some u)). others j u x.0 x.1)
     (at_set views by j w u e)
 
-pub begins : (words : List ℕ) → Balanced words (keeper 65537 nothing nothing ∷ [])
+pub begins : (words : List ℕ) → Balanced words (keeper 65537 nothing nothing no_rows ∷ [])
 begins words = record {
   seat = 0;
+  rows = no_rows;
   whole = refl;
   fits = one;
 }
   where
-    one : (by : ℕ) (v : View) → get_elem? (keeper 65537 nothing nothing ∷ []) by ≡ some v → Fits 0 (posted_at (keeper 65537 nothing nothing ∷ [])) by v
-    one zero v e = subst (Fits 0 (posted_at (keeper 65537 nothing nothing ∷ [])) 0) (some-injective _ _ e)
-        ((λ _. (refl, λ i. let z = nothing_at i in omega arith)), (λ i. let z = nothing_at i in omega arith), refl)
+    one : (by : ℕ) (v : View) → get_elem? (keeper 65537 nothing nothing no_rows ∷ []) by ≡ some v → Fits 0 (posted_at (keeper 65537 nothing nothing no_rows ∷ [])) no_rows by v
+    one zero v e = subst (Fits 0 (posted_at (keeper 65537 nothing nothing no_rows ∷ [])) no_rows 0) (some-injective _ _ e)
+        ((λ _. (refl, (λ i. let z = nothing_at i in omega arith), refl)), (λ i. let z = nothing_at i in omega arith), refl, (λ i. let z = nothing_at i in omega arith), same_rows no_rows)
     one (suc by) v e = absurd (some-ne-none v (sym e))
 
--- the book's token gives parts away, with what it knew as posted and these counts
-pub gives : (by : ℕ) (v : View) (n : ℕ) (counts : Totals) → v.keeps ≡ true → n ≤ v.parts → ((i : ℕ) → count_at i v.posted + count_at i counts ≤ n * 2 ^ 109) → length counts.dropped ≡ causes
-    → Forks Balanced by v (kept n counts v) (given n counts v)
-gives by v n counts keeps enough few long words views h at =
-    let l = kept n counts v in let r = given n counts v in let vs = set views by l in
+-- the book's token gives parts away, with what it knew as posted and these counts, and its rows become these
+pub gives : (by : ℕ) (v : View) (n : ℕ) (counts : Totals) (rows : Table) → v.keeps ≡ true → n ≤ v.parts → ((i : ℕ) → count_at i v.posted + count_at i counts ≤ n * 2 ^ 109) → length counts.dropped ≡ causes
+    → AreUpTo v.rows rows → Forks Balanced by v (kept n counts rows v) (given n counts v)
+gives by v n counts rows keeps enough few long up words views h at =
+    let l = kept n counts rows v in let r = given n counts v in let vs = set views by l in
     let mine = h.fits by v at in let seat = mine.0 keeps in
     let sum : (i : ℕ) → posted_at (vs ++ r ∷ []) i ≡ posted_at views i + count_at i counts =
     λ i.
     let f : View → ℕ = λ u. count_at i u.posted in
     let a = total_set f views by v l at in let b = total_new f vs r in let z = nothing_at i in let p = plus_at i v.posted counts in omega arith in
-    let F = Fits h.seat (posted_at (vs ++ r ∷ [])) in
-    let left : F by l = ((λ _. (seat.0, λ i. let b = seat.1 i in let p = plus_at i v.booked counts in let s = sum i in omega arith)), (λ i. let z = nothing_at i in omega arith), refl) in
-    let right : (j : ℕ) → F j r = λ j. ((λ e. off e), (λ i. let o = few i in let p = plus_at i v.posted counts in omega arith), length-add_each causes v.posted.dropped counts.dropped mine.2 long) in
-    let others = all_set F views by l left (λ j u apart e. let was = h.fits j u e in ((λ k. absurd (apart ((was.0 k).0 ∙ sym seat.0))), was.1, was.2)) in record {
+    let more : AreUpTo h.rows rows = subst (λ (t : Table). AreUpTo t rows) seat.2 up in
+    let F = Fits h.seat (posted_at (vs ++ r ∷ [])) rows in
+    let left : F by l = (
+      (λ _. (seat.0, (λ i. let b = seat.1 i in let p = plus_at i v.booked counts in let s = sum i in omega arith), refl)),
+      (λ i. let z = nothing_at i in omega arith),
+      refl,
+      (λ i. let z = nothing_at i in omega arith),
+      no_rows_are rows,
+    ) in
+    let right : (j : ℕ) → F j r = λ j. (
+      (λ e. off e),
+      (λ i. let o = few i in let p = plus_at i v.posted counts in omega arith),
+      length-add_each causes v.posted.dropped counts.dropped mine.2 long,
+      (λ i. let z = nothing_at i in omega arith),
+      no_rows_are rows,
+    ) in
+    let others = all_set F views by l left
+    (λ j u apart e. let was = h.fits j u e in (
+      (λ k. absurd (apart ((was.0 k).0 ∙ sym seat.0))),
+      was.1,
+      was.2,
+      (λ i. let w = was.3 i in let s = sum i in omega arith),
+      rows_from u.seen_rows h.rows rows was.4 more,
+    )) in record {
       seat = h.seat;
+      rows = rows;
+      whole = (
+          let f : View → ℕ = λ u. u.parts in
+          let a = total_set f views by v l at in let b = total_new f vs r in let w = h.whole in omega arith
+          );
+      fits = λ j u e. ⊎_elim (λ was. others j u was) (λ (same : r ≡ u). subst (F j) same (right j)) (at_snoc vs r u j e);
+    }
+
+-- a look's token is cut off that of the book
+pub shows : (by : ℕ) (v : View) → v.keeps ≡ true → Forks Balanced by v (unlooked v) (looker v.booked v.rows)
+shows by v keeps words views h at =
+    let l = unlooked v in let r = looker v.booked v.rows in let vs = set views by l in
+    let mine = h.fits by v at in let seat = mine.0 keeps in
+    let sum : (i : ℕ) → posted_at (vs ++ r ∷ []) i ≡ posted_at views i =
+    λ i.
+    let f : View → ℕ = λ u. count_at i u.posted in
+    let a = total_set f views by v l at in let b = total_new f vs r in let z = nothing_at i in omega arith in
+    let F = Fits h.seat (posted_at (vs ++ r ∷ [])) h.rows in
+    let left : F by l = (
+      (λ _. (seat.0, (λ i. seat.1 i ∙ sym (sum i)), seat.2)),
+      mine.1,
+      mine.2,
+      (λ i. let z = nothing_at i in omega arith),
+      no_rows_are h.rows,
+    ) in
+    let right : (j : ℕ) → F j r = λ j. (
+      (λ e. off e),
+      (λ i. let z = nothing_at i in omega arith),
+      refl,
+      (λ i. let b = seat.1 i in let s = sum i in omega arith),
+      subst (AreUpTo v.rows) seat.2 (same_rows v.rows),
+    ) in
+    let others = all_set F views by l left
+    (λ j u _ e. let was = h.fits j u e in (
+      (λ k. ((was.0 k).0, (λ i. (was.0 k).1 i ∙ sym (sum i)), (was.0 k).2)),
+      was.1,
+      was.2,
+      (λ i. let w = was.3 i in let s = sum i in omega arith),
+      was.4,
+    )) in record {
+      seat = h.seat;
+      rows = h.rows;
       whole = (
           let f : View → ℕ = λ u. u.parts in
           let a = total_set f views by v l at in let b = total_new f vs r in let w = h.whole in omega arith
@@ -81,19 +147,29 @@ takes by v other w words views h at apart there =
     λ i.
     let f : View → ℕ = λ u. count_at i u.posted in
     let a = total_set f views by v both at in let b = total_set f vs other w nobody there in let z = nothing_at i in let p = plus_at i v.posted w.posted in omega arith in
-    let F = Fits h.seat (posted_at new) in
+    let F = Fits h.seat (posted_at new) h.rows in
     let one : F by both = (
-      (λ k. ((mine.0 k).0, λ i. (mine.0 k).1 i ∙ sym (sum i))),
+      (λ k. ((mine.0 k).0, (λ i. (mine.0 k).1 i ∙ sym (sum i)), (mine.0 k).2)),
       (λ i. let a = mine.1 i in let b = theirs.1 i in let p = plus_at i v.posted w.posted in omega arith),
       length-add_each causes v.posted.dropped w.posted.dropped mine.2 theirs.2,
+      (λ i. let t = theirs.3 i in let s = sum i in omega arith),
+      theirs.4,
     ) in
-    let first = all_set F views by both one (λ j u _ e. let was = h.fits j u e in ((λ k. ((was.0 k).0, λ i. (was.0 k).1 i ∙ sym (sum i))), was.1, was.2)) in record {
+    let first = all_set F views by both one
+    (λ j u _ e. let was = h.fits j u e in (
+      (λ k. ((was.0 k).0, (λ i. (was.0 k).1 i ∙ sym (sum i)), (was.0 k).2)),
+      was.1,
+      was.2,
+      (λ i. let w = was.3 i in let s = sum i in omega arith),
+      was.4,
+    )) in record {
       seat = h.seat;
+      rows = h.rows;
       whole = (
           let f : View → ℕ = λ u. u.parts in
           let a = total_set f views by v both at in let b = total_set f vs other w nobody there in let s = h.whole in omega arith
           );
-      fits = all_set F vs other nobody ((λ e. off e), (λ i. let z = nothing_at i in omega arith), refl) (λ j u _ e. first j u e);
+      fits = all_set F vs other nobody ((λ e. off e), (λ i. let z = nothing_at i in omega arith), refl, (λ i. let z = nothing_at i in omega arith), no_rows_are h.rows) (λ j u _ e. first j u e);
     }
 
 -- the book's token tells what it knows
@@ -119,33 +195,35 @@ audits by v keeps words views h at =
             let none = total_most (λ u. count_at i u.posted) (set views by nobody) (most i) in
             let r = rest i in let b = seat.1 i in omega arith),
         mine.2,
+        (λ i. let s = mine.3 i in let b = seat.1 i in omega arith),
+        subst (AreUpTo v.seen_rows) (sym seat.2) mine.4,
       ),
     )
 
 -- the book's token with a share's taken in
-pub joins : (workers : ℕ) (totals posted zero' : Totals) (v0 v1 v2 w : View) → workers ≤ 65536 → length totals.dropped ≡ causes → length posted.dropped ≡ causes → zero' ≡ nothing
-    → v0 ≡ keeper (65537 - workers) nothing totals → v1 ≡ kept 0 zero' v0 → w ≡ holder 1 posted → v2 ≡ joined v1 w → v2 ≡ keeper (65538 - workers) posted totals
-joins workers totals posted zero' v0 v1 v2 w few longT longP isZero is0 is1 isW is2 =
-    let first : v1 ≡ keeper (65537 - workers) nothing totals =
-    is1 ∙ (λ i. kept 0 (isZero i) (is0 i)) ∙ (let b = plus_nothing totals longT in let n : (65537 - workers) - 0 ≡ 65537 - workers = omega arith in λ i. keeper (n i) nothing (b i)) in
-    is2 ∙ (λ i. joined (first i) (isW i)) ∙ (let b = nothing_plus posted longP in let n : 65537 - workers + 1 ≡ 65538 - workers = omega arith in λ i. keeper (n i) (b i) totals)
+pub joins : (workers : ℕ) (totals posted zero' : Totals) (rows : Table) (v0 v1 v2 w : View) → workers ≤ 65536 → length totals.dropped ≡ causes → length posted.dropped ≡ causes → zero' ≡ nothing
+    → v0 ≡ keeper (65537 - workers) nothing totals rows → v1 ≡ kept 0 zero' rows v0 → w ≡ holder 1 posted → v2 ≡ joined v1 w → v2 ≡ keeper (65538 - workers) posted totals rows
+joins workers totals posted zero' rows v0 v1 v2 w few longT longP isZero is0 is1 isW is2 =
+    let first : v1 ≡ keeper (65537 - workers) nothing totals rows =
+    is1 ∙ (λ i. kept 0 (isZero i) rows (is0 i)) ∙ (let b = plus_nothing totals longT in let n : (65537 - workers) - 0 ≡ 65537 - workers = omega arith in λ i. keeper (n i) nothing (b i) rows) in
+    is2 ∙ (λ i. joined (first i) (isW i)) ∙ (let b = nothing_plus posted longP in let n : 65537 - workers + 1 ≡ 65538 - workers = omega arith in λ i. keeper (n i) (b i) totals rows)
 
 -- it may give the share's posts and counts away with one part
-pub gives_one : (n : ℕ) (totals posted counts sums : Totals) (v : View) → v ≡ keeper n posted totals → sums ≡ plus posted counts → AtMost (2 ^ 109) sums → (i : ℕ) → count_at i v.posted + count_at i counts ≤ 1 * 2 ^ 109
-gives_one n totals posted counts sums v is isSums most i =
+pub gives_one : (n : ℕ) (totals posted counts sums : Totals) (rows : Table) (v : View) → v ≡ keeper n posted totals rows → sums ≡ plus posted counts → AtMost (2 ^ 109) sums → (i : ℕ) → count_at i v.posted + count_at i counts ≤ 1 * 2 ^ 109
+gives_one n totals posted counts sums rows v is isSums most i =
     let a : count_at i v.posted ≡ count_at i posted = ap (λ (u : View). count_at i u.posted) is in
     let p = plus_at i posted counts in let e = ap (count_at i) isSums in let m = most i in omega arith
 
--- what a post leaves: the book's token with the counts booked, and the share's with them posted
-pub posts : (workers : ℕ) (totals posted counts : Totals) (v3 v4 r : View) → workers ≤ 65536 → v3 ≡ keeper (65538 - workers) posted totals → v4 ≡ kept 1 counts v3 → r ≡ given 1 counts v3
-    → (v4 ≡ keeper (65537 - workers) nothing (plus totals counts)) × (r ≡ holder 1 (plus posted counts))
-posts workers totals posted counts v3 v4 r few is3 is4 isR = (
-  is4 ∙ ap (kept 1 counts) is3 ∙ (let n : 65538 - workers - 1 ≡ 65537 - workers = omega arith in λ i. keeper (n i) nothing (plus totals counts)),
+-- what a post leaves: the book's token with the counts booked, by the new rows, and the share's with them posted
+pub posts : (workers : ℕ) (totals posted counts : Totals) (rows next : Table) (v3 v4 r : View) → workers ≤ 65536 → v3 ≡ keeper (65538 - workers) posted totals rows → v4 ≡ kept 1 counts next v3 → r ≡ given 1 counts v3
+    → (v4 ≡ keeper (65537 - workers) nothing (plus totals counts) next) × (r ≡ holder 1 (plus posted counts))
+posts workers totals posted counts rows next v3 v4 r few is3 is4 isR = (
+  is4 ∙ ap (kept 1 counts next) is3 ∙ (let n : 65538 - workers - 1 ≡ 65537 - workers = omega arith in λ i. keeper (n i) nothing (plus totals counts) next),
   isR ∙ ap (given 1 counts) is3,
 )
 
 -- and what is booked then, beside what it may be at most
-pub booked_most : (n : ℕ) (totals posted counts sums : Totals) (v : View) → v ≡ keeper n posted totals → ((i : ℕ) → count_at i v.booked ≤ 65537 * 2 ^ 109) → AtMost (2 ^ 100) counts → sums ≡ plus totals counts → AtMost (2 ^ 126) sums
-booked_most n totals posted counts sums v is within few isSums i =
+pub booked_most : (n : ℕ) (totals posted counts sums : Totals) (rows : Table) (v : View) → v ≡ keeper n posted totals rows → ((i : ℕ) → count_at i v.booked ≤ 65537 * 2 ^ 109) → AtMost (2 ^ 100) counts → sums ≡ plus totals counts → AtMost (2 ^ 126) sums
+booked_most n totals posted counts sums rows v is within few isSums i =
     let a : count_at i v.booked ≡ count_at i totals = ap (λ (u : View). count_at i u.booked) is in
     let w = within i in let f = few i in let p = plus_at i totals counts in let e = ap (count_at i) isSums in omega arith

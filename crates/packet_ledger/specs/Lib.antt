@@ -1,3 +1,4 @@
 pub mod Amounts
+pub mod Shown
 pub mod Tokens
 pub mod Share

@@ -5,8 +5,10 @@ use lib.ListN.{get_elem?}
 use Rattle.atomic_table.specs.Seated.{TableId}
 use Rattle.process_packet.specs.Cause.{causes}
 use Rattle.process_packet.specs.declared.totals.Totals.{Totals}
+use Rattle.packet_ledger.specs.declared.tokens.Table.{Table}
 use Rattle.packet_ledger.specs.declared.tokens.View.{View}
 use Rattle.packet_ledger.specs.Amounts.{count_at, nothing, plus}
+use Rattle.packet_ledger.specs.Shown.{AreUpTo, no_rows}
 
 -- the name of no table
 abbrev pub no_table : TableId
@@ -17,32 +19,40 @@ pub record Unnamed : Type 0 where
   pub table : TableId
   pub booked : Totals
 
--- the book's token: its parts, what it knows as posted beside the shares, and its sums
-abbrev pub keeper : ℕ → Totals → Totals → View
-keeper parts posted booked = record { keeps = true; parts = parts; posted = posted; booked = booked }
+-- the book's token: its parts, what it knows as posted beside the shares, its sums, and the shares' rows
+abbrev pub keeper : ℕ → Totals → Totals → Table → View
+keeper parts posted booked rows = record { keeps = true; parts = parts; posted = posted; booked = booked; rows = rows; seen = nothing; seen_rows = no_rows }
 
 -- the token of a share, which posted so much
 abbrev pub holder : ℕ → Totals → View
-holder parts posted = record { keeps = false; parts = parts; posted = posted; booked = nothing }
+holder parts posted = record { keeps = false; parts = parts; posted = posted; booked = nothing; rows = no_rows; seen = nothing; seen_rows = no_rows }
+
+-- the token of a look, which saw so much
+abbrev pub looker : Totals → Table → View
+looker seen rows = record { keeps = false; parts = 0; posted = nothing; booked = nothing; rows = no_rows; seen = seen; seen_rows = rows }
 
 -- a spent token
 abbrev pub nobody : View
 nobody = holder 0 nothing
 
--- the book's token after it gave parts away, with all that it knew as posted, and booked these counts with them
-abbrev pub kept : ℕ → Totals → View → View
-kept parts counts v = record { keeps = v.keeps; parts = v.parts - parts; posted = nothing; booked = plus v.booked counts }
+-- the book's token after it gave parts away, with all that it knew as posted, and booked these counts with them, with these rows
+abbrev pub kept : ℕ → Totals → Table → View → View
+kept parts counts rows v = record { keeps = v.keeps; parts = v.parts - parts; posted = nothing; booked = plus v.booked counts; rows = rows; seen = nothing; seen_rows = no_rows }
 
 abbrev pub given : ℕ → Totals → View → View
 given parts counts v = holder parts (plus v.posted counts)
 
--- a token with what another knew
+-- the book's token after a look's was cut off it
+abbrev pub unlooked : View → View
+unlooked v = record { keeps = v.keeps; parts = v.parts; posted = v.posted; booked = v.booked; rows = v.rows; seen = nothing; seen_rows = no_rows }
+
+-- a token with what another knew, and with what only that saw
 abbrev pub joined : View → View → View
-joined v w = record { keeps = v.keeps; parts = v.parts + w.parts; posted = plus v.posted w.posted; booked = v.booked }
+joined v w = record { keeps = v.keeps; parts = v.parts + w.parts; posted = plus v.posted w.posted; booked = v.booked; rows = v.rows; seen = w.seen; seen_rows = w.seen_rows }
 
 -- a token with a number of further parts, and the sum of what was posted
 abbrev pub gathered : ℕ → Totals → View → View
-gathered parts posted v = record { keeps = v.keeps; parts = v.parts + parts; posted = posted; booked = v.booked }
+gathered parts posted v = record { keeps = v.keeps; parts = v.parts + parts; posted = posted; booked = v.booked; rows = v.rows; seen = nothing; seen_rows = no_rows }
 
 -- f of each, added up
 abbrev pub total : (View → ℕ) → List View → ℕ
@@ -53,23 +63,28 @@ total f (v ∷ vs) = f v + total f vs
 abbrev pub posted_at : List View → ℕ → ℕ
 posted_at views i = total (λ (u : View). count_at i u.posted) views
 
--- one token keeps the sums; a token posted at most 2^109 for each of its parts
-abbrev pub Fits : ℕ → (ℕ → ℕ) → ℕ → View → Type 0
-Fits seat sum by v =
-    (v.keeps ≡ true → (by ≡ seat) × ((i : ℕ) → count_at i v.booked ≡ sum i))
+-- one token keeps the sums and the rows; a token posted at most 2^109 for each of its parts, and saw no more than the sums and the rows
+abbrev pub Fits : ℕ → (ℕ → ℕ) → Table → ℕ → View → Type 0
+Fits seat sum rows by v =
+    (v.keeps ≡ true → (by ≡ seat) × ((i : ℕ) → count_at i v.booked ≡ sum i) × (v.rows ≡ rows))
     × ((i : ℕ) → count_at i v.posted ≤ v.parts * 2 ^ 109)
     × (length v.posted.dropped ≡ causes)
+    × ((i : ℕ) → count_at i v.seen ≤ sum i)
+    × AreUpTo v.seen_rows rows
 
 pub record Balanced (words : List ℕ) (views : List View) : Type 0 where
   pub seat : ℕ
+  pub rows : Table
   pub whole : total (λ (u : View). u.parts) views ≡ 65537
-  pub fits : (by : ℕ) (v : View) → get_elem? views by ≡ some v → Fits seat (posted_at views) by v
+  pub fits : (by : ℕ) (v : View) → get_elem? views by ≡ some v → Fits seat (posted_at views) rows by v
 
--- what the book's token tells: it knows no more as posted than was booked, and with every part just that; and what was booked
--- is at most what all parts may have posted
+-- what the book's token tells: it knows no more as posted than was booked, and with every part just that; what was booked
+-- is at most what all parts may have posted; and what it knows as seen is at most what it knows as booked, and in its rows
 abbrev pub Audited : View → View → Type 0
 Audited v w =
     (w ≡ v)
     × ((i : ℕ) → count_at i v.booked ≤ 65537 * 2 ^ 109)
     × (v.parts ≡ 65537 → (i : ℕ) → count_at i v.posted ≡ count_at i v.booked)
     × (length v.posted.dropped ≡ causes)
+    × ((i : ℕ) → count_at i v.seen ≤ count_at i v.booked)
+    × AreUpTo v.seen_rows v.rows

@@ -1,11 +1,12 @@
 //! The book.
 
-ghost use Rattle.std.specs.Prelude.{◌≡◌, ◌≤◌, All, IfOk, length};
+ghost use Rattle.std.specs.Prelude.{◌≡◌, ◌≤◌, ℕ, All, IfOk, length};
 ghost use Rattle.crossbeam_utils.specs.Seq.{cell_view};
-ghost use Rattle.packet_ledger.specs.Amounts.{nothing, plus};
-ghost use Rattle.packet_ledger.specs.Tokens.{keeper};
+ghost use Rattle.packet_ledger.specs.Amounts.{count_at, nothing, plus};
+ghost use Rattle.packet_ledger.specs.Shown.{AddUp, HasGrown};
 ghost use Rattle.packet_ledger.specs.Share.{IsPosted, counts_of, new_share, posted_by};
 
+use crate::look::Look;
 use crate::router::Router;
 use crate::share::Share;
 use crate::sums::{Sums, split_shares};
@@ -26,13 +27,14 @@ impl Model for Blank {
     ghost use Rattle.std.specs.Prelude.{◌≡◌};
     ghost use Rattle.crossbeam_utils.specs.Seq.{cell_view};
     ghost use Rattle.packet_ledger.specs.Amounts.{nothing};
+    ghost use Rattle.packet_ledger.specs.Shown.{no_rows};
     ghost use Rattle.packet_ledger.specs.Tokens.{Unnamed, keeper};
 
     ghost Value = { Unnamed };
 
     ghost view = { λ b. record { table = b.cell.table.shared.table_id; booked = (cell_view b.token).booked } };
 
-    ghost invariant = { λ b. (b.token.table_id ≡ b.cell.table.shared.table_id) × (cell_view b.token ≡ keeper 65537 nothing nothing) };
+    ghost invariant = { λ b. (b.token.table_id ≡ b.cell.table.shared.table_id) × (cell_view b.token ≡ keeper 65537 nothing nothing no_rows) };
 }
 
 impl Blank {
@@ -73,8 +75,10 @@ impl<N: Router> Book<N> {
         ensures shares { IfOk result (λ r. All (λ s. s ≡ new_share) r.1.items) }
     {
         let Blank { cell, mut token } = blank;
+        let inputs = vec![in alloc; 0; workers]?;
+        let outputs = vec![in alloc; 0; workers]?;
         let shares = split_shares(alloc, &cell, &mut token, workers)?;
-        let sums = Mutex::new(Sums::new(token));
+        let sums = Mutex::new(Sums::new(&cell, token, inputs, outputs));
         Ok((Book { cell, sums }, shares))
     }
 
@@ -86,6 +90,21 @@ impl<N: Router> Book<N> {
         self.sums.lock(rt).post(rt, &self.cell, share);
     }
 
+    /// A first look. At `Err` no memory was left.
+    pub fn watch<R: Wait>(&self, rt: &R, alloc: Global) -> Result<Look<N>, AllocError>
+        ensures { IfOk result (λ look. AddUp look) }
+    {
+        self.sums.lock(rt).watch(alloc, &self.cell)
+    }
+
+    /// Looks again: no count is less than it was. It takes no memory, and changes nothing in the book.
+    pub fn look<R: Wait>(&self, rt: &R, look: &mut Look<N>)
+        ensures grown { HasGrown look.old look.new }
+        ensures rows { AddUp look.new }
+    {
+        self.sums.lock(rt).look(rt, &self.cell, look);
+    }
+
     /// The totals of all that was ever counted on the shares, which are all of this book: what they
     /// posted, and what they still hold.
     pub fn close<R: Wait>(&self, rt: &R, shares: Vec<Share<N>>) -> Totals
@@ -93,5 +112,16 @@ impl<N: Router> Book<N> {
         ensures { result ≡ plus (posted_by shares.items) (counts_of shares.items) }
     {
         self.sums.lock(rt).close(rt, &self.cell, shares)
+    }
+
+    /// The same after a last look, which shows just what the shares posted. No look showed more than the totals.
+    pub fn close_after<R: Wait>(&self, rt: &R, shares: Vec<Share<N>>, look: &mut Look<N>) -> Totals
+        requires { length shares.items ≡ N.workers }
+        ensures totals { result ≡ plus (posted_by shares.items) (counts_of shares.items) }
+        ensures last { look.new.totals ≡ posted_by shares.items }
+        ensures grown { HasGrown look.old look.new }
+        ensures within { (i : ℕ) → count_at i look.old.totals ≤ count_at i result }
+    {
+        self.sums.lock(rt).close_after(rt, &self.cell, shares, look)
     }
 }

@@ -25,12 +25,14 @@ pub struct Share<N: Router> {
     // Each count can be raised by one at least this many times, so that most looks for room need not
     // read each count.
     pub(crate) left: u64,
+    // Where its row stands in the book.
+    pub(crate) place: usize,
     pub(crate) token: Token,
     pub(crate) of: PhantomData<N>,
 }
 
 impl<N: Router> Model for Share<N> {
-    ghost use Rattle.std.specs.Prelude.{◌≡◌, ◌^◌, []};
+    ghost use Rattle.std.specs.Prelude.{◌≡◌, ◌^◌, ◌<◌, []};
     ghost use Rattle.crossbeam_utils.specs.Seq.{cell_view};
     ghost use Rattle.packet_ledger.specs.Amounts.{AtMost};
     ghost use Rattle.packet_ledger.specs.Tokens.{holder};
@@ -40,7 +42,7 @@ impl<N: Router> Model for Share<N> {
 
     ghost view = { λ s. record { counts = s.counts; posted = s.posted } };
 
-    ghost invariant = { λ s. (s.token.table_id ≡ N.table) × (s.token.me.1 ≡ []) × (cell_view s.token ≡ holder 1 s.posted) × AtMost (2 ^ 100) s.counts × AtMost (2 ^ 109) s.posted × Leaves s.left s.counts };
+    ghost invariant = { λ s. (s.token.table_id ≡ N.table) × (s.token.me.1 ≡ []) × (cell_view s.token ≡ holder 1 s.posted) × AtMost (2 ^ 100) s.counts × AtMost (2 ^ 109) s.posted × Leaves s.left s.counts × (s.place < N.workers) };
 }
 
 // What is left after a count was raised by `n`.

@@ -4,7 +4,8 @@ ghost use Rattle.std.specs.Prelude.{◌≡◌, ℕ, ◌+◌, ◌-◌, ◌*◌, �
 ghost use Rattle.crossbeam_utils.specs.Seq.{cell_view};
 ghost use Rattle.process_packet.specs.Cause.{causes};
 ghost use Rattle.packet_ledger.specs.Amounts.{count_at};
-ghost use Rattle.packet_ledger.specs.Tokens.{Audited, given, joined, kept};
+ghost use Rattle.packet_ledger.specs.Shown.{AreUpTo, rows_of};
+ghost use Rattle.packet_ledger.specs.Tokens.{Audited, given, joined, kept, looker, unlooked};
 
 use atomic_table::{Join, Split};
 use crossbeam_utils::atomic::seq_cell::{Pass, RuledSeqCell};
@@ -13,25 +14,38 @@ use process_packet::Totals;
 use std::marker::{Brand, PhantomData};
 use std::sync::Wait;
 
-/// What a token knows: a share's what it posted, the book's what the sums are. The parts are those of
-/// the right to know that no share is missing. No value of it is made.
+/// The most shares of a book.
+pub const MOST_SHARES: usize = 65536;
+
+/// What each share posted as received, and as sent or answered, in the order of the shares. No value of it is made.
+pub struct Table {
+    pub inputs: [u128; MOST_SHARES],
+    pub outputs: [u128; MOST_SHARES],
+}
+
+/// What a token knows: a share's what it posted, the book's what the sums and the rows are, a look's what it
+/// saw of them. The parts are those of the right to know that no share is missing. No value of it is made.
 pub struct View {
     pub keeps: bool,
     pub parts: usize,
     pub posted: Totals,
     pub booked: Totals,
+    pub rows: Table,
+    pub seen: Totals,
+    pub seen_rows: Table,
 }
 
-/// The sums of the book's token are those of what all tokens posted.
+/// The sums of the book's token are those of what all tokens posted, and no look saw more than them and the rows.
 pub struct Balance;
 
 impl Protocol<[u64; 1], View> for Balance {
     ghost use Rattle.packet_ledger.specs.Tokens.{Balanced, keeper};
     ghost use Rattle.packet_ledger.specs.Amounts.{nothing};
+    ghost use Rattle.packet_ledger.specs.Shown.{no_rows};
 
     ghost holds = { Balanced };
 
-    ghost first = { keeper 65537 nothing nothing };
+    ghost first = { keeper 65537 nothing nothing no_rows };
 }
 
 /// The private cell that holds the rule of a book's tokens.
@@ -40,25 +54,32 @@ pub type Cell = RuledSeqCell<[u64; 1], View, Balance, 1>;
 /// The token of a share or of the book, with what it knows.
 pub type Token = Pass<[u64; 1], View>;
 
-/// Amounts and parts that a call picks.
+/// Amounts, parts and rows that a call picks.
 pub trait Amount {
     ghost use Rattle.std.specs.Prelude.{ℕ};
     ghost use Rattle.process_packet.specs.declared.totals.Totals.{Totals};
+    ghost use Rattle.packet_ledger.specs.declared.tokens.Table.{Table as Rows};
 
     ghost counts: { Totals };
 
     ghost parts: { ℕ };
+
+    ghost rows: { Rows };
 }
 
 impl Amount for Brand {
     ghost use Rattle.packet_ledger.specs.Amounts.{nothing};
+    ghost use Rattle.packet_ledger.specs.Shown.{no_rows};
 
     ghost counts = { nothing };
 
     ghost parts = { 0 };
+
+    ghost rows = { no_rows };
 }
 
-/// The book's token gives away some parts, with all that it knows as posted, and more counts.
+/// The book's token gives away some parts, with all that it knows as posted, and more counts; its rows are these
+/// from then on.
 pub struct Gives<K> {
     of: PhantomData<K>,
 }
@@ -66,9 +87,20 @@ pub struct Gives<K> {
 impl<K: Amount> Split<View> for Gives<K> {
     ghost use Rattle.packet_ledger.specs.Tokens.{given, kept};
 
-    ghost left = { λ v. kept K.parts K.counts v };
+    ghost left = { λ v. kept K.parts K.counts K.rows v };
 
     ghost right = { λ v. given K.parts K.counts v };
+}
+
+/// A look's token is cut off that of the book: it saw all that the book's knows.
+pub struct Shows;
+
+impl Split<View> for Shows {
+    ghost use Rattle.packet_ledger.specs.Tokens.{looker, unlooked};
+
+    ghost left = { λ v. unlooked v };
+
+    ghost right = { λ v. looker v.booked v.rows };
 }
 
 /// The book's token takes in another.
@@ -82,7 +114,8 @@ impl Join<View> for Takes {
     ghost spent = { nobody };
 }
 
-/// What the book's token tells: with all parts it knows just what was booked, and that has its bound.
+/// What the book's token tells: with all parts it knows just what was booked, and that has its bound; and what it
+/// took in from a look is at most what it knows.
 pub struct Audits;
 
 impl Outcome<[u64; 1], View> for Audits {
@@ -91,32 +124,61 @@ impl Outcome<[u64; 1], View> for Audits {
     ghost then = { λ v before after w. Audited v w };
 }
 
-/// Gives away some parts of the book's token, with what it knows as posted and these counts.
-pub fn give(cell: &Cell, keeper: &mut Token, parts: usize, counts: &Totals) -> Token
+/// Gives away some parts of the book's token, with what it knows as posted and these counts. Its rows are these from
+/// then on, none of them below what it was.
+pub fn give(
+    cell: &Cell,
+    keeper: &mut Token,
+    parts: usize,
+    counts: &Totals,
+    inputs: &[u128],
+    outputs: &[u128],
+) -> Token
     requires own { keeper.old.table_id ≡ cell.now.table.shared.table_id }
     requires keeps { (cell_view keeper.old).keeps ≡ true }
     requires parts { parts ≤ (cell_view keeper.old).parts }
     requires long { length counts.now.dropped ≡ causes }
     requires few { (i : ℕ) → count_at i (cell_view keeper.old).posted + count_at i counts.now ≤ parts * 2 ^ 109 }
-    ensures kept { (keeper.new.table_id ≡ keeper.old.table_id) × (cell_view keeper.new ≡ kept parts counts.now (cell_view keeper.old)) }
+    requires rows { AreUpTo (cell_view keeper.old).rows (rows_of inputs.now outputs.now) }
+    ensures kept { (keeper.new.table_id ≡ keeper.old.table_id) × (cell_view keeper.new ≡ kept parts counts.now (rows_of inputs.now outputs.now) (cell_view keeper.old)) }
     ensures given { (result.table_id ≡ keeper.old.table_id) × (result.me.1 ≡ []) × (cell_view result ≡ given parts counts.now (cell_view keeper.old)) }
 {
-    give_as::<Brand>(cell, keeper, parts, counts)
+    give_as::<Brand>(cell, keeper, parts, counts, inputs, outputs)
 }
 
-fn give_as<K: Amount>(cell: &Cell, keeper: &mut Token, parts: usize, counts: &Totals) -> Token
-    requires pick { (K.parts ≡ parts) × (K.counts ≡ counts.now) }
+fn give_as<K: Amount>(
+    cell: &Cell,
+    keeper: &mut Token,
+    parts: usize,
+    counts: &Totals,
+    inputs: &[u128],
+    outputs: &[u128],
+) -> Token
+    requires pick { (K.parts ≡ parts) × (K.counts ≡ counts.now) × (K.rows ≡ rows_of inputs.now outputs.now) }
     requires own { keeper.old.table_id ≡ cell.now.table.shared.table_id }
     requires keeps { (cell_view keeper.old).keeps ≡ true }
     requires parts { parts ≤ (cell_view keeper.old).parts }
     requires long { length counts.now.dropped ≡ causes }
     requires few { (i : ℕ) → count_at i (cell_view keeper.old).posted + count_at i counts.now ≤ parts * 2 ^ 109 }
-    ensures kept { (keeper.new.table_id ≡ keeper.old.table_id) × (cell_view keeper.new ≡ kept parts counts.now (cell_view keeper.old)) }
+    requires rows { AreUpTo (cell_view keeper.old).rows (rows_of inputs.now outputs.now) }
+    ensures kept { (keeper.new.table_id ≡ keeper.old.table_id) × (cell_view keeper.new ≡ kept parts counts.now (rows_of inputs.now outputs.now) (cell_view keeper.old)) }
     ensures given { (result.table_id ≡ keeper.old.table_id) × (result.me.1 ≡ []) × (cell_view result ≡ given parts counts.now (cell_view keeper.old)) }
 {
     let _ = parts;
     let _ = counts;
+    let _ = inputs;
+    let _ = outputs;
     cell.split_pass::<Gives<K>>(keeper)
+}
+
+/// A look's token, which saw all that the book's knows. The book's forgets what another look saw.
+pub fn show(cell: &Cell, keeper: &mut Token) -> Token
+    requires own { keeper.old.table_id ≡ cell.now.table.shared.table_id }
+    requires keeps { (cell_view keeper.old).keeps ≡ true }
+    ensures kept { (keeper.new.table_id ≡ keeper.old.table_id) × (cell_view keeper.new ≡ unlooked (cell_view keeper.old)) }
+    ensures shown { (result.table_id ≡ keeper.old.table_id) × (result.me.1 ≡ []) × (cell_view result ≡ looker (cell_view keeper.old).booked (cell_view keeper.old).rows) }
+{
+    cell.split_pass::<Shows>(keeper)
 }
 
 /// Takes another token in.

@@ -1,8 +1,10 @@
-use Rattle.std.proofs.Common.{◌≡◌, length, rules, ◌∙◌}
+use Rattle.std.proofs.Common.{◌≡◌, length, rules, sym, ap, ◌∙◌}
 use Rattle.crossbeam_utils.specs.Seq.{cell_view}
 use Rattle.process_packet.specs.Cause.{causes}
 use Rattle.process_packet.specs.declared.totals.Totals.{Totals}
 use Rattle.packet_ledger.specs.Amounts.{plus}
+use Rattle.packet_ledger.specs.Shown.{Shown, rows_of}
+use Rattle.packet_ledger.specs.Tokens.{kept}
 use Rattle.packet_ledger.proofs.Closing.{closes, gives_all}
 use Rattle.packet_ledger.proofs.sums.Sums.close.Goals as goal
 
@@ -10,19 +12,35 @@ pub invariant_of-self : goal.invariant_of-self
 invariant_of-self g c =
     let totals : Totals = c.self.inside.totals in
     let long : length totals.dropped ≡ causes = search rules in
-    let end = closes g.N.Router.workers (length c.args.shares.items) c.len-parts.result totals c.none.result c.args.shares.items _ _ _ _ c.self.invariant.3 c.requires.shares (search rules) long c.none.ensures c.self.invariant.1 c.take_all-counts.ensures.token c.audit.ensures.known c.give.ensures.kept.1 in (
+    let rows = rows_of c.self.inside.inputs.items c.self.inside.outputs.items in
+    let given = c.give.ensures.kept.1 ∙ (λ i. kept c.len-parts.result c.none.result (rows_of (c.as_slice.ensures.value i) (c.as_slice-2.ensures.value i)) (cell_view c.audit.new.keeper)) in
+    let end = closes g.N.Router.workers (length c.args.shares.items) c.len-parts.result totals c.none.result rows c.args.shares.items _ _ _ _ c.self.invariant.3 c.requires.shares (search rules) long c.none.ensures c.self.invariant.1 c.take_all-counts.ensures.token c.audit.ensures.known given in (
       c.give.ensures.kept.0 ∙ c.audit.ensures.own ∙ c.take_all-counts.ensures.own,
       end.0,
       c.self.invariant.2,
       c.self.invariant.3,
+      c.self.invariant.4,
+      c.self.invariant.5,
+      c.self.invariant.6,
     )
 
 pub returns-clause-totals : goal.returns-clause-totals
 returns-clause-totals g c =
     let totals : Totals = c.self.inside.totals in
     let long : length totals.dropped ≡ causes = search rules in
-    let end = closes g.N.Router.workers (length c.args.shares.items) c.len-parts.result totals c.none.result c.args.shares.items _ _ _ _ c.self.invariant.3 c.requires.shares (search rules) long c.none.ensures c.self.invariant.1 c.take_all-counts.ensures.token c.audit.ensures.known c.give.ensures.kept.1 in
+    let rows = rows_of c.self.inside.inputs.items c.self.inside.outputs.items in
+    let given = c.give.ensures.kept.1 ∙ (λ i. kept c.len-parts.result c.none.result (rows_of (c.as_slice.ensures.value i) (c.as_slice-2.ensures.value i)) (cell_view c.audit.new.keeper)) in
+    let end = closes g.N.Router.workers (length c.args.shares.items) c.len-parts.result totals c.none.result rows c.args.shares.items _ _ _ _ c.self.invariant.3 c.requires.shares (search rules) long c.none.ensures c.self.invariant.1 c.take_all-counts.ensures.token c.audit.ensures.known given in
     c.added.ensures ∙ (λ i. plus (end.1 i) (c.take_all-counts.ensures.counts i))
+
+pub returns-clause-posted : goal.returns-clause-posted
+returns-clause-posted g c =
+    let totals : Totals = c.self.inside.totals in
+    let long : length totals.dropped ≡ causes = search rules in
+    let rows = rows_of c.self.inside.inputs.items c.self.inside.outputs.items in
+    let given = c.give.ensures.kept.1 ∙ (λ i. kept c.len-parts.result c.none.result (rows_of (c.as_slice.ensures.value i) (c.as_slice-2.ensures.value i)) (cell_view c.audit.new.keeper)) in
+    let end = closes g.N.Router.workers (length c.args.shares.items) c.len-parts.result totals c.none.result rows c.args.shares.items _ _ _ _ c.self.invariant.3 c.requires.shares (search rules) long c.none.ensures c.self.invariant.1 c.take_all-counts.ensures.token c.audit.ensures.known given in
+    ap (λ (s : Shown). s.totals) (sym c.self.view_is) ∙ end.1
 
 pub give-requires-clause-few : goal.give-requires-clause-few
 give-requires-clause-few g c =

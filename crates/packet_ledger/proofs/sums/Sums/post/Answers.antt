@@ -1,11 +1,13 @@
-use Rattle.std.proofs.Common.{◌≡◌, ◌-◌, length, rules, sym, ap, ◌∙◌, subst, arith}
+use Rattle.std.proofs.Common.{◌≡◌, ◌-◌, ◌<◌, length, rules, sym, ap, ◌∙◌, subst, arith}
 use Rattle.crossbeam_utils.specs.Seq.{cell_view}
 use Rattle.process_packet.specs.Cause.{causes}
 use Rattle.process_packet.specs.declared.totals.Totals.{Totals}
 use Rattle.packet_ledger.specs.Amounts.{AtMost, count_at, nothing, plus}
-use Rattle.packet_ledger.specs.Tokens.{holder, keeper}
+use Rattle.packet_ledger.specs.Shown.{rows_of}
+use Rattle.packet_ledger.specs.Tokens.{holder, keeper, kept}
 use Rattle.packet_ledger.proofs.Counting.{nothing_at}
 use Rattle.packet_ledger.proofs.Moves.{booked_most, gives_one, joins, posts}
+use Rattle.packet_ledger.proofs.Posting.{adds_up, books, row_rooms}
 use Rattle.packet_ledger.proofs.sums.Sums.post.Goals as goal
 
 pub returns-then-not-at_most-clause-room : goal.returns-then-not-at_most-clause-room
@@ -13,15 +15,31 @@ returns-then-not-at_most-clause-room g c =
     let sums : c.added-posted.result ≡ plus c.args.share.now.posted c.args.share.now.counts = c.added-posted.ensures ∙ (λ i. plus (c.share.view_is i).posted (c.share.view_is i).counts) in
     λ room. c.if-not-at_most.ensures (subst (AtMost _) (sym sums) room)
 
+pub overflow_add-forwarded : goal.overflow_add-forwarded
+overflow_add-forwarded g c = let a = c.share.invariant.3 1 in let b = c.share.invariant.3 2 in record { fits = omega arith }
+
 pub give-requires-clause-few : goal.give-requires-clause-few
 give-requires-clause-few g c =
     let totals : Totals = c.self.inside.totals in
     let posted : Totals = c.share.inside.posted in
     let longT : length totals.dropped ≡ causes = search rules in
     let longP : length posted.dropped ≡ causes = search rules in
-    let all = joins g.N.Router.workers totals posted c.none.result _ _ _ (cell_view c.replace-token.result) c.self.invariant.3 longT longP c.none.ensures c.self.invariant.1 c.give-spare.ensures.kept.1
+    let rows = rows_of c.self.inside.inputs.items c.self.inside.outputs.items in
+    let spared = c.give-spare.ensures.kept.1 ∙ (λ i. kept 0 c.none.result (rows_of (c.as_slice.ensures.value i) (c.as_slice-2.ensures.value i)) (cell_view c.self.inside.token)) in
+    let all = joins g.N.Router.workers totals posted c.none.result rows _ _ _ (cell_view c.replace-token.result) c.self.invariant.3 longT longP c.none.ensures c.self.invariant.1 spared
     (ap cell_view c.replace-token.ensures.value ∙ c.share.invariant.2) c.take_in.ensures.1 in
-    gives_one _ totals posted c.share.inside.counts c.added-posted.result _ (c.audit.ensures.known.0 ∙ all) c.added-posted.ensures c.if-not-at_most.ensures
+    gives_one _ totals posted c.share.inside.counts c.added-posted.result rows _ (c.audit.ensures.known.0 ∙ all) c.added-posted.ensures c.if-not-at_most.ensures
+
+pub raise-requires-2-clause-room : goal.raise-requires-2-clause-room
+raise-requires-2-clause-room g c =
+    (row_rooms c.self.inside.totals c.share.inside.counts c.self.inside.inputs.items c.self.inside.outputs.items c.self.invariant.2 c.share.invariant.3 c.self.invariant.4).2
+
+pub returns-clause-sums : goal.returns-clause-sums
+returns-clause-sums g c =
+    let place : c.share.inside.place < length c.self.inside.inputs.items = let within = c.share.invariant.6 in let each = c.self.invariant.5 in omega arith in
+    books (record { totals = c.self.inside.totals; inputs = c.self.inside.inputs.items; outputs = c.self.inside.outputs.items }) c.args.self.now
+    (record { counts = c.share.inside.counts; posted = c.share.inside.posted }) c.args.share.now
+    c.added-sums.result c.raise.new.row.items c.raise-2.new.row.items c.share.inside.place c.self.view_is c.share.view_is place c.added-sums.ensures c.raise.ensures.row c.raise-2.ensures.row
 
 pub invariant_of-self : goal.invariant_of-self
 invariant_of-self g c =
@@ -29,13 +47,20 @@ invariant_of-self g c =
     let posted : Totals = c.share.inside.posted in
     let longT : length totals.dropped ≡ causes = search rules in
     let longP : length posted.dropped ≡ causes = search rules in
-    let all = joins g.N.Router.workers totals posted c.none.result _ _ _ (cell_view c.replace-token.result) c.self.invariant.3 longT longP c.none.ensures c.self.invariant.1 c.give-spare.ensures.kept.1
+    let rows = rows_of c.self.inside.inputs.items c.self.inside.outputs.items in
+    let spared = c.give-spare.ensures.kept.1 ∙ (λ i. kept 0 c.none.result (rows_of (c.as_slice.ensures.value i) (c.as_slice-2.ensures.value i)) (cell_view c.self.inside.token)) in
+    let all = joins g.N.Router.workers totals posted c.none.result rows _ _ _ (cell_view c.replace-token.result) c.self.invariant.3 longT longP c.none.ensures c.self.invariant.1 spared
     (ap cell_view c.replace-token.ensures.value ∙ c.share.invariant.2) c.take_in.ensures.1 in
-    let moved = posts g.N.Router.workers totals posted c.share.inside.counts _ _ _ c.self.invariant.3 (c.audit.ensures.known.0 ∙ all) c.give.ensures.kept.1 c.give.ensures.given.2 in (
+    let next = rows_of c.raise.new.row.items c.raise-2.new.row.items in
+    let given = c.give.ensures.kept.1 ∙ (λ i. kept 1 c.share.inside.counts (rows_of (c.as_slice-3.ensures.value i) (c.as_slice-4.ensures.value i)) (cell_view c.audit.new.keeper)) in
+    let moved = posts g.N.Router.workers totals posted c.share.inside.counts rows next _ _ _ c.self.invariant.3 (c.audit.ensures.known.0 ∙ all) given c.give.ensures.given.2 in (
       c.give.ensures.kept.0 ∙ c.audit.ensures.own ∙ c.take_in.ensures.0 ∙ c.give-spare.ensures.kept.0 ∙ c.self.invariant.0,
-      moved.0 ∙ ap (keeper (65537 - g.N.Router.workers) nothing) (sym c.added-sums.ensures),
-      booked_most _ totals posted c.share.inside.counts c.added-sums.result _ all c.audit.ensures.known.1 c.share.invariant.3 c.added-sums.ensures,
+      moved.0 ∙ (λ i. keeper (65537 - g.N.Router.workers) nothing (sym c.added-sums.ensures i) next),
+      booked_most _ totals posted c.share.inside.counts c.added-sums.result rows _ all c.audit.ensures.known.1 c.share.invariant.3 c.added-sums.ensures,
       c.self.invariant.3,
+      adds_up totals c.share.inside.counts c.added-sums.result c.self.inside.inputs.items c.self.inside.outputs.items c.raise.new.row.items c.raise-2.new.row.items c.self.invariant.4 c.added-sums.ensures c.raise.ensures.sum c.raise-2.ensures.sum,
+      c.raise.ensures.same ∙ c.self.invariant.5,
+      c.raise-2.ensures.same ∙ c.self.invariant.6,
     )
 
 pub invariant_of-share : goal.invariant_of-share
@@ -44,13 +69,16 @@ invariant_of-share g c =
     let posted : Totals = c.share.inside.posted in
     let longT : length totals.dropped ≡ causes = search rules in
     let longP : length posted.dropped ≡ causes = search rules in
-    let all = joins g.N.Router.workers totals posted c.none.result _ _ _ (cell_view c.replace-token.result) c.self.invariant.3 longT longP c.none.ensures c.self.invariant.1 c.give-spare.ensures.kept.1
+    let rows = rows_of c.self.inside.inputs.items c.self.inside.outputs.items in
+    let spared = c.give-spare.ensures.kept.1 ∙ (λ i. kept 0 c.none.result (rows_of (c.as_slice.ensures.value i) (c.as_slice-2.ensures.value i)) (cell_view c.self.inside.token)) in
+    let all = joins g.N.Router.workers totals posted c.none.result rows _ _ _ (cell_view c.replace-token.result) c.self.invariant.3 longT longP c.none.ensures c.self.invariant.1 spared
     (ap cell_view c.replace-token.ensures.value ∙ c.share.invariant.2) c.take_in.ensures.1 in
-    let moved = posts g.N.Router.workers totals posted c.share.inside.counts _ _ _ c.self.invariant.3 (c.audit.ensures.known.0 ∙ all) c.give.ensures.kept.1 c.give.ensures.given.2 in (
+    let moved = posts g.N.Router.workers totals posted c.share.inside.counts rows _ _ _ _ c.self.invariant.3 (c.audit.ensures.known.0 ∙ all) c.give.ensures.kept.1 c.give.ensures.given.2 in (
       c.give.ensures.given.0 ∙ c.audit.ensures.own ∙ c.take_in.ensures.0 ∙ c.give-spare.ensures.kept.0 ∙ c.self.invariant.0,
       c.give.ensures.given.1,
       moved.1 ∙ ap (holder 1) (sym c.added-posted.ensures),
       (λ i. let z = nothing_at i in let e = ap (count_at i) c.none-share-inside.ensures in omega arith),
       c.if-not-at_most.ensures,
       (λ i. let z = nothing_at i in let e = ap (count_at i) c.none-share-inside.ensures in omega arith),
+      c.share.invariant.6,
     )
