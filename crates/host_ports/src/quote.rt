@@ -44,7 +44,9 @@ pub(crate) fn quoted_port(quote: &[u8]) -> Option<u16>
     if quote.len() < 12 {
         return None;
     }
-    let ends = check_header_as(quote[8], quote).ok()?;
+    let Ok(ends) = check_header_as(quote[8], quote) else {
+        return None;
+    };
     let payload = &quote[ends.header..];
     let place = upper_place(next_header(quote), payload)?;
     source_port(place.protocol, &payload[place.at..])
