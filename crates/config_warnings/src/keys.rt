@@ -1,6 +1,6 @@
 //! Keys that nobody reads.
 
-ghost use Rattle.std.specs.Prelude.{◌≡◌};
+ghost use Rattle.std.specs.Prelude.{◌≡◌, ◌&&◌};
 ghost use Rattle.config_warnings.specs.Keys.{is_of_link, is_of_service, is_of_sibling, is_of_top, is_read_at, is_version_2, reason_at};
 
 use std::alloc::{AllocError, Global};
@@ -101,6 +101,13 @@ fn is_version_2(key: &str) -> bool
     }
 }
 
+/// Whether it is a key that this version of the format doesn't have yet, the first one or the second.
+fn is_too_early(is_first: bool, key: &str) -> bool
+    ensures { result ≡ (is_first && is_version_2 key.now) }
+{
+    is_version_2(key) && is_first
+}
+
 /// Why a key isn't read in the table at a place, if it isn't.
 fn reason_at(is_first: bool, place: Place, key: &str) -> Option<Reason>
     ensures { result ≡ reason_at is_first place key.now }
@@ -112,7 +119,7 @@ fn reason_at(is_first: bool, place: Place, key: &str) -> Option<Reason>
             Reason::Unknown
         });
     }
-    if is_first && is_version_2(key) {
+    if is_too_early(is_first, key) {
         Some(Reason::TooEarly)
     } else {
         None
