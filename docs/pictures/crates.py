@@ -25,7 +25,7 @@ LAYERS = [
     ("workers", "#f8dcd3", "stage_parts receiver_stage forwarder_stage router_stages"),
     ("threads, and the run", "#f8dcd3", "pipe_ends router_pipes worker_threads wired_workers run_report router_run"),
     ("sockets", "#f8dcd3", "udp_devices"),
-    ("text and commands", "#e6def0", "text_values router_config config_warnings net_check router_lines router_engine run_engine udp_router command_words router_faults check_command router_program"),
+    ("text and commands", "#e6def0", "text_values router_config config_warnings net_check cli_io cli_route cli_replay cli_run udp_router command_words router_faults check_command router_program"),
 ]
 LEFT_OUT = {"path_trial", "path_probe", "try_net", "key_derivation"}
 

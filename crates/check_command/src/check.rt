@@ -2,14 +2,14 @@
 
 ghost use Rattle.std.specs.Prelude.{◌≡◌, ◌&&◌, ℕ, None, Some, Ok, Err, true, false};
 ghost use Rattle.router_faults.specs.declared.fault.Fault.TheVariants as fault;
-ghost use Rattle.run_engine.specs.declared.fault.RunFault.TheVariants.{Socket};
+ghost use Rattle.cli_run.specs.declared.fault.RunFault.TheVariants.{Socket};
 
 use crate::sockets::open_each;
 use crate::words::tell_warnings;
+use cli_run::RunFault;
 use process_packet::Config;
 use router_config::{ConfigFault, fault_words, read_config};
 use router_faults::Fault;
-use run_engine::RunFault;
 use std::alloc::Global;
 use std::fs;
 use std::net::Net;

@@ -1,9 +1,10 @@
 //! The engine of `replay` over readers and writers in memory, some of which fail, and without memory. `tests/lines`
 //! has worked schedules, each kind of line, and what is refused.
 use crate::route::FailsAt;
+use cli_io::LinesFault;
+use cli_replay::replay_lines;
 use process_packet::Config;
 use router_config::{ConfigFault, read_config};
-use router_engine::{LinesFault, replay_lines};
 use sample_packets::CONFIGURATION;
 use std::io;
 use std::process::Abort;

@@ -1,9 +1,9 @@
 //! The engine of `route` over readers and writers that fail, and without memory. `tests/lines` has worked lines.
 use crate::calls::count_call;
+use cli_io::{ArrivalContext, LinesFault, usual_source};
+use cli_route::route_lines;
 use process_packet::{Config, Ip, Underlay};
 use router_config::{ConfigFault, read_config};
-use router_engine::{LinesFault, route_lines};
-use router_lines::{ArrivalContext, usual_source};
 use sample_packets::{CONFIGURATION, IN_TIME};
 use std::alloc::Global;
 use std::io::{self, Read, Write};

@@ -1,10 +1,9 @@
 //! The engine of `run` over readers and writers in memory, and over a router that is made for it.
 
 use crate::calls::count_call;
+use cli_io::LinesFault;
+use cli_run::{Closing, Control, Figures, run_lines};
 use process_packet::{CAUSES, Totals};
-use router_engine::LinesFault;
-use router_lines::Closing;
-use run_engine::{Control, Figures, run_lines};
 use std::alloc::{AllocError, Global};
 use std::io::{self, Read, Write};
 use std::test::*;

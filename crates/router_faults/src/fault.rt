@@ -5,10 +5,10 @@ ghost use Rattle.std.specs.IoError.{error_kind};
 ghost use Rattle.std.specs.declared.io.ErrorKind.TheVariants as kind;
 ghost use Rattle.router_faults.specs.declared.fault.Fault.TheVariants as fault;
 
+use cli_io::LinesFault;
+use cli_run::RunFault;
 use command_words::WordsFault;
 use router_config::ConfigFault;
-use router_engine::LinesFault;
-use run_engine::RunFault;
 use std::alloc::AllocFailed;
 use std::io;
 use thiserror::Error;

@@ -6,12 +6,13 @@
 ghost use Rattle.std.specs.Prelude.{◌≡◌, true, false};
 
 use check_command::check_config;
+use cli_io::{ArrivalContext, usual_source};
+use cli_replay::replay_lines;
+use cli_route::route_lines;
 use command_words::{Order, WordsFault, read_words};
 use process_packet::{Config, Underlay};
 use router_config::read_config;
-use router_engine::{replay_lines, route_lines};
 use router_faults::Fault;
-use router_lines::{ArrivalContext, usual_source};
 use std::io::BufReader;
 use std::net::Net;
 use std::process::ExitCode;

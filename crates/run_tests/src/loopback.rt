@@ -1,11 +1,11 @@
 //! One packet through the running router, on this machine's own addresses.
 
+use cli_run::RunFault;
 use cmac_core::Cmac;
 use hop_check::beacon;
 use path_fields::Hop;
 use process_packet::Config;
 use router_config::read_config;
-use run_engine::RunFault;
 use sample_packets::{FIRST, KEY, MAC_AT, PATH_AT, with_bytes};
 use std::io::{self, BufReader, Read};
 use std::net::{Net, UdpSocket};

@@ -2,10 +2,10 @@
 
 ghost use Rattle.try_net.specs.Naming.{IsNamed};
 
+use cli_run::push_run_report;
 use packet_ledger::Blank;
 use path_trial::config_at;
 use process_packet::Config;
-use router_lines::push_run_report;
 use router_rules::{Worker, interface_at, link_count};
 use router_run::{Report, Running, start};
 use stage_parts::{Gate, Router};

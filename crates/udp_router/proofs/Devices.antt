@@ -7,7 +7,7 @@ use Rattle.router_rules.specs.Links.{link_count}
 use Rattle.router_run.specs.Starting.{Begins, GivesBack}
 use Rattle.router_run.specs.declared.fault.StartFault.{StartFault}
 use Rattle.router_run.specs.declared.fault.StartFault.TheVariants as begin
-use Rattle.run_engine.specs.declared.fault.RunFault.{RunFault}
+use Rattle.cli_run.specs.declared.fault.RunFault.{RunFault}
 use Rattle.udp_devices.specs.Binding.{sink_at, source_at}
 use Rattle.udp_devices.specs.Devices.{Reading, Sending}
 use Rattle.udp_router.specs.OverUdp.{Router}

@@ -1,14 +1,14 @@
 -- From the engine's words to those of a router over its sockets.
 use Rattle.std.proofs.Common.{◌≡◌, inl, inr, ℕ, List, Option, Some, None, Result, Ok, Err, refl, sym, subst, IfSome}
 use Rattle.process_packet.specs.declared.config.Config.{Config}
-use Rattle.router_engine.specs.Lines.{lines_of}
-use Rattle.router_engine.specs.declared.fault.LinesFault.{LinesFault}
-use Rattle.router_engine.specs.declared.fault.LinesFault.TheVariants as faults
+use Rattle.cli_io.specs.Lines.{lines_of}
+use Rattle.cli_io.specs.declared.fault.LinesFault.{LinesFault}
+use Rattle.cli_io.specs.declared.fault.LinesFault.TheVariants as faults
 use Rattle.router_run.specs.declared.fault.StartFault.{StartFault}
 use Rattle.router_run.specs.declared.fault.StartFault.TheVariants as begin
-use Rattle.run_engine.specs.Run.{Ran}
-use Rattle.run_engine.specs.declared.fault.RunFault.{RunFault}
-use Rattle.run_engine.specs.declared.fault.RunFault.TheVariants as fault
+use Rattle.cli_run.specs.Run.{Ran}
+use Rattle.cli_run.specs.declared.fault.RunFault.{RunFault}
+use Rattle.cli_run.specs.declared.fault.RunFault.TheVariants as fault
 use Rattle.udp_devices.specs.declared.binding.BindFault.{BindFault}
 use Rattle.udp_devices.specs.declared.binding.BindFault.TheVariants as bind
 use Rattle.udp_devices.specs.Devices.{Reading, Sending}

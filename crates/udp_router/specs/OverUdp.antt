@@ -1,12 +1,12 @@
 -- A router that runs over its sockets, as the one who runs it sees it.
 use Rattle.std.specs.Prelude.{◌≡◌, ⊤, ℕ, List, None, Result, Ok, Err}
-use Rattle.router_lines.specs.declared.closing.Closing.{Closing}
-use Rattle.router_lines.specs.declared.closing.Closing.TheVariants as closing
+use Rattle.cli_run.specs.declared.closing.Closing.{Closing}
+use Rattle.cli_run.specs.declared.closing.Closing.TheVariants as closing
 use Rattle.router_pipes.specs.Closing.{Closing as Marking}
 use Rattle.router_run.specs.Run.{HasRun, IsSameRun, Run}
 use Rattle.router_pipes.specs.declared.closing.CloseFault.{CloseFault}
 use Rattle.router_pipes.specs.declared.closing.CloseFault.TheVariants as fault
-use Rattle.run_engine.specs.declared.control.Figures.{Figures}
+use Rattle.cli_run.specs.declared.control.Figures.{Figures}
 use Rattle.udp_devices.specs.Devices.{Reading, Sending}
 
 -- A source over a socket is seen as the address at which that was opened, and how often it failed; the gate holds nothing back.

@@ -2,15 +2,15 @@
 use Rattle.std.specs.Prelude.{◌≡◌, ◌⊎◌, ◌<◌, ℕ, ⊤, List, Option, Result, Ok, Err, map}
 use Rattle.std.specs.List.{range_with_len}
 use Rattle.process_packet.specs.declared.config.Config.{Config}
-use Rattle.router_engine.specs.declared.fault.LinesFault.{LinesFault}
-use Rattle.router_engine.specs.declared.fault.LinesFault.TheVariants as faults
+use Rattle.cli_io.specs.declared.fault.LinesFault.{LinesFault}
+use Rattle.cli_io.specs.declared.fault.LinesFault.TheVariants as faults
 use Rattle.router_rules.specs.Links.{interface_at, link_count}
 use Rattle.router_run.specs.Starting.{Begins}
 use Rattle.router_run.specs.declared.fault.StartFault.{StartFault}
 use Rattle.router_run.specs.declared.fault.StartFault.TheVariants as begin
-use Rattle.run_engine.specs.Run.{Ran}
-use Rattle.run_engine.specs.declared.fault.RunFault.{RunFault}
-use Rattle.run_engine.specs.declared.fault.RunFault.TheVariants as fault
+use Rattle.cli_run.specs.Run.{Ran}
+use Rattle.cli_run.specs.declared.fault.RunFault.{RunFault}
+use Rattle.cli_run.specs.declared.fault.RunFault.TheVariants as fault
 use Rattle.udp_devices.specs.Binding.{sink_at, source_at}
 use Rattle.udp_devices.specs.declared.binding.BindFault.{BindFault}
 use Rattle.udp_devices.specs.declared.binding.BindFault.TheVariants as bind

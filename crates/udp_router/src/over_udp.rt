@@ -3,10 +3,9 @@
 ghost use Rattle.std.specs.Prelude.{◌≡◌};
 ghost use Rattle.udp_router.specs.OverUdp.{result_of};
 
-use router_lines::Closing;
+use cli_run::{Closing, Control, Figures};
 use router_rules::Worker;
 use router_run::{CloseFault, Report, Running};
-use run_engine::{Control, Figures};
 use stage_parts::{Gate, Router};
 use std::marker::Model;
 use std::rt::Clock;

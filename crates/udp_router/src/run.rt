@@ -1,17 +1,17 @@
 //! `router run`: a router over its sockets.
 
 ghost use Rattle.std.specs.Prelude.{◌≡◌, ◌+◌, ◌*◌, IfErr, IfOk, IfSome, Some};
-ghost use Rattle.router_engine.specs.Lines.{lines_of};
+ghost use Rattle.cli_io.specs.Lines.{lines_of};
 ghost use Rattle.router_rules.specs.Links.{link_count};
 ghost use Rattle.udp_router.specs.Run.{ComesFirst, IsFault, Runs, ascending, new_sinks, new_sources};
 
 use crate::over_udp::{Open, OverUdp};
+use cli_io::LinesFault;
+use cli_run::{RunFault, run_lines};
 use packet_ledger::Blank;
 use process_packet::Config;
-use router_engine::LinesFault;
 use router_rules::{interface_at, link_count};
 use router_run::{StartFault, start};
-use run_engine::{RunFault, run_lines};
 use stage_parts::Router;
 use std::alloc::{AllocError, Global};
 use std::io::{BufRead, Write};

@@ -1,0 +1,2 @@
+pub mod GatheredLemmas
+pub mod ReplayLemmas

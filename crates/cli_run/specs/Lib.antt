@@ -1,0 +1,4 @@
+pub mod Command
+pub mod Closing
+pub mod RunReport
+pub mod Run

@@ -1,5 +1,0 @@
-pub mod Lines
-pub mod Answers
-pub mod Route
-pub mod Replay
-pub mod ReplayParts

@@ -1,4 +1,0 @@
-pub mod HexLineLemmas
-pub mod TextLemmas
-pub mod GatheredLemmas
-pub mod ReportLemmas

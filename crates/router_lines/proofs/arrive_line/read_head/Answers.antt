@@ -1,7 +1,0 @@
-use Rattle.router_lines.specs.ArriveLine.{head_of}
-use Rattle.std.proofs.Common.{rules}
-use Rattle.router_lines.proofs.arrive_line.read_head.Goals as goal
-
-pub returns-clause-value : goal.returns-clause-value
-unfolding head_of
-returns-clause-value c = search rules

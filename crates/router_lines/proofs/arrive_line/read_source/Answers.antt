@@ -1,5 +1,0 @@
-use Rattle.std.proofs.Common.{rules}
-use Rattle.router_lines.proofs.arrive_line.read_source.Goals as goal
-
-pub returns-in_default : goal.returns-in_default
-returns-in_default c = search rules

@@ -1,5 +1,0 @@
-use Rattle.std.proofs.Common.{rules}
-use Rattle.router_lines.proofs.closing.Closing.word.Goals as goal
-
-pub returns-in-Already : goal.returns-in-Already
-returns-in-Already c = search rules

@@ -1,6 +1,0 @@
-use Rattle.std.proofs.lemmas.Grind.{common_steps}
-use Rattle.std.proofs.Common.{arith}
-use Rattle.router_lines.proofs.closing.push_no_command.Goals as goal
-
-pub returns : goal.returns
-returns c = grind (arith, common_steps)

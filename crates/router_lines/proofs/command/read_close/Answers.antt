@@ -1,7 +1,0 @@
-use Rattle.router_lines.specs.Command.{close_of}
-use Rattle.std.proofs.Common.{rules}
-use Rattle.router_lines.proofs.command.read_close.Goals as goal
-
-pub returns-in_err-link : goal.returns-in_err-link
-unfolding close_of
-returns-in_err-link c = search rules

@@ -1,7 +1,0 @@
-use Rattle.router_lines.specs.Command.{order_of}
-use Rattle.std.proofs.Common.{rules}
-use Rattle.router_lines.proofs.command.read_order.Goals as goal
-
-pub returns-in_default : goal.returns-in_default
-unfolding order_of
-returns-in_default c = search rules

@@ -1,6 +1,0 @@
-use Rattle.std.proofs.Common.{◌≡◌, [], length}
-use Rattle.router_lines.specs.Gathered.{AreOf}
-use Rattle.router_lines.proofs.gathered.no_arrivals.Given as goal
-
-abbrev pub invariant-loop : goal.invariant-loop
-invariant-loop l = (length l.lists.items ≡ l.counter) × AreOf l.fn.config [] 0 l.lists.items

@@ -1,7 +1,0 @@
-use Rattle.router_lines.specs.Names.{high_link_of}
-use Rattle.std.proofs.Common.{rules}
-use Rattle.router_lines.proofs.names.read_high_link.Goals as goal
-
-pub returns-then-has_two_bands : goal.returns-then-has_two_bands
-unfolding high_link_of
-returns-then-has_two_bands c = search rules

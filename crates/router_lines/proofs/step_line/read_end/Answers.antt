@@ -1,7 +1,0 @@
-use Rattle.std.proofs.Common.{rules}
-use Rattle.router_lines.specs.StepLine.{end_of}
-use Rattle.router_lines.proofs.step_line.read_end.Goals as goal
-
-pub returns-then-feeds : goal.returns-then-feeds
-unfolding end_of
-returns-then-feeds c = search rules
