@@ -17,9 +17,9 @@ mod many;
 #[cfg(test)]
 mod memory;
 #[cfg(test)]
-mod minting;
-#[cfg(test)]
 mod no_hosts;
+#[cfg(test)]
+mod opening;
 #[cfg(test)]
 mod play;
 #[cfg(test)]
