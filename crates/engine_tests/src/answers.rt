@@ -8,7 +8,7 @@ use scmp_answer::{AnswerLen, Answered, answer, answer_into};
 use std::test::*;
 
 /// Where the datagrams come from.
-const NEIGHBOUR: Underlay = Underlay {
+pub(crate) const NEIGHBOUR: Underlay = Underlay {
     ip: Ip::V4([10, 1, 0, 2]),
     port: 40000,
 };

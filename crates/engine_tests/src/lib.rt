@@ -10,9 +10,13 @@ mod calls;
 #[cfg(test)]
 mod config;
 #[cfg(test)]
+mod control;
+#[cfg(test)]
 mod decision;
 #[cfg(test)]
 mod links;
+#[cfg(test)]
+mod ports;
 #[cfg(test)]
 mod replay;
 #[cfg(test)]
