@@ -123,19 +123,19 @@ module _ {S G K : Type 0} where
         let plain = without_devices same_source same_sink r.crew w back in
         let ran = runs told_of r.config (back_of told shown failed w a) _ (crews_return told shown failed r.config r.pipes r.crew w a is plain kept set one) in
         let totals_are = counts ∙ ap totals_of (same ∙ shares_same w a one) in record {
-      promises = promised told shown failed r.config w a r.crew.shutters totals sent sources sinks ran back.shutters totals_are sends reads writes;
-      crew = w;
-      slow = a;
-      one = one;
-      back = back;
-      settled = set;
-      asked = asked_quietly told r.crew.receivers w.receivers plain.receivers kept.quiet;
-      ran = ran;
-      totals_are = totals_are;
-      sent_are = sends;
-      sources_are = reads;
-      sinks_are = writes;
-    }
+          promises = promised told shown failed r.config w a r.crew.shutters totals sent sources sinks ran back.shutters totals_are sends reads writes;
+          crew = w;
+          slow = a;
+          one = one;
+          back = back;
+          settled = set;
+          asked = asked_quietly told r.crew.receivers w.receivers plain.receivers kept.quiet;
+          ran = ran;
+          totals_are = totals_are;
+          sent_are = sends;
+          sources_are = reads;
+          sinks_are = writes;
+        }
 
 -- ---- a running router, seen as its parts
 

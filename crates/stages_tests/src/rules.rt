@@ -3,7 +3,10 @@
 use crate::sample_router::{at, link};
 use cmac_core::Cmac;
 use process_packet::{Bands, Cause, Config, LONGEST_DATAGRAM};
-use router_rules::{Ports, Shared, has_two_bands, inspect, interface_at, is_urgent, link_count, link_index, processor_or_fault};
+use router_rules::{
+    Ports, Shared, has_two_bands, inspect, interface_at, is_urgent, link_count, link_index,
+    processor_or_fault,
+};
 use segment_switch::LinkKind;
 use std::alloc::{AllocError, Global};
 use std::test::*;
