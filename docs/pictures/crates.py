@@ -17,15 +17,15 @@ LAYERS = [
     ("ciphers", "#dbe9f6", "aes128_core cmac_core"),
     ("rules of a hop, a pair, a flow", "#dbe9f6", "hop_check segment_switch flow_key"),
     ("decision and answers", "#d5ecd4", "process_packet address_kinds scmp_answer bfd_answer packet_answer"),
-    ("nets and walks", "#d5ecd4", "walk_laws net_walks path_authorisation"),
+    ("nets and walks", "#d5ecd4", "net_laws net_walks path_authorisation"),
     ("order of packets", "#fdeec9", "order_laws router_rules"),
-    ("model of the pipeline", "#fdeec9", "replay_laws replay_places pipe_parts pipe_steps pipe_model"),
+    ("model of the pipeline", "#fdeec9", "replay_laws replay_places replay_state replay_steps pipe_model"),
     ("between threads", "#f8dcd3", "ruled_pipe packet_ledger"),
-    ("laws of workers", "#fdeec9", "stage_laws router_laws run_promises"),
-    ("workers", "#f8dcd3", "stage_parts receiver_stage forwarder_stage router_stages"),
-    ("threads, and the run", "#f8dcd3", "pipe_ends router_pipes worker_threads wired_workers run_report router_run"),
+    ("laws of workers", "#fdeec9", "worker_laws worker_order run_promises"),
+    ("workers", "#f8dcd3", "worker_parts worker_receiver worker_forwarder router_stages"),
+    ("threads, and the run", "#f8dcd3", "run_ends run_pipes worker_threads run_workers run_report router_run"),
     ("sockets", "#f8dcd3", "udp_devices"),
-    ("text and commands", "#e6def0", "text_values router_config config_warnings net_check cli_io cli_route cli_replay cli_run udp_router command_words router_faults check_command router_program"),
+    ("text and commands", "#e6def0", "text_values router_config config_warnings net_check cli_io cli_route cli_replay cli_run udp_router cli_words cli_faults cli_check router_program"),
 ]
 LEFT_OUT = {"path_trial", "path_probe", "try_net", "key_derivation"}
 

@@ -10,7 +10,7 @@ use Rattle.process_packet.specs.declared.arrival.Arrival.{Arrival as Came}
 use Rattle.process_packet.specs.declared.config.Config.{Config}
 use Rattle.replay_laws.specs.Pipe.{Entry, Pipe}
 use Rattle.pipe_model.specs.Begun.{AreArrivals, AreFrom, AreNumbered, begun}
-use Rattle.pipe_parts.specs.Arrivals.{datagram_of, source, source_entry, sources_from}
+use Rattle.replay_state.specs.Arrivals.{datagram_of, source, source_entry, sources_from}
 use Rattle.router_rules.specs.Datagram.{Datagram}
 use Rattle.router_rules.specs.Links.{link_index}
 use Rattle.router_rules.specs.Rules.{kinds}

@@ -12,8 +12,8 @@ use Rattle.replay_laws.specs.Next.{next}
 use Rattle.replay_laws.specs.World.{World}
 use Rattle.router_rules.specs.Rules.{kinds}
 use Rattle.pipe_model.specs.Pipeline.{Pipeline, rules_in, stepped, with_world}
-use Rattle.pipe_steps.specs.Step.{step_in}
-use Rattle.pipe_steps.specs.declared.step.Step.{Step}
+use Rattle.replay_steps.specs.Step.{step_in}
+use Rattle.replay_steps.specs.declared.step.Step.{Step}
 use Rattle.cli_replay.specs.ArriveLine.{datagram_of_line}
 use Rattle.cli_replay.specs.Gathered.{starting}
 use Rattle.cli_replay.specs.Report.{not_now_text, report}

@@ -13,7 +13,7 @@ use Rattle.router_rules.specs.Datagram.{Datagram}
 use Rattle.router_rules.specs.Links.{link_count, link_index}
 use Rattle.router_rules.specs.Rules.{kinds, rules}
 use Rattle.pipe_model.specs.Begun.{AreArrivals, AreNumbered, begun}
-use Rattle.pipe_parts.specs.Arrivals.{source_entry}
+use Rattle.replay_state.specs.Arrivals.{source_entry}
 use Rattle.pipe_model.specs.Pipeline.{Pipeline}
 
 -- number n on link a

@@ -3,7 +3,7 @@ use Rattle.std.specs.Prelude.{ℕ, ◌+◌, List, [], ◌∷◌, ◌++◌, lengt
 use Rattle.process_packet.specs.declared.config.Config.{Config}
 use Rattle.router_rules.specs.Datagram.{Datagram}
 use Rattle.pipe_model.specs.Pipeline.{Pipeline, stepped}
-use Rattle.pipe_steps.specs.declared.step.Step.{Step}
+use Rattle.replay_steps.specs.declared.step.Step.{Step}
 use Rattle.cli_replay.specs.ArriveLine.{datagram_of_line}
 use Rattle.cli_replay.specs.Gathered.{starting}
 use Rattle.cli_replay.specs.Report.{not_now_text, report}

@@ -7,7 +7,7 @@ use Rattle.process_packet.specs.declared.arrival.Arrival.{Arrival as Came}
 use Rattle.process_packet.specs.declared.config.Config.{Config}
 use Rattle.router_rules.specs.Datagram.{Datagram}
 use Rattle.pipe_model.specs.Pipeline.{Pipeline, stepped}
-use Rattle.pipe_steps.specs.declared.step.Step.{Step}
+use Rattle.replay_steps.specs.declared.step.Step.{Step}
 use Rattle.cli_replay.specs.Gathered.{AreGathered}
 use Rattle.cli_replay.specs.Report.{report}
 use Rattle.cli_replay.specs.StepLine.{step_of_line}

@@ -3,8 +3,8 @@ use Rattle.std.specs.Prelude.{ℕ, Bool, true, false, if◌then◌else◌, List,
 use Rattle.std.specs.Str.{bytes_eq}
 use Rattle.replay_places.specs.Worker.{queue_in, worker_in}
 use Rattle.replay_places.specs.declared.queue.Queue.{Queue}
-use Rattle.pipe_steps.specs.declared.step.Step.{Step}
-use Rattle.pipe_steps.specs.declared.step.Step.TheVariants as step
+use Rattle.replay_steps.specs.declared.step.Step.{Step}
+use Rattle.replay_steps.specs.declared.step.Step.TheVariants as step
 use Rattle.router_rules.specs.declared.worker.Worker.{Worker}
 use Rattle.replay_laws.specs.Next.{feeds}
 use Rattle.process_packet.specs.declared.config.Config.{Config}

@@ -1,5 +1,5 @@
 //! Words of the command line, and what they ask for.
-use command_words::{Order, read_words};
+use cli_words::{Subcommand, read_words};
 use std::alloc::Global;
 use std::process::Abort;
 
@@ -17,14 +17,14 @@ fn words_of(rt: &(impl AllocGlobal + Abort), line: &str) -> Vec<String> {
 fn asks(alloc: Global, words: &[String], wanted: Option<(u16, u64)>) -> bool {
     match read_words(alloc, words) {
         Ok(
-            Order::Route {
+            Subcommand::Route {
                 config,
                 link,
                 now,
                 ..
             },
         ) => config == "c" && wanted == Some((link, now)),
-        Ok(Order::Run { config }) => config == "c" && wanted.is_none(),
+        Ok(Subcommand::Run { config }) => config == "c" && wanted.is_none(),
         _ => false,
     }
 }

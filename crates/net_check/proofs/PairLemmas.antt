@@ -8,10 +8,10 @@ use Rattle.std.proofs.lemmas.Option.{get_or_from_slice_get, slice_get_read, slic
 use Rattle.process_packet.specs.declared.config.Config.{Config}
 use Rattle.process_packet.specs.declared.neighbours.Link.{Link}
 use Rattle.process_packet.specs.Underlay.{same_underlay}
-use Rattle.walk_laws.specs.Net.{end_at}
-use Rattle.walk_laws.specs.declared.net.End.{End}
-use Rattle.walk_laws.specs.declared.net.Wire.{Wire}
-use Rattle.walk_laws.proofs.AgreementLemmas.{underlay_decides}
+use Rattle.net_laws.specs.Net.{end_at}
+use Rattle.net_laws.specs.declared.net.End.{End}
+use Rattle.net_laws.specs.declared.net.Wire.{Wire}
+use Rattle.net_laws.proofs.AgreementLemmas.{underlay_decides}
 use Rattle.net_check.specs.Pairs.{IsLinkAt, JoinsPair, OneLeadsToOther, WiresJoinPairs}
 use Rattle.net_check.specs.Wires as wires
 use Rattle.net_check.specs.declared.wires.PlacedLink.{PlacedLink}

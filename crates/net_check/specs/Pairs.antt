@@ -3,8 +3,8 @@ use Rattle.std.specs.Prelude.{◌≡◌, ◌⊎◌, ℕ, List, Contains, Some}
 use Rattle.std.specs.List.{slice_get}
 use Rattle.process_packet.specs.declared.config.Config.{Config}
 use Rattle.process_packet.specs.declared.neighbours.Link.{Link}
-use Rattle.walk_laws.specs.declared.net.End.{End}
-use Rattle.walk_laws.specs.declared.net.Wire.{Wire}
+use Rattle.net_laws.specs.declared.net.End.{End}
+use Rattle.net_laws.specs.declared.net.Wire.{Wire}
 use Rattle.net_check.specs.Wires.{wires_of}
 
 -- One of these configurations has the link, at this end.

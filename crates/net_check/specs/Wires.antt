@@ -4,8 +4,8 @@ use Rattle.std.specs.List.{slice_get}
 use Rattle.process_packet.specs.declared.config.Config.{Config}
 use Rattle.process_packet.specs.declared.neighbours.Link.{Link}
 use Rattle.process_packet.specs.Underlay.{same_underlay}
-use Rattle.walk_laws.specs.Net.{end_at}
-use Rattle.walk_laws.specs.declared.net.Wire.{Wire}
+use Rattle.net_laws.specs.Net.{end_at}
+use Rattle.net_laws.specs.declared.net.Wire.{Wire}
 use Rattle.net_check.specs.declared.wires.PlacedLink.{PlacedLink}
 
 -- ---- links, with their places

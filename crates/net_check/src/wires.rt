@@ -3,11 +3,11 @@
 ghost use Rattle.std.specs.Prelude.{◌≡◌, ◌++◌, ◌||◌, IfOk, OnOk, Some, length};
 ghost use Rattle.std.specs.List.{list_any, slice_get};
 ghost use Rattle.net_check.specs.Wires as wires;
-ghost use Rattle.walk_laws.specs.Agreement.{same_end};
+ghost use Rattle.net_laws.specs.Agreement.{same_end};
 
+use net_laws::{End, Net, Wire};
 use process_packet::{Config, Link};
 use std::alloc::{AllocError, Global};
-use walk_laws::{End, Net, Wire};
 
 /// A link of a net.
 #[derive(Clone, Copy)]

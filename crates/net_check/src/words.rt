@@ -1,12 +1,12 @@
 //! What doesn't fit in a net, in words: the files, the keys and their values.
 
 use config_warnings::Shown;
+use net_laws::{Difference, End, Misfit, Mismatch, Net, Wire};
 use process_packet::{Config, Link, PortRange, Service};
 use scion_header::Domain;
 use segment_switch::LinkKind;
 use std::alloc::{AllocError, Global};
 use std::fmt;
-use walk_laws::{Difference, End, Misfit, Mismatch, Net, Wire};
 
 /// What is told where a place names no file, no link and no value.
 const NOTHING: &str = "nothing";

@@ -10,19 +10,19 @@ use Rattle.scmp_answer.specs.WayBack.{is_external, is_in_later_segment, leaves_t
 use Rattle.process_packet.specs.declared.underlay.Underlay.{Underlay}
 use Rattle.process_packet.specs.Network.{own_link}
 use Rattle.process_packet.specs.PacketState.{entry_place, is_first_of_path}
-use Rattle.walk_laws.specs.Net.{Joined, Net, Router, end_at, router_at}
-use Rattle.walk_laws.specs.Domain.{IsOf}
-use Rattle.walk_laws.specs.Route.{IsBefore, Crosses, IsOn, IsRoute, Joins, Route, after, id_before, id_after, last_in, reversed_route, way_in, way_out}
-use Rattle.walk_laws.specs.Route as route_words
-use Rattle.walk_laws.specs.Stands.{PacketAt, IdsStand, IsFromEntry, IsOnItsWay, Stands, StandsInside, StandsOutside, place_of}
-use Rattle.walk_laws.specs.Stop.{IsCarried}
+use Rattle.net_laws.specs.Net.{Joined, Net, Router, end_at, router_at}
+use Rattle.net_laws.specs.Domain.{IsOf}
+use Rattle.net_laws.specs.Route.{IsBefore, Crosses, IsOn, IsRoute, Joins, Route, after, id_before, id_after, last_in, reversed_route, way_in, way_out}
+use Rattle.net_laws.specs.Route as route_words
+use Rattle.net_laws.specs.Stands.{PacketAt, IdsStand, IsFromEntry, IsOnItsWay, Stands, StandsInside, StandsOutside, place_of}
+use Rattle.net_laws.specs.Stop.{IsCarried}
 use Rattle.net_walks.specs.Returns.{IsUnderWay, ReturnsOn, turning_point}
-use Rattle.walk_laws.proofs.IdLemmas.{size_is}
-use Rattle.walk_laws.proofs.BackLemmas.{back, back_len, back_size}
-use Rattle.walk_laws.proofs.BackIds.{ids_back, ids_under}
-use Rattle.walk_laws.proofs.RouteBack.{before_is_after, in_is_out}
-use Rattle.walk_laws.proofs.ComesLemmas.{of_one_as}
-use Rattle.walk_laws.proofs.LeavesLemmas.{same_router}
+use Rattle.net_laws.proofs.IdLemmas.{size_is}
+use Rattle.net_laws.proofs.BackLemmas.{back, back_len, back_size}
+use Rattle.net_laws.proofs.BackIds.{ids_back, ids_under}
+use Rattle.net_laws.proofs.RouteBack.{before_is_after, in_is_out}
+use Rattle.net_laws.proofs.ComesLemmas.{of_one_as}
+use Rattle.net_laws.proofs.LeavesLemmas.{same_router}
 
 -- ---- the cursor of the answer
 

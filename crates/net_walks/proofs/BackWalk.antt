@@ -8,13 +8,13 @@ use Rattle.process_packet.specs.PacketState.{packet}
 use Rattle.process_packet.specs.Request.{is_request}
 use Rattle.process_packet.specs.Rows.{Verdict, delivered}
 use Rattle.process_packet.specs.Shown.{turned}
-use Rattle.walk_laws.specs.LawfulStart.{WalksBy}
-use Rattle.walk_laws.specs.Net.{Agrees, Net, Router, router_at}
-use Rattle.walk_laws.specs.Route.{IsRoute, Route}
-use Rattle.walk_laws.specs.Stands.{IsUnasked, PacketAt, Stands, place_of}
-use Rattle.walk_laws.specs.Stop.{IsAsked, packet_state, progress, verdict_at}
-use Rattle.walk_laws.proofs.StopLemmas.{ends, goes_on}
-use Rattle.walk_laws.proofs.WalkLemmas.{far_at_most, router_of, same_packet}
+use Rattle.net_laws.specs.LawfulStart.{WalksBy}
+use Rattle.net_laws.specs.Net.{Agrees, Net, Router, router_at}
+use Rattle.net_laws.specs.Route.{IsRoute, Route}
+use Rattle.net_laws.specs.Stands.{IsUnasked, PacketAt, Stands, place_of}
+use Rattle.net_laws.specs.Stop.{IsAsked, packet_state, progress, verdict_at}
+use Rattle.net_laws.proofs.StopLemmas.{ends, goes_on}
+use Rattle.net_laws.proofs.WalkLemmas.{far_at_most, router_of, same_packet}
 
 -- what holds of each stop
 pub record Stood (net : Net) (w : Route) (from : Place) (start b : PacketAt) : Type 0 where

@@ -4,18 +4,18 @@ use Rattle.std.specs.List.{position_from}
 use Rattle.std.proofs.lemmas.Iterator.Adapters.{position_from-zero}
 use Rattle.std.proofs.lemmas.List.Quantifiers.{position-Some}
 use Rattle.std.proofs.lemmas.Option.{slice_get_within}
-use Rattle.walk_laws.specs.Agreement.{same_end}
+use Rattle.net_laws.specs.Agreement.{same_end}
 use Rattle.process_packet.specs.Decide.{decide, moved}
-use Rattle.walk_laws.specs.Net.{Agrees, IsWire, Net, Router, end_at, router_at}
+use Rattle.net_laws.specs.Net.{Agrees, IsWire, Net, Router, end_at, router_at}
 use Rattle.process_packet.specs.Network.{own_link}
 use Rattle.process_packet.specs.declared.decision.Decision.{Decision}
 use Rattle.process_packet.specs.declared.decision.Decision.TheVariants as decision
 use Rattle.process_packet.specs.declared.neighbours.Link.{Link}
-use Rattle.walk_laws.specs.declared.net.End.{End}
-use Rattle.walk_laws.specs.declared.net.Wire.{Wire}
+use Rattle.net_laws.specs.declared.net.End.{End}
+use Rattle.net_laws.specs.declared.net.Wire.{Wire}
 use Rattle.process_packet.specs.declared.underlay.Underlay.{Underlay}
 use Rattle.net_walks.specs.Stops.{Came, arrives_over, arrives_within, carried_on, has_address, has_end, is_for_host, next_from, next_stop, other_end, over_wire, sent_from}
-use Rattle.walk_laws.proofs.NetLemmas.{found}
+use Rattle.net_laws.proofs.NetLemmas.{found}
 
 -- ---- a router of the net
 

@@ -16,13 +16,13 @@ use Rattle.scmp_answer.specs.Reply.{is_left_unanswered, local_address, reply}
 use Rattle.scmp_answer.specs.Reply as answers
 use Rattle.scmp_answer.specs.WayBack.{is_external}
 use Rattle.scmp_answer.proofs.ReplyLemmas.{unanswered}
-use Rattle.walk_laws.specs.Configured.{AreNumbered}
-use Rattle.walk_laws.specs.LawfulStart.{LawfulStart, ReachesHost, SetsOutOn, WalksBy}
-use Rattle.walk_laws.specs.Net.{Agrees, Net, Router, router_at, router_of}
-use Rattle.walk_laws.specs.PathSegments.{PathSegment}
-use Rattle.walk_laws.specs.Stands.{PacketAt}
-use Rattle.walk_laws.specs.Stop.{verdict_at}
-use Rattle.walk_laws.proofs.LawfulLemmas.{unasked}
+use Rattle.net_laws.specs.Configured.{AreNumbered}
+use Rattle.net_laws.specs.LawfulStart.{LawfulStart, ReachesHost, SetsOutOn, WalksBy}
+use Rattle.net_laws.specs.Net.{Agrees, Net, Router, router_at, router_of}
+use Rattle.net_laws.specs.PathSegments.{PathSegment}
+use Rattle.net_laws.specs.Stands.{PacketAt}
+use Rattle.net_laws.specs.Stop.{verdict_at}
+use Rattle.net_laws.proofs.LawfulLemmas.{unasked}
 use Rattle.net_walks.specs.Outcomes.{IsDeliveredBy, IsRepliedTo, IsReply}
 use Rattle.net_walks.specs.Stops.{Came, came_to, carried, is_for_host, is_headed, next_stop, stops_from}
 use Rattle.net_walks.specs.Visits.{ReturnsTo, Visits, came_of, starts_at}

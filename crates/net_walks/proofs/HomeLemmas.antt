@@ -6,7 +6,7 @@ use Rattle.process_packet.specs.declared.config.Config.{Config}
 use Rattle.process_packet.specs.declared.underlay.Ip.{Ip}
 use Rattle.process_packet.specs.declared.underlay.Ip.TheVariants.{V4, V6}
 use Rattle.scmp_answer.specs.Reply.{ip_bytes, local_address}
-use Rattle.walk_laws.specs.LawfulStart.{IsIpHost}
+use Rattle.net_laws.specs.LawfulStart.{IsIpHost}
 use Rattle.net_walks.specs.Returns.{CanAnswer, RoutersAnswerFromHome}
 
 bytes_of : (ip : Ip) → is_whole ip ≡ true → (length (ip_bytes ip) ≡ 4) ⊎ (length (ip_bytes ip) ≡ 16)

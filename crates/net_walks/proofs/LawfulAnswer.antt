@@ -18,8 +18,8 @@ use Rattle.process_packet.specs.Request.{request}
 use Rattle.process_packet.specs.declared.decision.Problem.{Problem}
 use Rattle.process_packet.proofs.KeptLemmas.{kept_place}
 use Rattle.process_packet.proofs.LawfulLemmas.{IsOnPath, is_on, some_hop}
-use Rattle.walk_laws.specs.LawfulStart.{IsIpHost}
-use Rattle.walk_laws.proofs.BackLemmas.{back, back_count, back_len, back_size}
+use Rattle.net_laws.specs.LawfulStart.{IsIpHost}
+use Rattle.net_laws.proofs.BackLemmas.{back, back_count, back_len, back_size}
 use Rattle.scmp_answer.specs.Checksum.{checksum, summed}
 use Rattle.scmp_answer.specs.Message.{message, message_table, numbers_of, quote}
 use Rattle.scmp_answer.specs.Reply.{answer_header, answer_packet, header_len}

@@ -15,38 +15,38 @@ use Rattle.scion_packet.proofs.PacketLaws.{packet_only}
 use Rattle.scmp_answer.specs.Reply.{answer_packet, is_left_unanswered, local_address, reply, sent_back}
 use Rattle.scmp_answer.specs.Reply as answers
 use Rattle.scmp_answer.specs.WayBack.{has_no_way_back, is_external, is_first_of_segment, way_back}
-use Rattle.walk_laws.specs.PathSegments.{PathSegment, route_over}
+use Rattle.net_laws.specs.PathSegments.{PathSegment, route_over}
 use Rattle.process_packet.specs.HostPort.{host_port_of}
 use Rattle.process_packet.specs.Hosts.{IsDeliveredAt as IsDeliveredTo, IsReachedAt}
 use Rattle.process_packet.specs.Network.{Network}
 use Rattle.process_packet.specs.declared.underlay.Underlay.{Underlay}
-use Rattle.walk_laws.specs.Configured.{AreNumbered}
-use Rattle.walk_laws.specs.LawfulStart.{IsIpHost, IsKnown, ReachesHost, SetsOutOn, WalksBy}
+use Rattle.net_laws.specs.Configured.{AreNumbered}
+use Rattle.net_laws.specs.LawfulStart.{IsIpHost, IsKnown, ReachesHost, SetsOutOn, WalksBy}
 use Rattle.net_walks.specs.Walked.{IsAnswerable, IsLawfulStop, IsAnswered, IsAskedOnTheWay, IsCarriedBack, IsWalked}
-use Rattle.walk_laws.specs.Net.{Agrees, Net, Router, router_at}
-use Rattle.walk_laws.specs.Net as nets
-use Rattle.walk_laws.specs.Domain.{IsOf}
-use Rattle.walk_laws.specs.Domain.{domain_of}
+use Rattle.net_laws.specs.Net.{Agrees, Net, Router, router_at}
+use Rattle.net_laws.specs.Net as nets
+use Rattle.net_laws.specs.Domain.{IsOf}
+use Rattle.net_laws.specs.Domain.{domain_of}
 use Rattle.net_walks.specs.Returns.{ComesBack, turning_point}
 use Rattle.net_walks.specs.Stops.{stops_from}
 use Rattle.net_walks.specs.Visits.{ReturnsTo, came_of}
-use Rattle.walk_laws.specs.Route.{IsOn, IsRoute, Route, end_of, reversed_route}
+use Rattle.net_laws.specs.Route.{IsOn, IsRoute, Route, end_of, reversed_route}
 use Rattle.process_packet.specs.Shown.{is_for_us, turned}
-use Rattle.walk_laws.specs.Stands.{PacketAt, IsHostOf, IsUnasked, Stands, place_of}
-use Rattle.walk_laws.specs.Start.{outset}
-use Rattle.walk_laws.specs.Stop.{IsAsked, progress, packet_state, verdict_at}
-use Rattle.walk_laws.specs.Walk.{IsDelivered, Walks}
+use Rattle.net_laws.specs.Stands.{PacketAt, IsHostOf, IsUnasked, Stands, place_of}
+use Rattle.net_laws.specs.Start.{outset}
+use Rattle.net_laws.specs.Stop.{IsAsked, progress, packet_state, verdict_at}
+use Rattle.net_laws.specs.Walk.{IsDelivered, Walks}
 use Rattle.process_packet.proofs.HostLemmas.{is_reached}
-use Rattle.walk_laws.proofs.LeavesLemmas.{same_router}
-use Rattle.walk_laws.proofs.LawfulLemmas.{end_is, its_route, sets_out}
+use Rattle.net_laws.proofs.LeavesLemmas.{same_router}
+use Rattle.net_laws.proofs.LawfulLemmas.{end_is, its_route, sets_out}
 use Rattle.net_walks.proofs.BackWalk.{EndsThere, walks_there}
 use Rattle.net_walks.proofs.HomeLemmas.{from_home}
 use Rattle.net_walks.proofs.ReturnLemmas.{comes_back}
 use Rattle.net_walks.proofs.WalkStops.{delivered_at, few_stops, none_after, visited}
-use Rattle.walk_laws.proofs.RouteBack.{route_back}
-use Rattle.walk_laws.proofs.StartLemmas.{stands_at_outset}
-use Rattle.walk_laws.proofs.StopLemmas.{ends, goes_on}
-use Rattle.walk_laws.proofs.WalkLemmas.{far_at_most, on_route, one_at_most, router_of, same_packet}
+use Rattle.net_laws.proofs.RouteBack.{route_back}
+use Rattle.net_laws.proofs.StartLemmas.{stands_at_outset}
+use Rattle.net_laws.proofs.StopLemmas.{ends, goes_on}
+use Rattle.net_laws.proofs.WalkLemmas.{far_at_most, on_route, one_at_most, router_of, same_packet}
 
 -- ---- at the end of the path
 

@@ -30,11 +30,11 @@ use Rattle.process_packet.specs.OneHopLaws.{IsChained, LeavesAs, MayEnterTo, May
 use Rattle.process_packet.specs.OneHopState.{OneHopState, completed, hop_from, one_hop_arrives, second}
 use Rattle.process_packet.proofs.OneHopByteLemmas.{all_enter, all_leave, differ_in_place}
 use Rattle.process_packet.proofs.OneHopLawLemmas.{sent_in, table_sends}
-use Rattle.walk_laws.specs.Configured.{AreNumbered}
-use Rattle.walk_laws.specs.Net.{Agrees, IsNamed, Net, Router}
-use Rattle.walk_laws.specs.OneHopStart.{LawfulOneHopStart, OneHopAt, exit_of, first_of, info_of, second_of}
-use Rattle.walk_laws.proofs.NetLemmas.{IsWired, joined_ends}
-use Rattle.walk_laws.proofs.OneHopPath.{IsDeliveredSo, beaconed, opens}
+use Rattle.net_laws.specs.Configured.{AreNumbered}
+use Rattle.net_laws.specs.Net.{Agrees, IsNamed, Net, Router}
+use Rattle.net_laws.specs.OneHopStart.{LawfulOneHopStart, OneHopAt, exit_of, first_of, info_of, second_of}
+use Rattle.net_laws.proofs.NetLemmas.{IsWired, joined_ends}
+use Rattle.net_laws.proofs.OneHopPath.{IsDeliveredSo, beaconed, opens}
 use Rattle.net_walks.specs.OneHopWalk.{BeaconsCross, Crosses, RepliesSetOut, one_hop_came_of, one_hop_starts_at}
 use Rattle.net_walks.specs.declared.stop.Stop.{Stop}
 use Rattle.net_walks.specs.Stops.{Came, IsStop, arrives_over, came_by, came_to, carried_on, is_for_host, is_headed, next_from, next_stop, over_wire, stops_from}

@@ -16,19 +16,19 @@ use Rattle.scmp_answer.proofs.TableLemmas.{table_len}
 use Rattle.process_packet.specs.declared.cause.Cause.TheVariants as cause
 use Rattle.process_packet.specs.declared.decision.Problem.{Problem}
 use Rattle.process_packet.specs.Request.{request}
-use Rattle.walk_laws.specs.Net.{Agrees, Net, Router, router_at}
-use Rattle.walk_laws.specs.Domain.{Domain, IsOf}
-use Rattle.walk_laws.specs.Route.{IsOn, IsRoute, Route, after, end_of, hop_of, reversed_route}
-use Rattle.walk_laws.specs.Route as route_words
-use Rattle.walk_laws.specs.Stands.{PacketAt, IsHostOf, IsOnItsWay, IsUnasked, Stands, StandsInside, StandsOutside, place_of}
-use Rattle.walk_laws.specs.Domain.{domain_of}
+use Rattle.net_laws.specs.Net.{Agrees, Net, Router, router_at}
+use Rattle.net_laws.specs.Domain.{Domain, IsOf}
+use Rattle.net_laws.specs.Route.{IsOn, IsRoute, Route, after, end_of, hop_of, reversed_route}
+use Rattle.net_laws.specs.Route as route_words
+use Rattle.net_laws.specs.Stands.{PacketAt, IsHostOf, IsOnItsWay, IsUnasked, Stands, StandsInside, StandsOutside, place_of}
+use Rattle.net_laws.specs.Domain.{domain_of}
 use Rattle.net_walks.specs.Returns.{CanAnswer, ComesBack, IsUnderWay, ReturnsOn, turning_point}
-use Rattle.walk_laws.proofs.IdLemmas.{size_is}
-use Rattle.walk_laws.proofs.BackLemmas.{back, back_hop, back_len, back_size}
+use Rattle.net_laws.proofs.IdLemmas.{size_is}
+use Rattle.net_laws.proofs.BackLemmas.{back, back_hop, back_len, back_size}
 use Rattle.net_walks.proofs.BackStands.{TurnsInside, stands_back, turns}
-use Rattle.walk_laws.proofs.LeavesLemmas.{same_router}
-use Rattle.walk_laws.proofs.RouteBack.{route_back}
-use Rattle.walk_laws.proofs.WalkLemmas.{walked}
+use Rattle.net_laws.proofs.LeavesLemmas.{same_router}
+use Rattle.net_laws.proofs.RouteBack.{route_back}
+use Rattle.net_laws.proofs.WalkLemmas.{walked}
 
 -- ---- where it turns
 

@@ -8,12 +8,12 @@ use Rattle.std.proofs.lemmas.Bool.{cond-false, cond-true}
 use Rattle.std.proofs.lemmas.Iterator.Adapters.{position_from-zero}
 use Rattle.process_packet.specs.declared.config.Config.{Config}
 use Rattle.process_packet.specs.declared.underlay.Underlay.{Underlay}
-use Rattle.walk_laws.specs.Net.{Net, Router, router_at, router_of}
+use Rattle.net_laws.specs.Net.{Net, Router, router_at, router_of}
 use Rattle.process_packet.specs.Routed.{IsRouted, bytes_for, decision_for}
 use Rattle.process_packet.specs.declared.arrival.Routed.{Routed}
 use Rattle.process_packet.specs.declared.arrival.Routed.TheVariants as routed
 use Rattle.process_packet.specs.declared.decision.Decision.{Decision}
-use Rattle.walk_laws.specs.declared.net.Wire.{Wire}
+use Rattle.net_laws.specs.declared.net.Wire.{Wire}
 use Rattle.net_walks.specs.declared.stop.Stop.{Stop}
 use Rattle.process_packet.specs.declared.arrival.Arrival.{Arrival}
 use Rattle.process_packet.specs.Network.{network}

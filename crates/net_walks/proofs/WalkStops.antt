@@ -9,25 +9,25 @@ use Rattle.scion_packet.specs.Fault.{Fault}
 use Rattle.scion_packet.specs.Header.{HeaderFields, HostAddress, header_fault, header_fault_as, header_of, one_hop_path}
 use Rattle.scion_packet.specs.Packet.{IsPacket, Packet, spelling}
 use Rattle.scion_packet.proofs.PacketLaws.{both_pass, packet_only, packet_passes}
-use Rattle.walk_laws.specs.Agreement.{are_of_one_as, same_end}
+use Rattle.net_laws.specs.Agreement.{are_of_one_as, same_end}
 use Rattle.process_packet.specs.Decide.{decision_of, moved_by}
 use Rattle.process_packet.specs.OneHopLaws.{IsDecidedAsScion}
 use Rattle.process_packet.specs.declared.decision.Decision.{Decision}
 use Rattle.process_packet.proofs.KindLemmas.{decided_as_scion, has_scion_path, other_kind}
-use Rattle.walk_laws.specs.Net.{Agrees, AreOfOneAS, Joined, Net, Router, end_at, router_at}
+use Rattle.net_laws.specs.Net.{Agrees, AreOfOneAS, Joined, Net, Router, end_at, router_at}
 use Rattle.process_packet.specs.Network.{Network, is_local}
 use Rattle.process_packet.specs.Rows.{Sent, Verdict}
 use Rattle.process_packet.specs.Underlay.{same_underlay}
-use Rattle.walk_laws.specs.declared.net.End.{End}
-use Rattle.walk_laws.specs.declared.net.Wire.{Wire}
+use Rattle.net_laws.specs.declared.net.End.{End}
+use Rattle.net_laws.specs.declared.net.Wire.{Wire}
 use Rattle.process_packet.specs.declared.underlay.Underlay.{Underlay}
-use Rattle.walk_laws.proofs.AgreementLemmas.{as_decides, end_decides, underlay_decides}
-use Rattle.walk_laws.specs.LawfulStart.{ReachesHost, WalksBy}
+use Rattle.net_laws.proofs.AgreementLemmas.{as_decides, end_decides, underlay_decides}
+use Rattle.net_laws.specs.LawfulStart.{ReachesHost, WalksBy}
 use Rattle.process_packet.specs.Shown.{is_for_us}
-use Rattle.walk_laws.specs.Stands.{PacketAt}
-use Rattle.walk_laws.specs.Stop.{IsCarried, packet_state, verdict_at}
-use Rattle.walk_laws.proofs.CarryLemmas.{of_one, same_number}
-use Rattle.walk_laws.proofs.NetLemmas.{found, joined_ends}
+use Rattle.net_laws.specs.Stands.{PacketAt}
+use Rattle.net_laws.specs.Stop.{IsCarried, packet_state, verdict_at}
+use Rattle.net_laws.proofs.CarryLemmas.{of_one, same_number}
+use Rattle.net_laws.proofs.NetLemmas.{found, joined_ends}
 use Rattle.net_walks.specs.Stops.{Came, arrives_over, carried, carried_on, far_end, has_address, has_end, is_for_host, next_from, next_stop, other_end, over_wire, stops_from}
 use Rattle.net_walks.specs.Visits.{IsDeliveredAt, Visits, came_of}
 use Rattle.net_walks.proofs.StopsLemmas.{none_further, within_host, within_is}

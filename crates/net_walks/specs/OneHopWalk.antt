@@ -15,14 +15,14 @@ use Rattle.process_packet.specs.HostPort.{host_port_of}
 use Rattle.process_packet.specs.Hosts.{IsReachedAt}
 use Rattle.process_packet.specs.Network.{own_link}
 use Rattle.process_packet.specs.Underlay.{longest_datagram}
-use Rattle.walk_laws.specs.Configured.{AreNumbered}
-use Rattle.walk_laws.specs.Domain.{IsOf, domain_of}
-use Rattle.walk_laws.specs.LawfulStart.{IsIpHost, IsKnown, SetsOutOn}
-use Rattle.walk_laws.specs.Net.{Agrees, Joined, Net, Router, end_at, router_at}
-use Rattle.walk_laws.specs.OneHopStart.{IsOpenPath, LawfulOneHopStart, OneHopAt, exit_of, info_of, second_of, segment_back}
-use Rattle.walk_laws.specs.PathSegments.{PathSegment, segments_of}
-use Rattle.walk_laws.specs.Stands.{IsHostOf, PacketAt}
-use Rattle.walk_laws.specs.Start.{outset}
+use Rattle.net_laws.specs.Configured.{AreNumbered}
+use Rattle.net_laws.specs.Domain.{IsOf, domain_of}
+use Rattle.net_laws.specs.LawfulStart.{IsIpHost, IsKnown, SetsOutOn}
+use Rattle.net_laws.specs.Net.{Agrees, Joined, Net, Router, end_at, router_at}
+use Rattle.net_laws.specs.OneHopStart.{IsOpenPath, LawfulOneHopStart, OneHopAt, exit_of, info_of, second_of, segment_back}
+use Rattle.net_laws.specs.PathSegments.{PathSegment, segments_of}
+use Rattle.net_laws.specs.Stands.{IsHostOf, PacketAt}
+use Rattle.net_laws.specs.Start.{outset}
 use Rattle.net_walks.specs.Stops.{Came, most_stops, stops_from}
 
 -- the datagram of a packet

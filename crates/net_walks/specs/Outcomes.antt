@@ -9,10 +9,10 @@ use Rattle.process_packet.specs.declared.decision.Problem.{Problem}
 use Rattle.process_packet.specs.declared.underlay.Underlay.{Underlay}
 use Rattle.scmp_answer.specs.Reply.{local_address, reply}
 use Rattle.scmp_answer.specs.Reply as answers
-use Rattle.walk_laws.specs.Net.{Net, Router, router_at, router_of}
-use Rattle.walk_laws.specs.PathSegments.{PathSegment, route_over}
-use Rattle.walk_laws.specs.Route.{IsOn, hop_of}
-use Rattle.walk_laws.specs.Stands.{PacketAt}
+use Rattle.net_laws.specs.Net.{Net, Router, router_at, router_of}
+use Rattle.net_laws.specs.PathSegments.{PathSegment, route_over}
+use Rattle.net_laws.specs.Route.{IsOn, hop_of}
+use Rattle.net_laws.specs.Stands.{PacketAt}
 use Rattle.scion_packet.specs.Path.{Place}
 use Rattle.net_walks.specs.Stops.{Came, carried, most_stops, stops_from}
 use Rattle.net_walks.specs.Visits.{IsDeliveredAt, Visits, came_of}

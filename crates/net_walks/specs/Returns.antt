@@ -6,18 +6,18 @@ use Rattle.scion_packet.specs.Packet.{Packet, spelling}
 use Rattle.scion_packet.specs.Path.{Place, place_at}
 use Rattle.scion_packet.specs.Places.{mirrored}
 use Rattle.process_packet.specs.declared.config.Config.{Config}
-use Rattle.walk_laws.specs.Net.{router_of}
+use Rattle.net_laws.specs.Net.{router_of}
 use Rattle.scmp_answer.specs.Reply.{local_address, Sent, is_left_unanswered, reply}
 use Rattle.scmp_answer.specs.WayBack.{is_external, way_back}
 use Rattle.process_packet.specs.declared.decision.Problem.{Problem}
 use Rattle.process_packet.specs.PacketState.{is_first_of_path}
-use Rattle.walk_laws.specs.Net.{Agrees, Net, Router, router_at}
-use Rattle.walk_laws.specs.Domain.{domain_of}
-use Rattle.walk_laws.specs.LawfulStart.{IsIpHost}
-use Rattle.walk_laws.specs.Route.{IsRoute, Route, reversed_route}
-use Rattle.walk_laws.specs.Stands.{PacketAt, IsHostOf, IsOnItsWay, IsUnasked, Stands, place_of}
-use Rattle.walk_laws.specs.Stop.{IsCarried}
-use Rattle.walk_laws.specs.Walk.{IsDelivered}
+use Rattle.net_laws.specs.Net.{Agrees, Net, Router, router_at}
+use Rattle.net_laws.specs.Domain.{domain_of}
+use Rattle.net_laws.specs.LawfulStart.{IsIpHost}
+use Rattle.net_laws.specs.Route.{IsRoute, Route, reversed_route}
+use Rattle.net_laws.specs.Stands.{PacketAt, IsHostOf, IsOnItsWay, IsUnasked, Stands, place_of}
+use Rattle.net_laws.specs.Stop.{IsCarried}
+use Rattle.net_laws.specs.Walk.{IsDelivered}
 
 -- where on the way back the answer begins: at the hop of the router that answers
 abbrev pub turning_point : PacketAt → Place

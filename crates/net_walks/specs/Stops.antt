@@ -2,9 +2,9 @@
 use Rattle.std.specs.Prelude.{◌≡◌, ◌<◌, ◌^◌, ℕ, zero, suc, Bool, not, ◌&&◌, ◌||◌, ◌==◌, List, [], ◌∷◌, find, Option, Some, None, is_none, option_map, if◌then◌else◌}
 use Rattle.std.specs.List.{position_from}
 use Rattle.scion_packet.specs.Header.{header_fault, header_fault_as, header_of, one_hop_path}
-use Rattle.walk_laws.specs.Agreement.{are_of_one_as, same_end}
+use Rattle.net_laws.specs.Agreement.{are_of_one_as, same_end}
 use Rattle.process_packet.specs.Decide.{decide, moved}
-use Rattle.walk_laws.specs.Net.{Net, Router, end_at, router_at}
+use Rattle.net_laws.specs.Net.{Net, Router, end_at, router_at}
 use Rattle.process_packet.specs.Network.{Network, is_local, own_link}
 use Rattle.process_packet.specs.Routed.{IsRouted, bytes_for, decision_for}
 use Rattle.process_packet.specs.Underlay.{same_underlay}
@@ -12,8 +12,8 @@ use Rattle.process_packet.specs.declared.arrival.Arrival.{Arrival}
 use Rattle.process_packet.specs.declared.decision.Decision.{Decision}
 use Rattle.process_packet.specs.declared.decision.Decision.TheVariants as decision
 use Rattle.process_packet.specs.declared.neighbours.Link.{Link}
-use Rattle.walk_laws.specs.declared.net.End.{End}
-use Rattle.walk_laws.specs.declared.net.Wire.{Wire}
+use Rattle.net_laws.specs.declared.net.End.{End}
+use Rattle.net_laws.specs.declared.net.Wire.{Wire}
 use Rattle.process_packet.specs.declared.underlay.Underlay.{Underlay}
 use Rattle.net_walks.specs.declared.stop.Stop.{Stop}
 

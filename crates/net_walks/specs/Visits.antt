@@ -3,14 +3,14 @@ use Rattle.std.specs.Prelude.{◌≡◌, ◌≤◌, ℕ, List, [], ◌∷◌, le
 use Rattle.scion_packet.specs.Header.{HostAddress}
 use Rattle.scion_packet.specs.Packet.{IsPacket, Packet, spelling}
 use Rattle.process_packet.specs.Decide.{decide, moved}
-use Rattle.walk_laws.specs.Net.{Net, Router, router_at}
+use Rattle.net_laws.specs.Net.{Net, Router, router_at}
 use Rattle.process_packet.specs.declared.arrival.Arrival.{Arrival}
 use Rattle.process_packet.specs.declared.decision.Decision.TheVariants as decision
 use Rattle.process_packet.specs.declared.underlay.Underlay.{Underlay}
-use Rattle.walk_laws.specs.Domain.{domain_of}
+use Rattle.net_laws.specs.Domain.{domain_of}
 use Rattle.process_packet.specs.HostPort.{host_port_of}
 use Rattle.process_packet.specs.Hosts.{IsReachedAt}
-use Rattle.walk_laws.specs.Stands.{IsHostOf, PacketAt}
+use Rattle.net_laws.specs.Stands.{IsHostOf, PacketAt}
 use Rattle.net_walks.specs.Stops.{Came}
 
 -- the datagram of a packet

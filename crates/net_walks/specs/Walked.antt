@@ -10,12 +10,12 @@ use Rattle.net_walks.specs.Visits.{ReturnsTo, came_of}
 use Rattle.scmp_answer.specs.Reply.{is_left_unanswered, local_address, reply}
 use Rattle.scmp_answer.specs.Reply as answers
 use Rattle.scmp_answer.specs.WayBack.{is_external}
-use Rattle.walk_laws.specs.PathSegments.{PathSegment, route_over}
-use Rattle.walk_laws.specs.Configured.{AreNumbered}
-use Rattle.walk_laws.specs.LawfulStart.{LawfulStart, ReachesHost, SetsOutOn, WalksBy}
-use Rattle.walk_laws.specs.Net.{Agrees, Net, Router, router_at, router_of}
-use Rattle.walk_laws.specs.Stands.{PacketAt}
-use Rattle.walk_laws.specs.Stop.{IsAsked, IsCarried, verdict_at}
+use Rattle.net_laws.specs.PathSegments.{PathSegment, route_over}
+use Rattle.net_laws.specs.Configured.{AreNumbered}
+use Rattle.net_laws.specs.LawfulStart.{LawfulStart, ReachesHost, SetsOutOn, WalksBy}
+use Rattle.net_laws.specs.Net.{Agrees, Net, Router, router_at, router_of}
+use Rattle.net_laws.specs.Stands.{PacketAt}
+use Rattle.net_laws.specs.Stop.{IsAsked, IsCarried, verdict_at}
 
 -- ---- answers
 

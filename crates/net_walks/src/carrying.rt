@@ -2,13 +2,13 @@
 
 ghost use Rattle.std.specs.Prelude.{◌≡◌, ◌<◌, ◌≤◌, ◌&&◌, ◌==◌, List, ℕ, IfSome, find, length, map, not, option_map, position};
 ghost use Rattle.scion_packet.specs.Header.{front_end, header_of};
-ghost use Rattle.walk_laws.specs.Net.{end_at, net_of, router_of};
+ghost use Rattle.net_laws.specs.Net.{end_at, net_of, router_of};
 ghost use Rattle.process_packet.specs.Network.{is_local, network, own_link};
 ghost use Rattle.net_walks.specs.Stops as stops;
 
+use net_laws::{End, Net, Wire};
 use process_packet::{Arrival, Config, Underlay};
 use scion_header::{check_header, check_header_as, destination_domain};
-use walk_laws::{End, Net, Wire};
 
 /// The path type of a path of one hop.
 const ONE_HOP_PATH: u8 = 2;

@@ -2,7 +2,7 @@
 
 ghost use Rattle.std.specs.Prelude.{All, ◌≡◌, ◌⊎◌, ◌<◌, ◌^◌, ◌++◌, ◌∷◌, [], ℕ, List, Some, IfOk, IfSome, OnOk, length, map, option_map};
 ghost use Rattle.field_rows.specs.Place.{IsBytes};
-ghost use Rattle.walk_laws.specs.Net.{Agrees, net_of, router_at};
+ghost use Rattle.net_laws.specs.Net.{Agrees, net_of, router_at};
 ghost use Rattle.net_walks.specs.Stops.{IsStop, came_by, came_so, came_to, most_stops, sent_from, next_stop, stops_from};
 ghost use Rattle.net_walks.specs.Coming as way;
 ghost use Rattle.net_walks.specs.OneHopWalk.{Crosses, one_hop_starts_at};
@@ -10,16 +10,16 @@ ghost use Rattle.net_walks.specs.Outcomes.{IsDeliveredBy, IsRepliedTo, IsReply};
 ghost use Rattle.net_walks.specs.Visits.{ReturnsTo, starts_at};
 ghost use Rattle.scion_packet.specs.OneHop.{OneHopPacket, one_hop_spelling};
 ghost use Rattle.scion_packet.specs.Packet.{Packet, spelling};
-ghost use Rattle.walk_laws.specs.LawfulStart.{LawfulStart, SetsOutOn};
-ghost use Rattle.walk_laws.specs.OneHopStart.{LawfulOneHopStart};
-ghost use Rattle.walk_laws.specs.PathSegments.{PathSegment};
-ghost use Rattle.walk_laws.specs.Stands.{PacketAt};
+ghost use Rattle.net_laws.specs.LawfulStart.{LawfulStart, SetsOutOn};
+ghost use Rattle.net_laws.specs.OneHopStart.{LawfulOneHopStart};
+ghost use Rattle.net_laws.specs.PathSegments.{PathSegment};
+ghost use Rattle.net_laws.specs.Stands.{PacketAt};
 
 use crate::carrying::{over_wire, within};
 use crate::stop::Stop;
+use net_laws::{End, Net};
 use process_packet::{Arrival, NoMemory, Routed, Underlay, route};
 use std::alloc::Global;
-use walk_laws::{End, Net};
 
 /// How many stops a walk has at most.
 const MOST_STOPS: usize = 128;

@@ -7,7 +7,7 @@ ghost use Rattle.packet_ledger.specs.Shown.{AddUp, HasGrown};
 ghost use Rattle.packet_ledger.specs.Share.{IsPosted, counts_of, new_share, posted_by};
 
 use crate::look::Look;
-use crate::router::Router;
+use crate::run_brand::RunBrand;
 use crate::share::Share;
 use crate::sums::{Sums, split_shares};
 use crate::tokens::{Cell, Token};
@@ -48,20 +48,20 @@ impl Blank {
 }
 
 /// The book of all that the shares of `N` posted.
-pub struct Book<N: Router> {
+pub struct Book<N: RunBrand> {
     cell: Cell,
     sums: Mutex<Sums<N>>,
     ghost named: { cell.table.shared.table_id ≡ N.table },
 }
 
 // Not derived: a derived drop is proved again in each crate that drops one.
-impl<N: Router> Drop for Book<N> {
+impl<N: RunBrand> Drop for Book<N> {
     fn drop(self) {
         let Book { cell: _, sums: _ } = self;
     }
 }
 
-impl<N: Router> Book<N> {
+impl<N: RunBrand> Book<N> {
     /// A book with nothing posted, and its shares, one for each worker, with nothing counted: from 0 to
     /// 65,536.
     pub fn new(

@@ -15,12 +15,12 @@
 mod amounts;
 mod book;
 mod look;
-mod router;
+mod run_brand;
 mod share;
 mod sums;
 mod tokens;
 
 pub use book::{Blank, Book};
 pub use look::Look;
-pub use router::Router;
+pub use run_brand::RunBrand;
 pub use share::Share;

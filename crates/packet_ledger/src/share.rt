@@ -6,7 +6,7 @@ ghost use Rattle.packet_ledger.specs.Amounts.{nothing};
 ghost use Rattle.packet_ledger.specs.Share.{HasRoom, MayRaise, counting, forwarded, with_answered, with_fate, with_received, with_sent};
 
 use crate::amounts::at_most;
-use crate::router::Router;
+use crate::run_brand::RunBrand;
 use crate::tokens::Token;
 use process_packet::{Cause, Totals};
 use std::marker::{Model, PhantomData};
@@ -19,7 +19,7 @@ pub(crate) const ALL_LEFT: u64 = u64::MAX;
 
 /// One worker's counts, and the sums of all that it ever posted into the book `N`.
 #[derive(Drop)]
-pub struct Share<N: Router> {
+pub struct Share<N: RunBrand> {
     pub(crate) counts: Totals,
     pub(crate) posted: Totals,
     // Each count can be raised by one at least this many times, so that most looks for room need not
@@ -31,7 +31,7 @@ pub struct Share<N: Router> {
     pub(crate) of: PhantomData<N>,
 }
 
-impl<N: Router> Model for Share<N> {
+impl<N: RunBrand> Model for Share<N> {
     ghost use Rattle.std.specs.Prelude.{◌≡◌, ◌^◌, ◌<◌, []};
     ghost use Rattle.crossbeam_utils.specs.Seq.{cell_view};
     ghost use Rattle.packet_ledger.specs.Amounts.{AtMost};
@@ -56,7 +56,7 @@ fn left_after(left: u64, n: u128) -> u64
     }
 }
 
-impl<N: Router> Share<N> {
+impl<N: RunBrand> Share<N> {
     /// Counts `n` more datagrams as received.
     pub fn received(&mut self, n: u128)
         requires { self.old.counts.received + n ≤ 2 ^ 100 }

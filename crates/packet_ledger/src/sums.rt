@@ -10,7 +10,7 @@ ghost use Rattle.packet_ledger.specs.Share.{MayPost, counts_of, emptied, new_sha
 
 use crate::amounts::{MOST, added, at_most, none};
 use crate::look::Look;
-use crate::router::Router;
+use crate::run_brand::RunBrand;
 use crate::share::{ALL_LEFT, Share};
 use crate::tokens::{Cell, Token, audit, give, show, take_in};
 use process_packet::Totals;
@@ -21,7 +21,7 @@ use std::sync::Wait;
 
 /// The sums of all that was posted, and what each share posted as received, and as sent or answered, with the
 /// token that says so. Contracts see all three.
-pub struct Sums<N: Router> {
+pub struct Sums<N: RunBrand> {
     totals: Totals,
     inputs: Vec<u128>,
     outputs: Vec<u128>,
@@ -29,7 +29,7 @@ pub struct Sums<N: Router> {
     of: PhantomData<N>,
 }
 
-impl<N: Router> Model for Sums<N> {
+impl<N: RunBrand> Model for Sums<N> {
     ghost use Rattle.std.specs.Prelude.{◌≡◌, ◌-◌, ◌^◌, ◌≤◌, length};
     ghost use Rattle.crossbeam_utils.specs.Seq.{cell_view};
     ghost use Rattle.packet_ledger.specs.Amounts.{AtMost, nothing};
@@ -44,7 +44,7 @@ impl<N: Router> Model for Sums<N> {
 }
 
 // Not derived: a derived drop is proved again in each crate that drops one.
-impl<N: Router> Drop for Sums<N> {
+impl<N: RunBrand> Drop for Sums<N> {
     fn drop(self) {
         let Sums {
             totals: _,
@@ -68,7 +68,7 @@ fn raise(row: &mut Vec<u128>, place: usize, n: u128)
     row[place] += n;
 }
 
-impl<N: Router> Sums<N> {
+impl<N: RunBrand> Sums<N> {
     /// With nothing posted, by these rows, one for each share, and the token that has all parts but those of the shares.
     pub fn new(cell: &Cell, token: Token, inputs: Vec<u128>, outputs: Vec<u128>) -> Sums<N>
         requires cell { cell.now.table.shared.table_id ≡ N.table }
@@ -220,7 +220,7 @@ impl<N: Router> Sums<N> {
 }
 
 /// The shares of a new book.
-pub fn split_shares<N: Router>(
+pub fn split_shares<N: RunBrand>(
     alloc: Global,
     cell: &Cell,
     token: &mut Token,
@@ -243,7 +243,7 @@ pub fn split_shares<N: Router>(
 }
 
 // A new share, whose row stands at a place, cut off the token of a book with nothing posted.
-fn split_share<N: Router>(cell: &Cell, token: &mut Token, place: usize) -> Share<N>
+fn split_share<N: RunBrand>(cell: &Cell, token: &mut Token, place: usize) -> Share<N>
     requires cell { cell.now.table.shared.table_id ≡ N.table }
     requires own { token.old.table_id ≡ N.table }
     requires token { let v = cell_view token.old in (v ≡ keeper v.parts nothing nothing no_rows) × (0 < v.parts) }
@@ -264,7 +264,7 @@ fn split_share<N: Router>(cell: &Cell, token: &mut Token, place: usize) -> Share
 }
 
 // Takes the tokens of the shares in, and adds up what they still hold.
-fn take_all<N: Router>(cell: &Cell, token: &mut Token, shares: Vec<Share<N>>) -> Totals
+fn take_all<N: RunBrand>(cell: &Cell, token: &mut Token, shares: Vec<Share<N>>) -> Totals
     requires cell { cell.now.table.shared.table_id ≡ N.table }
     requires own { token.old.table_id ≡ N.table }
     requires fresh { ((cell_view token.old).posted ≡ nothing) × (unlooked (cell_view token.old) ≡ cell_view token.old) }
@@ -283,7 +283,12 @@ fn take_all<N: Router>(cell: &Cell, token: &mut Token, shares: Vec<Share<N>>) ->
 }
 
 // Takes the token of one share in, and adds up what it still holds.
-fn add_share<N: Router>(cell: &Cell, token: &mut Token, share: Share<N>, counts: &Totals) -> Totals
+fn add_share<N: RunBrand>(
+    cell: &Cell,
+    token: &mut Token,
+    share: Share<N>,
+    counts: &Totals,
+) -> Totals
     requires cell { cell.now.table.shared.table_id ≡ N.table }
     requires own { token.old.table_id ≡ N.table }
     requires few { AtMost (2 ^ 117) counts.now }

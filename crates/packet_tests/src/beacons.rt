@@ -4,10 +4,10 @@
 
 use crate::walks::{answers, arrival, bytes_of, sends, sends_bytes, underlay, walked};
 use crate::wires::{end, wire};
+use net_laws::Net;
 use process_packet::Problem;
 use router_config::read_config;
 use std::process::Abort;
-use walk_laws::Net;
 
 const PARENT: &str =
     "version = 1\nisd_as = \"1-ff00:0:111\"\nkey = \"000102030405060708090a0b0c0d0e0f\"\n\

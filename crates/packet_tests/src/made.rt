@@ -6,11 +6,11 @@ ghost use Rattle.std.specs.Prelude.{◌≡◌, length};
 use crate::walks::{sends, underlay, walked};
 use cmac_core::Cmac;
 use hop_check::{beacon, chain};
+use net_laws::{End, Net, Wire, agrees};
 use path_fields::Hop;
 use process_packet::{Arrival, Config};
 use router_config::read_config;
 use std::process::Abort;
-use walk_laws::{End, Net, Wire, agrees};
 
 /// When the segments are made.
 const MADE_AT: u32 = 1694498816;

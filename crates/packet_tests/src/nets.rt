@@ -1,9 +1,9 @@
 //! Nets that agree, and nets that don't for one clause alone.
 
 use crate::wires::{end, wire};
+use net_laws::{End, Net, Wire, agrees};
 use router_config::read_config;
 use std::process::Abort;
-use walk_laws::{End, Net, Wire, agrees};
 
 /// Two routers of 1-ff00:0:110 and one of 1-ff00:0:111 below it: for each the lines of its configuration.
 const TOLD: [[&str; 8]; 3] = [

@@ -2,20 +2,20 @@
 //! hop fields' MACs are made by `beacon`, and are those that OpenSSL made; the reply is made by `answer`.
 
 ghost use Rattle.std.specs.Prelude.{◌≡◌, ◌<◌, IsTrue, IfOk, length};
-ghost use Rattle.walk_laws.specs.Net.{Agrees, net_of};
+ghost use Rattle.net_laws.specs.Net.{Agrees, net_of};
 
 use crate::hops::hop_between;
 use crate::made::push_hop;
 use crate::sound::is_sound;
 use cmac_core::Cmac;
 use hop_check::beacon;
+use net_laws::{End, Net, Wire, agrees};
 use net_walks::{Stop, walk};
 use process_packet::{Arrival, Ip, NoMemory, Problem, Routed, Underlay};
 use router_config::read_config;
 use scmp_answer::{Answered, answer};
 use std::alloc::Global;
 use std::process::Abort;
-use walk_laws::{End, Net, Wire, agrees};
 
 const FIRST: &str =
     "version = 1\nisd_as = \"1-ff00:0:111\"\nkey = \"000102030405060708090a0b0c0d0e0f\"\n\

@@ -2,7 +2,7 @@
 
 ghost use Rattle.std.specs.Prelude.{◌≡◌};
 
-use walk_laws::{End, Wire};
+use net_laws::{End, Wire};
 
 /// A link of the router of a number.
 pub fn end(router: usize, link: u16) -> End

@@ -17,8 +17,8 @@ use Rattle.process_packet.proofs.ConditionLemmas.{authentic_here, carries_mac, c
 use Rattle.process_packet.proofs.LawLemmas.{left_lawfully, told}
 use Rattle.process_packet.proofs.RowsPassed.{turned_is}
 use Rattle.process_packet.proofs.TurningLemmas.{turned_along, turned_hop, turned_stays}
-use Rattle.walk_laws.specs.Configured.{AreNumbered}
-use Rattle.walk_laws.specs.Net.{Agrees, Net}
+use Rattle.net_laws.specs.Configured.{AreNumbered}
+use Rattle.net_laws.specs.Net.{Agrees, Net}
 use Rattle.path_authorisation.specs.Sendings.{ComesFrom, IsOnLongPath, IsSending, Sending, arrival, at_entry, at_exit, left}
 use Rattle.path_authorisation.proofs.NextLemmas.{IsOverWire, IsWithin, over_wire, within}
 use Rattle.path_authorisation.proofs.WayLemmas.{authorised, elsewhere, next_packet, sent_by_link, state, whole}

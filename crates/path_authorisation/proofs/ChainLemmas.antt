@@ -4,9 +4,9 @@ use Rattle.std.proofs.lemmas.Bool.{ne_eqb}
 use Rattle.scion_packet.specs.Path.{InfoField}
 use Rattle.process_packet.specs.Chaining.{FollowsOn}
 use Rattle.process_packet.specs.PacketState.{PacketState, hop, info, is_along}
-use Rattle.walk_laws.specs.Configured.{AreNumbered}
-use Rattle.walk_laws.specs.Net.{Agrees, Net, Router}
-use Rattle.walk_laws.specs.PathSegments.{PathSegment}
+use Rattle.net_laws.specs.Configured.{AreNumbered}
+use Rattle.net_laws.specs.Net.{Agrees, Net, Router}
+use Rattle.net_laws.specs.PathSegments.{PathSegment}
 use Rattle.path_authorisation.specs.Beaconed.{AreAllBeaconed, IsAfter, IsMade, LooksAt, NoIdentifierCollides, NoMacIsForged}
 use Rattle.path_authorisation.specs.Chained.{AreChained, AreConsecutive, WalksGoAsBeaconed}
 use Rattle.path_authorisation.specs.Sendings.{IsOnItsWay, IsOnLongPath, IsSending, IsWalk, Sending, at_entry, at_exit}

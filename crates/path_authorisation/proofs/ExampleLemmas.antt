@@ -19,14 +19,14 @@ use Rattle.process_packet.specs.Network.{own_link}
 use Rattle.process_packet.specs.PacketState.{PacketState, hop, info}
 use Rattle.process_packet.proofs.PassingLemmas.{both_true}
 use Rattle.segment_switch.specs.declared.kind.LinkKind.TheVariants.{Child, Core}
-use Rattle.walk_laws.specs.Configured.{AreNumbered}
-use Rattle.walk_laws.specs.Example.{address, link_to}
-use Rattle.walk_laws.specs.Examples.{moment}
-use Rattle.walk_laws.specs.ExampleTurn.{descent, down, family, neighbour, one_child, other_child, over, parent, second_parent}
-use Rattle.walk_laws.specs.Net.{Router}
-use Rattle.walk_laws.specs.PathSegments.{IsBeaconed, PathSegment}
-use Rattle.walk_laws.specs.Stop.{IsCarried}
-use Rattle.walk_laws.proofs.ExampleDescent.{agrees, descent_is}
+use Rattle.net_laws.specs.Configured.{AreNumbered}
+use Rattle.net_laws.specs.Example.{address, link_to}
+use Rattle.net_laws.specs.Examples.{moment}
+use Rattle.net_laws.specs.ExampleTurn.{descent, down, family, neighbour, one_child, other_child, over, parent, second_parent}
+use Rattle.net_laws.specs.Net.{Router}
+use Rattle.net_laws.specs.PathSegments.{IsBeaconed, PathSegment}
+use Rattle.net_laws.specs.Stop.{IsCarried}
+use Rattle.net_laws.proofs.ExampleDescent.{agrees, descent_is}
 use Rattle.path_authorisation.specs.Beaconed.{AreAllBeaconed, IsAfter, IsMade, LooksAt, NoIdentifierCollides, identifier_at}
 use Rattle.path_authorisation.specs.Example.{PremiseIsMet, datagram, first_sending, from_host, last_sending, later_sendings, second_sending, third_sending}
 use Rattle.path_authorisation.specs.Sendings.{ComesFrom, IsSending, Sending, at_entry, at_exit, left}

@@ -4,10 +4,10 @@ use Rattle.hop_check.specs.Beaconing.{hop_at}
 use Rattle.hop_check.specs.Mac.{chain, mac6}
 use Rattle.scion_packet.specs.Path.{HopField, InfoField}
 use Rattle.process_packet.specs.Conditions.{CarriesMac}
-use Rattle.walk_laws.specs.Domain.{IsOf}
-use Rattle.walk_laws.specs.Net.{Net, Router, router_at}
-use Rattle.walk_laws.specs.PathSegments.{IsBeaconed, PathSegment, entry_at, fields_of, keys_of}
-use Rattle.walk_laws.proofs.HopsLemmas.{as_many, field_is, key_is}
+use Rattle.net_laws.specs.Domain.{IsOf}
+use Rattle.net_laws.specs.Net.{Net, Router, router_at}
+use Rattle.net_laws.specs.PathSegments.{IsBeaconed, PathSegment, entry_at, fields_of, keys_of}
+use Rattle.net_laws.proofs.HopsLemmas.{as_many, field_is, key_is}
 use Rattle.path_authorisation.specs.Beaconed.{IsAfter, IsEntry, identifier_at}
 
 -- a MAC takes of its fields these numbers alone

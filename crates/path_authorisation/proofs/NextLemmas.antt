@@ -3,12 +3,12 @@ use Rattle.std.proofs.Common.{◌≡◌, ◌≢◌, ◌≤◌, ℕ, Option, Some
 use Rattle.process_packet.specs.declared.neighbours.Link.{Link}
 use Rattle.process_packet.specs.declared.underlay.Underlay.{Underlay}
 use Rattle.process_packet.specs.Network.{own_link}
-use Rattle.walk_laws.specs.Configured.{AreNumbered}
-use Rattle.walk_laws.specs.Net.{Agrees, AreOfOneAS, Net, Router, end_at, opposite, router_at}
-use Rattle.walk_laws.specs.Stands.{PacketAt}
-use Rattle.walk_laws.specs.Stop.{IsCarried}
-use Rattle.walk_laws.proofs.LeavesLemmas.{same_router}
-use Rattle.walk_laws.proofs.NetLemmas.{IsWired, joined_ends}
+use Rattle.net_laws.specs.Configured.{AreNumbered}
+use Rattle.net_laws.specs.Net.{Agrees, AreOfOneAS, Net, Router, end_at, opposite, router_at}
+use Rattle.net_laws.specs.Stands.{PacketAt}
+use Rattle.net_laws.specs.Stop.{IsCarried}
+use Rattle.net_laws.proofs.LeavesLemmas.{same_router}
+use Rattle.net_laws.proofs.NetLemmas.{IsWired, joined_ends}
 
 -- The link by which it leaves one router is joined with the one by which it comes to the other.
 pub record IsOverWire (x : Router) (out : ℕ) (y : Router) (link : ℕ) : Type 0 where

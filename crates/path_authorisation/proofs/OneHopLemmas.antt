@@ -5,8 +5,8 @@ use Rattle.scion_packet.proofs.HeaderSpelled.{header_passes}
 use Rattle.scion_packet.proofs.OneHopLaws.{one_hop_both_pass}
 use Rattle.process_packet.specs.OneHopLaws.{IsOneHop}
 use Rattle.process_packet.proofs.OneHopByteLemmas.{all_enter, all_leave}
-use Rattle.walk_laws.specs.Configured.{AreNumbered}
-use Rattle.walk_laws.specs.Net.{Agrees, Net}
+use Rattle.net_laws.specs.Configured.{AreNumbered}
+use Rattle.net_laws.specs.Net.{Agrees, Net}
 use Rattle.path_authorisation.specs.OneHops.{EntersOnce, LeavesOnce, OneHopsCrossOneLink}
 use Rattle.path_authorisation.specs.Sendings.{ComesFrom, IsSending, Sending, arrival, left}
 use Rattle.path_authorisation.proofs.NextLemmas.{over_wire}

@@ -5,9 +5,9 @@ use Rattle.std.proofs.lemmas.Option.{same_Some}
 use Rattle.scion_packet.specs.Path.{HopField, InfoField, Place}
 use Rattle.process_packet.specs.Chaining.{FollowsOn, IsSameHop}
 use Rattle.process_packet.specs.PacketState.{PacketState, hop, info, is_along, is_last_of_segment}
-use Rattle.walk_laws.specs.Configured.{AreNumbered}
-use Rattle.walk_laws.specs.Net.{Agrees, AreOfOneAS, Net, Router}
-use Rattle.walk_laws.specs.PathSegments.{PathSegment}
+use Rattle.net_laws.specs.Configured.{AreNumbered}
+use Rattle.net_laws.specs.Net.{Agrees, AreOfOneAS, Net, Router}
+use Rattle.net_laws.specs.PathSegments.{PathSegment}
 use Rattle.path_authorisation.specs.Beaconed.{AreAllBeaconed, IsAfter, IsEntry, IsMade, LooksAt, NoIdentifierCollides, NoMacIsForged}
 use Rattle.path_authorisation.specs.Sendings.{ComesFrom, IsOnLongPath, IsSending, IsWalk, Sending, at_entry, at_exit}
 use Rattle.path_authorisation.specs.Stretches.{IsOneSegment, SegmentsAreBeaconed, StandsAgainst, StandsAlong}

@@ -6,7 +6,7 @@ use Rattle.process_packet.specs.declared.decision.Decision.TheVariants as decisi
 use Rattle.process_packet.specs.Decide.{scion_decide, scion_moved}
 use Rattle.process_packet.specs.OneHopLaws.{IsDecidedAsScion}
 use Rattle.process_packet.proofs.KindLemmas.{decided_as_scion, has_scion_path, other_kind}
-use Rattle.walk_laws.specs.Net.{Net}
+use Rattle.net_laws.specs.Net.{Net}
 use Rattle.path_authorisation.specs.Links.{LinksAreFew, crossed, links_crossed}
 use Rattle.path_authorisation.specs.Sendings.{ComesFrom, IsOnLongPath, IsSending, IsWalk, Sending, left}
 use Rattle.path_authorisation.proofs.CursorLemmas.{cursor_at, farther, left_below, whole}

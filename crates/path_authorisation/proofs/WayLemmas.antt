@@ -22,10 +22,10 @@ use Rattle.process_packet.proofs.ConditionLemmas.{came_by, is_here}
 use Rattle.process_packet.proofs.LawfulLemmas.{moved_from}
 use Rattle.process_packet.proofs.PassingLemmas.{both_true}
 use Rattle.process_packet.proofs.RowsPassed.{turned_is}
-use Rattle.walk_laws.specs.Configured.{AreNumbered}
-use Rattle.walk_laws.specs.Net.{Agrees, AreOfOneAS, Net, Router, opposite, router_at}
-use Rattle.walk_laws.proofs.LeavesLemmas.{same_router}
-use Rattle.walk_laws.proofs.NetLemmas.{ListsAt, listed_at}
+use Rattle.net_laws.specs.Configured.{AreNumbered}
+use Rattle.net_laws.specs.Net.{Agrees, AreOfOneAS, Net, Router, opposite, router_at}
+use Rattle.net_laws.proofs.LeavesLemmas.{same_router}
+use Rattle.net_laws.proofs.NetLemmas.{ListsAt, listed_at}
 use Rattle.path_authorisation.specs.Sendings.{ChangesSegment, ComesFrom, IsOnLongPath, IsSending, IsWalk, Sending, arrival, at_entry}
 use Rattle.path_authorisation.specs.Ways.{EntersBy, LeavesBy, MayComeLater, WalksAreValleyFree}
 use Rattle.path_authorisation.proofs.CursorLemmas as cursor

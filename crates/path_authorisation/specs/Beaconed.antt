@@ -5,9 +5,9 @@ use Rattle.hop_check.specs.Beaconing.{beta_at}
 use Rattle.scion_packet.specs.Path.{HopField, InfoField}
 use Rattle.process_packet.specs.Conditions.{CarriesMac}
 use Rattle.process_packet.specs.PacketState.{PacketState, hop, info}
-use Rattle.walk_laws.specs.Domain.{IsOf}
-use Rattle.walk_laws.specs.Net.{Net, Router}
-use Rattle.walk_laws.specs.PathSegments.{IsBeaconed, PathSegment, entry_at, fields_of}
+use Rattle.net_laws.specs.Domain.{IsOf}
+use Rattle.net_laws.specs.Net.{Net, Router}
+use Rattle.net_laws.specs.PathSegments.{IsBeaconed, PathSegment, entry_at, fields_of}
 use Rattle.path_authorisation.specs.Sendings.{Sending, at_entry, at_exit}
 
 -- ---- beaconed segments

@@ -3,9 +3,9 @@ use Rattle.std.specs.Prelude.{◌≡◌, ◌≢◌, ℕ, suc, true, false, List,
 use Rattle.std.specs.List.{slice_get}
 use Rattle.process_packet.specs.Conditions.{ComesInBy, GoesOutBy}
 use Rattle.process_packet.specs.PacketState.{PacketState, hop, info, is_along}
-use Rattle.walk_laws.specs.Configured.{AreNumbered}
-use Rattle.walk_laws.specs.Net.{Agrees, Net, Router}
-use Rattle.walk_laws.specs.PathSegments.{PathSegment}
+use Rattle.net_laws.specs.Configured.{AreNumbered}
+use Rattle.net_laws.specs.Net.{Agrees, Net, Router}
+use Rattle.net_laws.specs.PathSegments.{PathSegment}
 use Rattle.path_authorisation.specs.Beaconed.{AreAllBeaconed, IsEntry, IsMade, NoIdentifierCollides, NoMacIsForged, identifier_at}
 use Rattle.path_authorisation.specs.Sendings.{IsOnItsWay, IsOnLongPath, IsWalk, Sending, at_entry, at_exit}
 

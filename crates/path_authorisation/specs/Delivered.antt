@@ -5,8 +5,8 @@ use Rattle.process_packet.specs.Conditions.{IsAtPathEnd, IsHere}
 use Rattle.process_packet.specs.Hosts.{IsSentToHost}
 use Rattle.process_packet.specs.Laws.{IsAuthorised}
 use Rattle.process_packet.specs.PacketState.{arrives, hop, info, is_along}
-use Rattle.walk_laws.specs.Net.{Net}
-use Rattle.walk_laws.specs.PathSegments.{PathSegment, entry_at}
+use Rattle.net_laws.specs.Net.{Net}
+use Rattle.net_laws.specs.PathSegments.{PathSegment, entry_at}
 use Rattle.path_authorisation.specs.Beaconed.{IsMade, NoMacIsForged}
 use Rattle.path_authorisation.specs.Sendings.{IsOnLongPath, IsSending, Sending, at_entry}
 

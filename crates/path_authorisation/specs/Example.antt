@@ -4,11 +4,11 @@ use Rattle.process_packet.specs.declared.decision.Decision.TheVariants as decisi
 use Rattle.process_packet.specs.declared.underlay.Ip.TheVariants.{V4}
 use Rattle.process_packet.specs.declared.underlay.Underlay.{Underlay}
 use Rattle.process_packet.specs.Decide.{decide}
-use Rattle.walk_laws.specs.Configured.{AreNumbered}
-use Rattle.walk_laws.specs.Example.{address}
-use Rattle.walk_laws.specs.Examples.{moment}
-use Rattle.walk_laws.specs.ExampleTurn.{descent, family, neighbour, other_child, parent, second_parent}
-use Rattle.walk_laws.specs.Net.{Agrees, Router}
+use Rattle.net_laws.specs.Configured.{AreNumbered}
+use Rattle.net_laws.specs.Example.{address}
+use Rattle.net_laws.specs.Examples.{moment}
+use Rattle.net_laws.specs.ExampleTurn.{descent, family, neighbour, other_child, parent, second_parent}
+use Rattle.net_laws.specs.Net.{Agrees, Router}
 use Rattle.path_authorisation.specs.Beaconed.{AreAllBeaconed, NoIdentifierCollides, NoMacIsForged}
 use Rattle.path_authorisation.specs.Sendings.{IsOnLongPath, IsWalk, Sending}
 

@@ -1,7 +1,7 @@
 -- How many links between ASes a datagram crosses.
 use Rattle.std.specs.Prelude.{◌≤◌, ◌+◌, ℕ, List, [], ◌∷◌, Option, Some, None}
 use Rattle.process_packet.specs.declared.underlay.Underlay.{Underlay}
-use Rattle.walk_laws.specs.Net.{Net}
+use Rattle.net_laws.specs.Net.{Net}
 use Rattle.path_authorisation.specs.Sendings.{IsOnLongPath, IsWalk, Sending}
 
 -- what is sent to no address within the AS leaves by a link

@@ -2,8 +2,8 @@
 use Rattle.std.specs.Prelude.{◌≡◌, ◌≢◌, None}
 use Rattle.process_packet.specs.OneHopLaws.{EntersTo, IsOneHop, MayLeaveBy}
 use Rattle.process_packet.specs.OneHopState.{OneHopState, one_hop_arrives}
-use Rattle.walk_laws.specs.Configured.{AreNumbered}
-use Rattle.walk_laws.specs.Net.{Agrees, Net}
+use Rattle.net_laws.specs.Configured.{AreNumbered}
+use Rattle.net_laws.specs.Net.{Agrees, Net}
 use Rattle.path_authorisation.specs.Sendings.{ComesFrom, IsSending, Sending}
 
 abbrev pub one_hop_state : Sending → OneHopState

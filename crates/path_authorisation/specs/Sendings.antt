@@ -10,9 +10,9 @@ use Rattle.process_packet.specs.declared.underlay.Underlay.{Underlay}
 use Rattle.process_packet.specs.Chaining as chaining
 use Rattle.process_packet.specs.Decide.{decide, moved}
 use Rattle.process_packet.specs.PacketState.{PacketState}
-use Rattle.walk_laws.specs.Net.{Net, Router, router_at}
-use Rattle.walk_laws.specs.Stands.{PacketAt}
-use Rattle.walk_laws.specs.Stop.{IsCarried}
+use Rattle.net_laws.specs.Net.{Net, Router, router_at}
+use Rattle.net_laws.specs.Stands.{PacketAt}
+use Rattle.net_laws.specs.Stop.{IsCarried}
 
 -- A datagram that comes to a router by a link from an underlay address, at a moment, and that the router sends by this link, or on
 -- link 0 to this address within its AS.

@@ -2,9 +2,9 @@
 use Rattle.std.specs.Prelude.{◌≡◌, ◌+◌, ℕ, true, false, List, ◌∷◌, Contains, Some}
 use Rattle.std.specs.List.{slice_get}
 use Rattle.process_packet.specs.PacketState.{hop, info, is_along}
-use Rattle.walk_laws.specs.Configured.{AreNumbered}
-use Rattle.walk_laws.specs.Net.{Agrees, Net}
-use Rattle.walk_laws.specs.PathSegments.{PathSegment}
+use Rattle.net_laws.specs.Configured.{AreNumbered}
+use Rattle.net_laws.specs.Net.{Agrees, Net}
+use Rattle.net_laws.specs.PathSegments.{PathSegment}
 use Rattle.path_authorisation.specs.Beaconed.{AreAllBeaconed, IsEntry, NoIdentifierCollides, NoMacIsForged}
 use Rattle.path_authorisation.specs.Sendings.{IsOnLongPath, IsWalk, Sending, at_entry, at_exit}
 

@@ -7,8 +7,8 @@ use Rattle.segment_switch.specs.declared.kind.LinkKind.TheVariants.{Core, Parent
 use Rattle.process_packet.specs.declared.neighbours.Link.{Link}
 use Rattle.process_packet.specs.Conditions.{MayFollow}
 use Rattle.process_packet.specs.Network.{own_link}
-use Rattle.walk_laws.specs.Configured.{AreNumbered}
-use Rattle.walk_laws.specs.Net.{Agrees, Net}
+use Rattle.net_laws.specs.Configured.{AreNumbered}
+use Rattle.net_laws.specs.Net.{Agrees, Net}
 use Rattle.path_authorisation.specs.Sendings.{ChangesSegment, IsOnLongPath, IsWalk, Sending, at_entry}
 
 -- The datagram leaves by this link of the router.

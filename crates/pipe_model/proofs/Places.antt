@@ -13,11 +13,11 @@ use Rattle.order_laws.specs.Fate.{Fate}
 use Rattle.replay_laws.specs.World.{Hand, Empty, Got, Owes}
 use Rattle.router_rules.specs.Rules.{kinds}
 use Rattle.pipe_model.specs.Finding.{has_in_hand, has_in_pipe, is_among}
-use Rattle.pipe_parts.specs.Sent.{place_of_sent}
-use Rattle.pipe_parts.specs.Sent.{joined}
-use Rattle.pipe_parts.specs.Sent.{first}
+use Rattle.replay_state.specs.Sent.{place_of_sent}
+use Rattle.replay_state.specs.Sent.{joined}
+use Rattle.replay_state.specs.Sent.{first}
 use Rattle.router_rules.specs.declared.outgoing.Outgoing.{Outgoing as Left}
-use Rattle.pipe_parts.specs.declared.sent.Way.{Way}
+use Rattle.replay_state.specs.declared.sent.Way.{Way}
 
 pub first-append : {X : Type 0} (xs ys : List X) → first (xs ++ ys) ≡ option_or (first xs) (first ys)
 first-append [] ys = refl

@@ -15,8 +15,8 @@ use Rattle.process_packet.specs.declared.config.Config.{Config}
 use Rattle.router_rules.specs.Links.{link_count, link_index}
 use Rattle.router_rules.specs.Rules.{Arrives, kinds, rules}
 use Rattle.pipe_model.specs.Begun.{AreArrivals, AreFrom, AreNumbered, arriving, entry_of, sources_of}
-use Rattle.pipe_parts.specs.Arrivals.{arrived_in, source, source_entry, sources_from}
-use Rattle.pipe_steps.proofs.SourceLemmas.{length-sources_from}
+use Rattle.replay_state.specs.Arrivals.{arrived_in, source, source_entry, sources_from}
+use Rattle.replay_steps.proofs.SourceLemmas.{length-sources_from}
 use Rattle.pipe_model.specs.Headline.{IsReached}
 
 abbrev Lists : Type 0

@@ -18,8 +18,8 @@ use Rattle.router_rules.specs.Rules.{kinds, rules}
 use Rattle.pipe_model.specs.Begun.{arriving, sources_of}
 use Rattle.pipe_model.specs.Headline.{IsReached}
 use Rattle.pipe_model.specs.Pipeline.{Pipeline, ran, rules_in, skipped, stepped, with_world}
-use Rattle.pipe_steps.specs.Step.{step_in}
-use Rattle.pipe_steps.specs.declared.step.Step.{Step as Act}
+use Rattle.replay_steps.specs.Step.{step_in}
+use Rattle.replay_steps.specs.declared.step.Step.{Step as Act}
 
 -- ---- what arrives stays
 

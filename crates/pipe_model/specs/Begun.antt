@@ -12,7 +12,7 @@ use Rattle.process_packet.specs.declared.arrival.Arrival.{Arrival as Came}
 use Rattle.process_packet.specs.declared.config.Config.{Config}
 use Rattle.router_rules.specs.Links.{link_count, link_index}
 use Rattle.router_rules.specs.Rules.{kinds, rules}
-use Rattle.pipe_parts.specs.Arrivals.{sources_from}
+use Rattle.replay_state.specs.Arrivals.{sources_from}
 use Rattle.pipe_model.specs.Pipeline.{Pipeline}
 
 -- what arrives on each link, received or not: receivers' pipes keep it

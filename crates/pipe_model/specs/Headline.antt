@@ -23,7 +23,7 @@ use Rattle.router_rules.specs.Laws.{is_withheld}
 use Rattle.router_rules.specs.Rules.{Arrives, kinds, rules}
 use Rattle.pipe_model.specs.Begun.{arriving, start_of}
 use Rattle.pipe_model.specs.Pipeline.{Pipeline, ran}
-use Rattle.pipe_steps.specs.declared.step.Step.{Step}
+use Rattle.replay_steps.specs.declared.step.Step.{Step}
 
 -- Some steps led to the world from the one that it all began with: its pipes have the configured capacity, nothing was
 -- received, and what arrives is what the world tells of. It comes by the links that it is numbered on.

@@ -6,8 +6,8 @@ use Rattle.order_laws.specs.Rules.{Rules}
 use Rattle.replay_laws.specs.World.{World}
 use Rattle.process_packet.specs.declared.config.Config.{Config}
 use Rattle.router_rules.specs.Rules.{kinds, rules}
-use Rattle.pipe_steps.specs.Step.{step_in}
-use Rattle.pipe_steps.specs.declared.step.Step.{Step as Act}
+use Rattle.replay_steps.specs.Step.{step_in}
+use Rattle.replay_steps.specs.declared.step.Step.{Step as Act}
 
 pub record Pipeline : Type 0 where
   pub config : Config

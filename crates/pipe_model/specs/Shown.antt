@@ -11,7 +11,7 @@ use Rattle.process_packet.specs.declared.config.Config.{Config}
 use Rattle.process_packet.specs.declared.totals.Totals.{Totals}
 use Rattle.router_rules.specs.Links.{interface_at, link_index}
 use Rattle.router_rules.specs.Rules.{kinds}
-use Rattle.pipe_parts.specs.Sent.{first, left}
+use Rattle.replay_state.specs.Sent.{first, left}
 use Rattle.router_rules.specs.Causes.{booked_as}
 use Rattle.pipe_model.specs.Pipeline.{Pipeline, rules_in}
 use Rattle.router_rules.specs.declared.outgoing.Outgoing.{Outgoing as Left}

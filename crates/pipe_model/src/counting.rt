@@ -5,12 +5,12 @@ ghost use Rattle.order_laws.specs.Counts.{count, total};
 ghost use Rattle.replay_laws.specs.Pipe.{held};
 ghost use Rattle.replay_laws.specs.Totals.{packets_in_hand};
 ghost use Rattle.replay_laws.specs.World.{Empty};
-ghost use Rattle.pipe_parts.specs.Items.{hand_in, item_in};
+ghost use Rattle.replay_state.specs.Items.{hand_in, item_in};
 ghost use Rattle.pipe_model.specs.Shown.{is_number, numbers, totals_of};
 
-use pipe_parts::{Bytes, Entry, Fates, Hand, Hands, Pipe, Sent, is_packet, reason};
-use pipe_steps::State;
 use process_packet::{CAUSES, Config, Totals};
+use replay_state::{Bytes, Entry, Fates, Hand, Hands, Pipe, Sent, is_packet, reason};
+use replay_steps::State;
 use router_rules::{Outgoing, link_count};
 
 /// 1 with a packet in this hand, else 0.

@@ -7,9 +7,9 @@ mod place;
 mod world;
 
 pub use laws::arrivals_stay;
-pub use pipe_parts::Bytes;
-pub use pipe_steps::{Step, StepFault};
 pub use place::Place;
 pub use replay_places::Queue;
+pub use replay_state::Bytes;
+pub use replay_steps::{Step, StepFault};
 pub use router_rules::{Outgoing, Worker};
 pub use world::{NoMemoryAt, World};

@@ -7,15 +7,15 @@ ghost use Rattle.replay_laws.specs.Place.{place_at, in_fates, in_hands, in_pipes
 ghost use Rattle.replay_laws.specs.World.{Empty};
 ghost use Rattle.router_rules.specs.Links.{link_count};
 ghost use Rattle.router_rules.specs.Rules.{rules};
-ghost use Rattle.pipe_parts.specs.Items.{hand_in};
-ghost use Rattle.pipe_parts.specs.Sent.{first};
+ghost use Rattle.replay_state.specs.Items.{hand_in};
+ghost use Rattle.replay_state.specs.Sent.{first};
 ghost use Rattle.pipe_model.specs.Finding.{has_in_hand, is_among};
 ghost use Rattle.pipe_model.specs.Shown.{named_in, stands_in};
 
-use pipe_parts::{Entry, Fates, Hand, Hands, Pipe, Sent, is_named, reason};
-use pipe_steps::State;
 use process_packet::{Cause, Config};
 use replay_places::slow_seat;
+use replay_state::{Entry, Fates, Hand, Hands, Pipe, Sent, is_named, reason};
+use replay_steps::State;
 use router_rules::{Worker, interface_at, link_count};
 
 /// Where a packet, its problem or its answer is. A pipe is named by its consumer.

@@ -8,9 +8,9 @@ ghost use Rattle.pipe_model.specs.Shown.{place_of, sent_by, totals_of, waiting_o
 
 use crate::counting::{counts, in_hands, in_pipes};
 use crate::place::{Place, find};
-use pipe_parts::Bytes;
-use pipe_steps::{State, Step, StepFault, sources};
 use process_packet::{Arrival, Config, NoMemory, Totals};
+use replay_state::Bytes;
+use replay_steps::{State, Step, StepFault, sources};
 use router_rules::{Outgoing, causes_are_apart, link_count, link_index, rules_are_lawful};
 use std::alloc::Global;
 use std::marker::Model;

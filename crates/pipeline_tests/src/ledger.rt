@@ -1,6 +1,6 @@
 ghost use Rattle.std.specs.Prelude.{◌≡◌, ◌*◌, ◌≤◌};
 
-use packet_ledger::{Blank, Book, Router, Share};
+use packet_ledger::{Blank, Book, RunBrand, Share};
 use process_packet::{CAUSES, Cause, Totals};
 use std::alloc::Global;
 use std::marker::Brand;
@@ -19,7 +19,7 @@ const NOTHING: Totals = Totals {
 
 // One share counts three as received and is posted, the other two drops and is not. What the first
 // counts after its post, and the totals.
-fn two_shares<N: Router, R: Abort + Wait>(rt: &R, alloc: Global, blank: Blank) -> (Totals, Totals)
+fn two_shares<N: RunBrand, R: Abort + Wait>(rt: &R, alloc: Global, blank: Blank) -> (Totals, Totals)
     requires name { blank.table ≡ N.table }
     requires two { N.workers ≡ 2 }
 {
@@ -37,7 +37,7 @@ fn two_shares<N: Router, R: Abort + Wait>(rt: &R, alloc: Global, blank: Blank) -
 }
 
 // Counts a number of datagrams as received, where there is room.
-fn receive<N: Router>(share: &mut Share<N>, n: u32) {
+fn receive<N: RunBrand>(share: &mut Share<N>, n: u32) {
     for _ in 0..n {
         if share.has_room() {
             share.received(1);
@@ -45,7 +45,7 @@ fn receive<N: Router>(share: &mut Share<N>, n: u32) {
     }
 }
 
-fn drop_one<N: Router>(share: &mut Share<N>, cause: Cause) {
+fn drop_one<N: RunBrand>(share: &mut Share<N>, cause: Cause) {
     if share.has_room() {
         share.fate(cause);
     }
@@ -63,7 +63,7 @@ fn two_shares_closed(rt: HostRuntime) {
 }
 
 // Counts one of five kinds, where there is room.
-fn count_one<N: Router>(share: &mut Share<N>, kind: u32) {
+fn count_one<N: RunBrand>(share: &mut Share<N>, kind: u32) {
     if !share.has_room() {
         return;
     }
@@ -77,7 +77,12 @@ fn count_one<N: Router>(share: &mut Share<N>, kind: u32) {
 }
 
 // A share counts in turn, and is posted now and then.
-fn work<N: Router, R: Wait>(rt: &R, book: &Book<N>, mut share: Share<N>, rounds: u32) -> Share<N> {
+fn work<N: RunBrand, R: Wait>(
+    rt: &R,
+    book: &Book<N>,
+    mut share: Share<N>,
+    rounds: u32,
+) -> Share<N> {
     for i in 0..rounds {
         count_one(&mut share, i % 5);
         if i % 64 == 0 {
@@ -90,7 +95,7 @@ fn work<N: Router, R: Wait>(rt: &R, book: &Book<N>, mut share: Share<N>, rounds:
 // What two threads count and post beside each other: the totals, and what the shares say they forwarded.
 fn two_threads<N, R>(rt: R, alloc: Global, blank: Blank) -> (Totals, u128, u128)
 where
-    N: Router + Send + Sync + 'static,
+    N: RunBrand + Send + Sync + 'static,
     R: Abort + Threads + Wait + Copy + Send + 'static,
     requires name { blank.table ≡ N.table }
     requires two { N.workers ≡ 2 }
@@ -124,7 +129,7 @@ fn two_threads_closed(rt: HostRuntime) {
 }
 
 // A posted share says what it posted, and goes on from nothing.
-fn post_twice<N: Router, R: Abort + Wait>(rt: &R, alloc: Global, blank: Blank) -> (Totals, Totals)
+fn post_twice<N: RunBrand, R: Abort + Wait>(rt: &R, alloc: Global, blank: Blank) -> (Totals, Totals)
     requires name { blank.table ≡ N.table }
     requires one { N.workers ≡ 1 }
 {
@@ -149,7 +154,7 @@ fn posted_twice(rt: HostRuntime) {
 }
 
 // The totals of a book with no share.
-fn no_share<N: Router, R: Abort + Wait>(rt: &R, alloc: Global, blank: Blank) -> Totals
+fn no_share<N: RunBrand, R: Abort + Wait>(rt: &R, alloc: Global, blank: Blank) -> Totals
     requires name { blank.table ≡ N.table }
     requires none { N.workers ≡ 0 }
 {

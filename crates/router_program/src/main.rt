@@ -5,14 +5,14 @@
 
 ghost use Rattle.std.specs.Prelude.{◌≡◌, true, false};
 
-use check_command::check_config;
+use cli_check::check_config;
+use cli_faults::Fault;
 use cli_io::{ArrivalContext, usual_source};
 use cli_replay::replay_lines;
 use cli_route::route_lines;
-use command_words::{Order, WordsFault, read_words};
+use cli_words::{Subcommand, WordsFault, read_words};
 use process_packet::{Config, Underlay};
 use router_config::read_config;
-use router_faults::Fault;
 use std::io::BufReader;
 use std::net::Net;
 use std::process::ExitCode;
@@ -144,15 +144,15 @@ where
         Err(fault) => return Err(Fault::Words(fault)),
     };
     match order {
-        Order::Route {
+        Subcommand::Route {
             config,
             link,
             now,
             from,
         } => route_datagrams(rt, config, link, now, from),
-        Order::Replay { config } => replay_schedule(rt, config),
-        Order::Run { config } => run_over_sockets(rt, config),
-        Order::Check {
+        Subcommand::Replay { config } => replay_schedule(rt, config),
+        Subcommand::Run { config } => run_over_sockets(rt, config),
+        Subcommand::Check {
             config,
             strict,
             bind,

@@ -4,7 +4,7 @@ use Rattle.std.proofs.lemmas.List.{map-id}
 use Rattle.process_packet.specs.declared.config.Config.{Config}
 use Rattle.order_laws.specs.Item.{Arrival, Outgoing}
 use Rattle.ruled_pipe.specs.Pipe.{Shape, IsTakerOf}
-use Rattle.router_laws.specs.Returned.{AllAt}
+use Rattle.worker_order.specs.Returned.{AllAt}
 use Rattle.router_rules.specs.Links.{interface_at, link_count}
 use Rattle.router_rules.specs.Rules.{kinds}
 use Rattle.router_stages.specs.Answering.{Answering}
@@ -12,17 +12,17 @@ use Rattle.router_stages.specs.Forwarding.{Forwarding}
 use Rattle.router_stages.specs.Receiving.{Receiving}
 use Rattle.router_stages.specs.Working.{Working}
 use Rattle.ruled_pipe.specs.Producer.{Sender}
-use Rattle.pipe_ends.specs.Rows.{fresh_ends}
-use Rattle.pipe_ends.proofs.ShuttingLemmas.{new_open, shutters_of_new}
-use Rattle.router_pipes.proofs.Fresh.{fresh_are}
-use Rattle.router_pipes.specs.Filling.{AreFilled}
-use Rattle.stage_parts.specs.Outlets.{are_used}
-use Rattle.pipe_ends.specs.Shutting.{AreNew, Shutting}
+use Rattle.run_ends.specs.Rows.{fresh_ends}
+use Rattle.run_ends.proofs.ShuttingLemmas.{new_open, shutters_of_new}
+use Rattle.run_pipes.proofs.Fresh.{fresh_are}
+use Rattle.run_pipes.specs.Filling.{AreFilled}
+use Rattle.worker_parts.specs.Outlets.{are_used}
+use Rattle.run_ends.specs.Shutting.{AreNew, Shutting}
 use Rattle.router_run.specs.Wiring.{AreForwarding, AreWorking, IsCrew, IsReceivingAt}
-use Rattle.router_pipes.specs.Piping.{Piping}
-use Rattle.router_pipes.specs.Pipes.{Keepers, piping_of}
-use Rattle.wired_workers.specs.Kits.{Entry, Exit, IsEnteringAt, IsLeavingAt, IsWorkingAt, IsWorkingThere, forwarding_over, forwardings, paired, receiving_over, receivings}
-use Rattle.router_run.specs.WorkerParts.{AreWorkerParts}
+use Rattle.run_pipes.specs.Piping.{Piping}
+use Rattle.run_pipes.specs.Pipes.{Keepers, piping_of}
+use Rattle.run_workers.specs.Kits.{Entry, Exit, IsEnteringAt, IsLeavingAt, IsWorkingAt, IsWorkingThere, forwarding_over, forwardings, paired, receiving_over, receivings}
+use Rattle.router_run.specs.BareWorkers.{AreBareWorkers}
 use Rattle.router_run.specs.Run.{Run}
 use Rattle.run_report.specs.Crew.{crew_of}
 use Rattle.router_run.specs.Starting.{Begins, GivesBack, IsOneALink}
@@ -106,7 +106,7 @@ module _ {G : Type 0} (c : Config) (p : Piping) where
       )
 
 pub is_crew : {S G K : Type 0} (failed : K → ℕ) (c : Config) (k : Keepers) (es : List Entry) (ws : List (Working G)) (a : Answering) (xs : List Exit) (hs : List (Shutting (Outgoing kinds))) (gs : List (Sender (List ℕ))) (ss : List S) (ks : List K)
-    → AreWorkerParts c k es ws a xs hs gs → length ss ≡ link_count c → length ks ≡ link_count c → IsCrew c (piping_of k) (crew_of (receivings es ss) ws (a ∷ []) (forwardings failed xs ks) hs)
+    → AreBareWorkers c k es ws a xs hs gs → length ss ≡ link_count c → length ks ≡ link_count c → IsCrew c (piping_of k) (crew_of (receivings es ss) ws (a ∷ []) (forwardings failed xs ks) hs)
 is_crew failed c k es ws a xs hs gs ss ks m sources sinks =
     let p = piping_of k in
     let entries : length es ≡ link_count c = let q = m.entering.count in omega arith in
@@ -158,5 +158,5 @@ starts {S = S} {K = K} failed a b ss ks (Err f) e one ran = subst (λ (x : Start
 
 -- what stands ready, by another name of its configuration
 pub parts_as : {G : Type 0} (a b : Config) (k : Keepers) (es : List Entry) (ws : List (Working G)) (s : Answering) (xs : List Exit) (hs : List (Shutting (Outgoing kinds))) (gs : List (Sender (List ℕ)))
-    → a ≡ b → AreWorkerParts b k es ws s xs hs gs → AreWorkerParts a k es ws s xs hs gs
-parts_as a b k es ws s xs hs gs e are = subst (λ (c : Config). AreWorkerParts c k es ws s xs hs gs) (sym e) are
+    → a ≡ b → AreBareWorkers b k es ws s xs hs gs → AreBareWorkers a k es ws s xs hs gs
+parts_as a b k es ws s xs hs gs e are = subst (λ (c : Config). AreBareWorkers c k es ws s xs hs gs) (sym e) are

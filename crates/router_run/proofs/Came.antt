@@ -8,35 +8,35 @@ use Rattle.process_packet.specs.declared.config.Config.{Config}
 use Rattle.ruled_pipe.specs.Producer.{Sender}
 use Rattle.ruled_pipe.specs.Consumer.{Taker}
 use Rattle.ruled_pipe.specs.Pipe.{Shape}
-use Rattle.stage_laws.specs.Ends.{pushes}
-use Rattle.stage_laws.specs.Gathers.{TookAll}
-use Rattle.stage_laws.specs.Workers.{IsColumn}
+use Rattle.worker_laws.specs.Ends.{pushes}
+use Rattle.worker_laws.specs.Gathers.{TookAll}
+use Rattle.worker_laws.specs.Workers.{IsColumn}
 use Rattle.router_rules.specs.Links.{interface_at, link_count}
 use Rattle.router_rules.specs.Rules.{kinds}
-use Rattle.router_laws.specs.Heard.{Heard}
-use Rattle.router_laws.specs.Keeping.{IsReceiving, IsWorking, IsAnswering}
-use Rattle.router_laws.specs.Returned.{AllAt, ReceiverBack, ProcessorBack, ForwarderBack, Returned, HaveReturned, IsBackReceiver, IsBackProcessor, IsBackForwarder, link_rows}
+use Rattle.worker_order.specs.Heard.{Heard}
+use Rattle.worker_order.specs.Keeping.{IsReceiving, IsWorking, IsAnswering}
+use Rattle.worker_order.specs.Returned.{AllAt, ReceiverBack, ProcessorBack, ForwarderBack, Returned, HaveReturned, IsBackReceiver, IsBackProcessor, IsBackForwarder, link_rows}
 use Rattle.router_stages.specs.Answering.{Answering}
 use Rattle.router_stages.specs.Forwarding.{Forwarding}
 use Rattle.router_stages.specs.Receiving.{Receiving}
 use Rattle.router_stages.specs.Working.{Working}
-use Rattle.stage_parts.specs.Outlets.{are_used, senders}
-use Rattle.stage_parts.specs.Told.{Told, told_of}
-use Rattle.router_pipes.specs.Handing.{NeverClosed}
-use Rattle.pipe_ends.specs.Shutting.{EachEnds, Shutting, closed_at, shutter_ends}
-use Rattle.stage_parts.specs.Back.{AreBack}
+use Rattle.worker_parts.specs.Outlets.{are_used, senders}
+use Rattle.worker_parts.specs.Told.{Told, told_of}
+use Rattle.run_pipes.specs.Handing.{NeverClosed}
+use Rattle.run_ends.specs.Shutting.{EachEnds, Shutting, closed_at, shutter_ends}
+use Rattle.worker_parts.specs.Back.{AreBack}
 use Rattle.router_stages.specs.SameReceiver.{IsSameReceiver, ReceiverEnded}
 use Rattle.router_stages.specs.SameProcessor.{IsSameProcessor, ProcessorEnded}
 use Rattle.router_stages.specs.SameSlowPath.{IsSameSlowPath, SlowPathEnded}
 use Rattle.router_run.proofs.Devices.{any}
 use Rattle.router_run.specs.Wiring.{AreAnswering, AreForwarding, AreWorking, IsCrew, IsReceivingAt}
 use Rattle.run_report.specs.Crew.{Crew, inner_rows, inner_takers, middle_row, outer_rows, takers_of}
-use Rattle.wired_workers.specs.Kits.{IsAnsweringAt, IsWorkingAt}
-use Rattle.router_pipes.specs.Piping.{Piping}
+use Rattle.run_workers.specs.Kits.{IsAnsweringAt, IsWorkingAt}
+use Rattle.run_pipes.specs.Piping.{Piping}
 use Rattle.router_run.specs.Back.{IsBack, HasSettled, back_of, forwarder_back, processor_back, receiver_back}
 use Rattle.run_report.specs.Parting.{HasKept}
-use Rattle.pipe_ends.proofs.SettledLemmas.{column_of}
-use Rattle.router_pipes.proofs.ClosingLemmas.{shutters_long}
+use Rattle.run_ends.proofs.SettledLemmas.{column_of}
+use Rattle.run_pipes.proofs.ClosingLemmas.{shutters_long}
 use Rattle.router_run.proofs.Ends.{ends_long, same_ends}
 use Rattle.router_run.proofs.Rows.{back_long, working_long}
 

@@ -8,11 +8,11 @@ use Rattle.router_stages.specs.Answering.{Answering}
 use Rattle.router_stages.specs.Forwarding.{Forwarding}
 use Rattle.router_stages.specs.Receiving.{Receiving}
 use Rattle.router_stages.specs.Working.{Working}
-use Rattle.stage_parts.specs.Outlets.{are_used}
-use Rattle.pipe_ends.specs.Shutting.{Shutting}
-use Rattle.router_pipes.specs.Closing.{StayEnds}
-use Rattle.router_pipes.specs.Piping.{Piping}
-use Rattle.router_pipes.proofs.ClosingLemmas.{shutters_long, used_at}
+use Rattle.worker_parts.specs.Outlets.{are_used}
+use Rattle.run_ends.specs.Shutting.{Shutting}
+use Rattle.run_pipes.specs.Closing.{StayEnds}
+use Rattle.run_pipes.specs.Piping.{Piping}
+use Rattle.run_pipes.proofs.ClosingLemmas.{shutters_long, used_at}
 use Rattle.router_run.specs.Wiring.{IsCrew}
 use Rattle.run_report.specs.Crew.{crew_of}
 

@@ -10,15 +10,15 @@ use Rattle.router_rules.specs.Rules.{kinds}
 use Rattle.router_stages.specs.Answering.{Answering}
 use Rattle.router_stages.specs.Receiving.{Receiving}
 use Rattle.router_stages.specs.Working.{Working}
-use Rattle.stage_parts.specs.Outlets.{are_used, senders}
-use Rattle.pipe_ends.specs.Finished.{AreRows, HaveFinished}
-use Rattle.pipe_ends.specs.Settled.{AreTaken, HasTaken, IsEnded}
-use Rattle.pipe_ends.specs.Shutting.{shutter_ends}
-use Rattle.stage_parts.specs.Back.{AreBack}
+use Rattle.worker_parts.specs.Outlets.{are_used, senders}
+use Rattle.run_ends.specs.Finished.{AreRows, HaveFinished}
+use Rattle.run_ends.specs.Settled.{AreTaken, HasTaken, IsEnded}
+use Rattle.run_ends.specs.Shutting.{shutter_ends}
+use Rattle.worker_parts.specs.Back.{AreBack}
 use Rattle.router_run.proofs.Devices.{any}
 use Rattle.router_run.specs.Wiring.{AreAnswering, IsCrew}
 use Rattle.run_report.specs.Crew.{Crew, inner_rows, inner_takers, middle_row, middle_takers, outer_rows, takers_of}
-use Rattle.router_pipes.specs.Piping.{Piping}
+use Rattle.run_pipes.specs.Piping.{Piping}
 use Rattle.run_report.specs.Parting.{HasMarked}
 use Rattle.router_run.specs.Back.{IsBack}
 use Rattle.router_run.proofs.Rows.{A, P, R, back_long, inner_ended, inner_taken, last_ended, middle_ends, outer_ended, outer_taken, slow_taken, working_long}

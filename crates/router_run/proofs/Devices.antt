@@ -4,7 +4,7 @@ use Rattle.router_stages.specs.Receiving.{Receiving}
 use Rattle.router_stages.specs.SameForwarder.{IsSameForwarder}
 use Rattle.router_stages.specs.SameReceiver.{IsSameReceiver, ReceiverEnded}
 use Rattle.run_report.specs.Crew.{Crew}
-use Rattle.stage_parts.specs.Back.{AreBack}
+use Rattle.worker_parts.specs.Back.{AreBack}
 use Rattle.std.proofs.Common.{List, [], ◌∷◌}
 use Rattle.router_run.specs.Back.{IsBack}
 

@@ -2,11 +2,11 @@
 use Rattle.std.proofs.Common.{◌≡◌, ℕ, zero, suc, Bool, true, false, List, [], ◌∷◌, length, refl, sym, ◌∙◌, ap, subst, arith}
 use Rattle.ruled_pipe.specs.Producer.{Sender}
 use Rattle.ruled_pipe.specs.Pipe.{Shape, IsEndOf}
-use Rattle.stage_parts.specs.Outlets.{AreFresh, senders}
-use Rattle.stage_parts.specs.Outlet.{Offering}
-use Rattle.pipe_ends.specs.Rows.{AreEndsOf}
-use Rattle.router_pipes.specs.Handing.{AreSpared}
-use Rattle.stage_parts.specs.Same.{AreSameEnds, IsSameEnd, IsSameWhere}
+use Rattle.worker_parts.specs.Outlets.{AreFresh, senders}
+use Rattle.worker_parts.specs.Outlet.{Offering}
+use Rattle.run_ends.specs.Rows.{AreEndsOf}
+use Rattle.run_pipes.specs.Handing.{AreSpared}
+use Rattle.worker_parts.specs.Same.{AreSameEnds, IsSameEnd, IsSameWhere}
 
 module _ {T : Type 0} where
   pub same_end : (s : Shape) (p : ℕ) (a b : Sender T) → IsSameEnd a b → IsEndOf s p a → IsEndOf s p b

@@ -9,32 +9,32 @@ use Rattle.process_packet.specs.declared.totals.Totals.{Totals}
 use Rattle.ruled_pipe.specs.Producer.{Sender}
 use Rattle.ruled_pipe.specs.Consumer.{Taker}
 use Rattle.ruled_pipe.specs.Pipe.{Shape, shape_of}
-use Rattle.router_laws.specs.Heard.{Heard}
-use Rattle.router_laws.specs.Returned.{ForwarderBack, ProcessorBack, ReceiverBack, RunsAsTold, shares_of}
-use Rattle.router_laws.specs.Totals.{totals_of}
+use Rattle.worker_order.specs.Heard.{Heard}
+use Rattle.worker_order.specs.Returned.{ForwarderBack, ProcessorBack, ReceiverBack, RunsAsTold, shares_of}
+use Rattle.worker_order.specs.Totals.{totals_of}
 use Rattle.router_rules.specs.Links.{link_count}
 use Rattle.router_rules.specs.Rules.{kinds}
 use Rattle.router_stages.specs.Answering.{Answering}
 use Rattle.router_stages.specs.Forwarding.{Forwarding}
 use Rattle.router_stages.specs.Receiving.{EndsQuietly, Receiving}
 use Rattle.router_stages.specs.SameReceiver.{IsSameReceiver, ReceiverEnded}
-use Rattle.stage_parts.specs.Back.{AreBack}
+use Rattle.worker_parts.specs.Back.{AreBack}
 use Rattle.order_laws.specs.Deeds.{Each}
 use Rattle.router_stages.specs.Working.{Working}
-use Rattle.stage_parts.specs.Told.{Told, told_of}
-use Rattle.pipe_ends.specs.Finished.{AreDone, AreReady, HaveFinished, IsReady}
-use Rattle.pipe_ends.specs.Settled.{AreSettled, IsDone, IsEnded}
-use Rattle.pipe_ends.proofs.TakenBackLemmas.{all_ready, settled_rows}
+use Rattle.worker_parts.specs.Told.{Told, told_of}
+use Rattle.run_ends.specs.Finished.{AreDone, AreReady, HaveFinished, IsReady}
+use Rattle.run_ends.specs.Settled.{AreSettled, IsDone, IsEnded}
+use Rattle.run_ends.proofs.TakenBackLemmas.{all_ready, settled_rows}
 use Rattle.run_report.specs.Parting.{HasEnds, HasKept, IsParted, shares_in}
 use Rattle.router_run.proofs.Devices.{any, without_devices}
 use Rattle.router_run.specs.Back.{HasSettled, back_of, forwarder_back, processor_back, receiver_back, IsBack}
 use Rattle.run_report.specs.Crew.{Crew, inner_rows, inner_takers, middle_row, middle_takers, outer_rows, takers_of}
 use Rattle.router_run.specs.Wiring.{IsCrew}
-use Rattle.router_pipes.specs.Piping.{Piping}
-use Rattle.router_pipes.specs.Pipes.{HaveBack, Keepers}
+use Rattle.run_pipes.specs.Piping.{Piping}
+use Rattle.run_pipes.specs.Pipes.{HaveBack, Keepers}
 use Rattle.run_report.specs.Room.{HaveSpace, Space}
-use Rattle.router_run.specs.Run.{HasRun, Run}
-use Rattle.router_run.specs.WorkerParts.{AllMade}
+use Rattle.router_run.specs.Run.{RouterHasRun, Run}
+use Rattle.router_run.specs.BareWorkers.{AllMade}
 use Rattle.router_run.proofs.Came.{crews_return, map_twice}
 use Rattle.router_run.proofs.Crews.{PipesEnd}
 use Rattle.router_run.proofs.Promised.{promised}
@@ -118,7 +118,7 @@ module _ {S G K : Type 0} where
     pub has_run : (same_source : S → S → Type 0) (same_sink : K → K → Type 0) → RunsAsTold Told → (r : Run S G K) (w : Crew S G K) (a : Answering) (totals : Totals) (shares : List Held) (sent : List ℕ) (sources : List S) (sinks : List K)
         → IsCrew r.config r.pipes r.crew → IsBack same_source same_sink r.crew w → HasKept told shown failed w → HasSettled r.pipes w → w.slow ≡ a ∷ []
         → shares ≡ shares_in w → totals ≡ totals_of shares → sent ≡ map (λ (f : Forwarding K). forwarded f.side.share) w.forwarders → sources ≡ map (λ (x : Receiving S). x.source) w.receivers → sinks ≡ map (λ (f : Forwarding K). f.side.sink) w.forwarders
-        → HasRun told shown failed same_source same_sink r totals sent sources sinks
+        → RouterHasRun told shown failed same_source same_sink r totals sent sources sinks
     has_run same_source same_sink runs r w a totals shares sent sources sinks is back kept set one same counts sends reads writes =
         let plain = without_devices same_source same_sink r.crew w back in
         let ran = runs told_of r.config (back_of told shown failed w a) _ (crews_return told shown failed r.config r.pipes r.crew w a is plain kept set one) in
@@ -140,8 +140,8 @@ module _ {S G K : Type 0} where
 -- ---- a running router, seen as its parts
 
 module _ {S G K : Type 0} (told : S → Option (List Heard)) (shown : K → Option (List Told)) (failed : K → ℕ) (same_source : S → S → Type 0) (same_sink : K → K → Type 0) where
-  pub run_as : (q r : Run S G K) (totals : Totals) (sent : List ℕ) (sources : List S) (sinks : List K) → q ≡ r → HasRun told shown failed same_source same_sink q totals sent sources sinks → HasRun told shown failed same_source same_sink r totals sent sources sinks
-  run_as q r totals sent sources sinks e ran = subst (λ (x : Run S G K). HasRun told shown failed same_source same_sink x totals sent sources sinks) e ran
+  pub run_as : (q r : Run S G K) (totals : Totals) (sent : List ℕ) (sources : List S) (sinks : List K) → q ≡ r → RouterHasRun told shown failed same_source same_sink q totals sent sources sinks → RouterHasRun told shown failed same_source same_sink r totals sent sources sinks
+  run_as q r totals sent sources sinks e ran = subst (λ (x : Run S G K). RouterHasRun told shown failed same_source same_sink x totals sent sources sinks) e ran
 
 -- ---- what stands in a running router, by another name of its configuration
 

@@ -7,9 +7,9 @@ use Rattle.order_laws.specs.Fate.{Fate}
 use Rattle.order_laws.proofs.Stages.{each_map}
 use Rattle.process_packet.specs.declared.config.Config.{Config}
 use Rattle.process_packet.specs.declared.totals.Totals.{Totals}
-use Rattle.router_laws.specs.Heard.{Heard, TellsOf}
-use Rattle.router_laws.specs.Returned as returned
-use Rattle.router_laws.specs.Totals.{totals_of}
+use Rattle.worker_order.specs.Heard.{Heard, TellsOf}
+use Rattle.worker_order.specs.Returned as returned
+use Rattle.worker_order.specs.Totals.{totals_of}
 use Rattle.router_rules.specs.Links.{interface_at}
 use Rattle.router_rules.specs.Rules.{kinds}
 use Rattle.router_stages.specs.Answering.{Answering}
@@ -17,9 +17,9 @@ use Rattle.router_stages.specs.Forwarding.{Forwarding}
 use Rattle.router_stages.specs.Receiving.{Receiving}
 use Rattle.run_promises.specs.Promises.{KeepsPromises}
 use Rattle.run_promises.proofs.Promises.{closed_as, promises_are_kept}
-use Rattle.stage_laws.proofs.Composed.{map_get}
-use Rattle.stage_parts.specs.Told.{Told, told_of}
-use Rattle.pipe_ends.specs.Shutting.{EachEnds, Shutting, closed_at}
+use Rattle.worker_laws.proofs.Composed.{map_get}
+use Rattle.worker_parts.specs.Told.{Told, told_of}
+use Rattle.run_ends.specs.Shutting.{EachEnds, Shutting, closed_at}
 use Rattle.run_report.specs.Crew.{Crew}
 use Rattle.router_run.specs.Back.{back_of, forwarder_back, receiver_back}
 use Rattle.router_run.specs.Promises.{KeepsItsPromises}
@@ -35,7 +35,7 @@ same_closed (s ∷ ss) (t ∷ ts) e (suc j) = same_closed ss ts e.1 j
 
 module _ {S G K : Type 0} (told : S → Option (List Heard)) (shown : K → Option (List Told)) (failed : K → ℕ) where
   pub promised : (c : Config) (w : Crew S G K) (a : Answering) (old : List (Shutting _)) (totals : Totals) (sent : List ℕ) (sources : List S) (sinks : List K)
-      → returned.HasRun told_of c (back_of told shown failed w a) (closed_at w.shutters) → EachEnds old w.shutters
+      → returned.WorkersHaveRun told_of c (back_of told shown failed w a) (closed_at w.shutters) → EachEnds old w.shutters
       → totals ≡ totals_of (returned.shares_of (back_of told shown failed w a)) → sent ≡ map (λ (f : Forwarding K). forwarded f.side.share) w.forwarders
       → sources ≡ map (λ (x : Receiving S). x.source) w.receivers → sinks ≡ map (λ (f : Forwarding K). f.side.sink) w.forwarders
       → KeepsItsPromises told shown c (closed_at old) totals sent sources sinks

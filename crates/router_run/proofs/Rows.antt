@@ -9,34 +9,34 @@ use Rattle.ruled_pipe.specs.Pipe.{Shape, IsEndOf, IsTakerOf}
 use Rattle.ruled_pipe.specs.Gathered.{ends_in}
 use Rattle.router_rules.specs.Links.{has_two_bands}
 use Rattle.router_rules.specs.Rules.{kinds}
-use Rattle.router_laws.specs.Returned.{AllAt}
+use Rattle.worker_order.specs.Returned.{AllAt}
 use Rattle.router_stages.specs.Answering.{Answering}
 use Rattle.router_stages.specs.Forwarding.{Forwarding, ForwarderEnded}
 use Rattle.router_stages.specs.Receiving.{Receiving}
 use Rattle.router_stages.specs.Working.{Working}
-use Rattle.stage_parts.specs.Outlet.{IsMarked}
-use Rattle.stage_parts.specs.Outlets.{are_used, senders}
-use Rattle.stage_parts.specs.Outlets as outlets
-use Rattle.router_pipes.specs.Handing.{AreMarked, AreSpared}
-use Rattle.pipe_ends.specs.Rows.{AreFor}
-use Rattle.pipe_ends.specs.Finished.{AreRows}
-use Rattle.pipe_ends.specs.Settled.{AreFinished, AreOfPipe, AreTaken, HasTaken, IsFinal}
-use Rattle.pipe_ends.specs.Shutting.{AreMarking, AreShutters, EachEnds, Shutting, shutter_ends}
-use Rattle.stage_parts.specs.Back.{AreBack}
-use Rattle.stage_parts.specs.Same.{AreSameEnds, IsSameTaker}
+use Rattle.worker_parts.specs.Outlet.{IsMarked}
+use Rattle.worker_parts.specs.Outlets.{are_used, senders}
+use Rattle.worker_parts.specs.Outlets as outlets
+use Rattle.run_pipes.specs.Handing.{AreMarked, AreSpared}
+use Rattle.run_ends.specs.Rows.{AreFor}
+use Rattle.run_ends.specs.Finished.{AreRows}
+use Rattle.run_ends.specs.Settled.{AreFinished, AreOfPipe, AreTaken, HasTaken, IsFinal}
+use Rattle.run_ends.specs.Shutting.{AreMarking, AreShutters, EachEnds, Shutting, shutter_ends}
+use Rattle.worker_parts.specs.Back.{AreBack}
+use Rattle.worker_parts.specs.Same.{AreSameEnds, IsSameTaker}
 use Rattle.router_stages.specs.SameReceiver.{IsSameReceiver, ReceiverEnded}
 use Rattle.router_stages.specs.SameProcessor.{IsSameProcessor, ProcessorEnded}
 use Rattle.router_stages.specs.SameSlowPath.{IsSameSlowPath, SlowPathEnded}
 use Rattle.router_stages.specs.SameForwarder.{IsSameForwarder}
 use Rattle.router_run.proofs.Devices.{any}
 use Rattle.router_run.specs.Wiring.{IsReceivingAt, AreWorking, AreAnswering, IsForwardingAt, AreForwarding}
-use Rattle.router_pipes.specs.Piping.{Piping}
-use Rattle.wired_workers.specs.Kits.{IsWorkingAt, IsAnsweringAt}
+use Rattle.run_pipes.specs.Piping.{Piping}
+use Rattle.run_workers.specs.Kits.{IsWorkingAt, IsAnsweringAt}
 use Rattle.run_report.specs.Crew.{takers_of}
 use Rattle.router_run.proofs.Ends.{same_ends, spared}
-use Rattle.pipe_ends.proofs.ShuttingLemmas.{shutters_finish}
-use Rattle.router_pipes.proofs.HandingLemmas.{finishes}
-use Rattle.stage_parts.proofs.UsedLemmas.{used_high}
+use Rattle.run_ends.proofs.ShuttingLemmas.{shutters_finish}
+use Rattle.run_pipes.proofs.HandingLemmas.{finishes}
+use Rattle.worker_parts.proofs.UsedLemmas.{used_high}
 
 module _ {X Y : Type 0} where
   pub back_long : (R : X → Y → Type 0) (xs : List X) (ys : List Y) → AreBack R xs ys → length ys ≡ length xs

@@ -3,23 +3,23 @@ use Rattle.std.proofs.Common.{◌≡◌, ℕ, suc, ◌+◌, Bool, List, [], ◌�
 use Rattle.order_laws.specs.Deeds.{Each}
 use Rattle.process_packet.specs.declared.config.Config.{Config}
 use Rattle.ruled_pipe.specs.Pipe.{Shape, IsEndOf}
-use Rattle.router_laws.specs.Returned.{AllAt}
+use Rattle.worker_order.specs.Returned.{AllAt}
 use Rattle.router_rules.specs.Links.{link_count}
 use Rattle.router_stages.specs.Answering.{Answering}
 use Rattle.router_stages.specs.Receiving.{Receiving}
 use Rattle.router_stages.specs.Working.{Working}
-use Rattle.stage_parts.specs.Outlets.{are_used, senders}
-use Rattle.stage_parts.specs.Back.{AreBack}
+use Rattle.worker_parts.specs.Outlets.{are_used, senders}
+use Rattle.worker_parts.specs.Back.{AreBack}
 use Rattle.router_stages.specs.SameReceiver.{IsSameReceiver, ReceiverEnded}
 use Rattle.router_stages.specs.SameProcessor.{IsSameProcessor, ProcessorEnded}
 use Rattle.router_stages.specs.SameSlowPath.{IsSameSlowPath, SlowPathEnded}
 use Rattle.router_run.proofs.Devices.{any}
 use Rattle.router_run.specs.Wiring.{AreAnswering, AreWorking, IsCrew, IsReceivingAt}
 use Rattle.run_report.specs.Crew.{Crew}
-use Rattle.router_pipes.specs.Piping.{Piping}
+use Rattle.run_pipes.specs.Piping.{Piping}
 use Rattle.router_run.specs.Back.{IsBack}
-use Rattle.pipe_ends.specs.Rows.{AreEndsOf}
-use Rattle.pipe_ends.specs.Shutting.{AreShutters, EachEnds, Shutting, shutter_ends}
+use Rattle.run_ends.specs.Rows.{AreEndsOf}
+use Rattle.run_ends.specs.Shutting.{AreShutters, EachEnds, Shutting, shutter_ends}
 use Rattle.router_run.proofs.Came.{forwarding_long}
 use Rattle.router_run.proofs.Ends.{same_end, same_ends}
 use Rattle.router_run.proofs.Rows.{back_long, working_long}

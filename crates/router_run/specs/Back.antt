@@ -3,19 +3,19 @@ use Rattle.std.specs.Prelude.{◌≡◌, ℕ, List, [], ◌∷◌, map, Option}
 use Rattle.order_laws.specs.Settled.{SlowPathRequest}
 use Rattle.ruled_pipe.specs.Consumer.{Taker}
 use Rattle.router_rules.specs.Rules.{kinds}
-use Rattle.router_laws.specs.Heard.{Heard}
-use Rattle.router_laws.specs.Returned.{ReceiverBack, ProcessorBack, SlowBack, ForwarderBack, Returned}
+use Rattle.worker_order.specs.Heard.{Heard}
+use Rattle.worker_order.specs.Returned.{ReceiverBack, ProcessorBack, SlowBack, ForwarderBack, Returned}
 use Rattle.router_stages.specs.Answering.{Answering}
 use Rattle.router_stages.specs.Forwarding.{Forwarding, ForwarderEnded}
 use Rattle.router_stages.specs.Receiving.{Receiving}
 use Rattle.router_stages.specs.Working.{Working}
-use Rattle.stage_parts.specs.Outlets.{senders}
-use Rattle.stage_parts.specs.Told.{Told}
-use Rattle.pipe_ends.specs.Settled.{AreSettled, IsDone}
-use Rattle.pipe_ends.specs.Shutting.{shutter_ends, EachEnds}
+use Rattle.worker_parts.specs.Outlets.{senders}
+use Rattle.worker_parts.specs.Told.{Told}
+use Rattle.run_ends.specs.Settled.{AreSettled, IsDone}
+use Rattle.run_ends.specs.Shutting.{shutter_ends, EachEnds}
 use Rattle.run_report.specs.Crew.{Crew, inner_rows, inner_takers, middle_row, middle_takers, outer_rows, takers_of}
-use Rattle.router_pipes.specs.Piping.{Piping}
-use Rattle.stage_parts.specs.Back.{AreBack}
+use Rattle.run_pipes.specs.Piping.{Piping}
+use Rattle.worker_parts.specs.Back.{AreBack}
 use Rattle.router_stages.specs.SameReceiver.{IsSameReceiver, ReceiverEnded}
 use Rattle.router_stages.specs.SameProcessor.{IsSameProcessor, ProcessorEnded}
 use Rattle.router_stages.specs.SameSlowPath.{IsSameSlowPath, SlowPathEnded}

@@ -1,4 +1,4 @@
-pub mod WorkerParts
+pub mod BareWorkers
 pub mod Wiring
 pub mod Back
 pub mod Promises

@@ -4,12 +4,12 @@ use Rattle.order_laws.specs.Counts.{count}
 use Rattle.order_laws.specs.Item.{Arrival}
 use Rattle.process_packet.specs.declared.config.Config.{Config}
 use Rattle.process_packet.specs.declared.totals.Totals.{Totals}
-use Rattle.router_laws.specs.Heard.{Heard, TellsOf}
+use Rattle.worker_order.specs.Heard.{Heard, TellsOf}
 use Rattle.router_rules.specs.Links.{interface_at}
 use Rattle.router_rules.specs.Rules.{kinds}
 use Rattle.run_promises.specs.Promises.{KeepsPromises}
-use Rattle.stage_laws.specs.Forwards.{Handed}
-use Rattle.stage_parts.specs.Told.{Told, told_of}
+use Rattle.worker_laws.specs.Forwards.{Handed}
+use Rattle.worker_parts.specs.Told.{Told, told_of}
 
 module _ {S K : Type 0} (told : S → Option (List Heard)) (shown : K → Option (List Told)) where
   -- Order, one place for each packet, a reason for each drop, exact totals (`KeepsPromises`): of what each source recorded, what

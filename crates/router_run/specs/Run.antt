@@ -3,18 +3,18 @@ use Rattle.std.specs.Prelude.{◌≡◌, ℕ, List, [], ◌∷◌, map, Option}
 use Rattle.packet_ledger.specs.Share.{forwarded}
 use Rattle.process_packet.specs.declared.config.Config.{Config}
 use Rattle.process_packet.specs.declared.totals.Totals.{Totals}
-use Rattle.router_laws.specs.Heard.{Heard}
-use Rattle.router_laws.specs.Returned as returned
-use Rattle.router_laws.specs.Totals.{totals_of}
+use Rattle.worker_order.specs.Heard.{Heard}
+use Rattle.worker_order.specs.Returned as returned
+use Rattle.worker_order.specs.Totals.{totals_of}
 use Rattle.router_stages.specs.Answering.{Answering}
 use Rattle.router_stages.specs.Forwarding.{Forwarding}
 use Rattle.router_stages.specs.Receiving.{EndsQuietly, Receiving}
 use Rattle.ruled_pipe.specs.Producer.{Sender}
 use Rattle.order_laws.specs.Deeds.{Each}
-use Rattle.stage_parts.specs.Told.{Told, told_of}
-use Rattle.pipe_ends.specs.Shutting.{closed_at}
+use Rattle.worker_parts.specs.Told.{Told, told_of}
+use Rattle.run_ends.specs.Shutting.{closed_at}
 use Rattle.run_report.specs.Crew.{Crew}
-use Rattle.router_pipes.specs.Piping.{Piping}
+use Rattle.run_pipes.specs.Piping.{Piping}
 use Rattle.router_run.specs.Back.{IsBack, HasSettled, back_of}
 use Rattle.router_run.specs.Promises.{KeepsItsPromises}
 
@@ -39,7 +39,7 @@ pub record IsSameRun {S G K : Type 0} (old new : Run S G K) : Type 0 where
 module _ {S G K : Type 0} (told : S → Option (List Heard)) (shown : K → Option (List Told)) (failed : K → ℕ) (same_source : S → S → Type 0) (same_sink : K → K → Type 0) where
   -- Its workers came back, each the same over the same device, and ended, and what they did is what the running theorem says. The report has their totals,
   -- what each sink took, and the sources and sinks, in the order of the links.
-  pub record HasRun (r : Run S G K) (totals : Totals) (sent : List ℕ) (sources : List S) (sinks : List K) : Type 0 where
+  pub record RouterHasRun (r : Run S G K) (totals : Totals) (sent : List ℕ) (sources : List S) (sinks : List K) : Type 0 where
     -- to be read aloud; what follows is finer
     pub promises : KeepsItsPromises told shown r.config (closed_at r.crew.shutters) totals sent sources sinks
     pub crew : Crew S G K
@@ -49,7 +49,7 @@ module _ {S G K : Type 0} (told : S → Option (List Heard)) (shown : K → Opti
     pub settled : HasSettled r.pipes crew
     -- each source that tells was asked to an answer that is no datagram, or gave 2^56 datagrams
     pub asked : Each (λ (w : Receiving S). EndsQuietly w.number (told w.source)) crew.receivers
-    pub ran : returned.HasRun told_of r.config (back_of told shown failed crew slow) (closed_at crew.shutters)
+    pub ran : returned.WorkersHaveRun told_of r.config (back_of told shown failed crew slow) (closed_at crew.shutters)
     pub totals_are : totals ≡ totals_of (returned.shares_of (back_of told shown failed crew slow))
     pub sent_are : sent ≡ map (λ (f : Forwarding K). forwarded f.side.share) crew.forwarders
     pub sources_are : sources ≡ map (λ (w : Receiving S). w.source) crew.receivers

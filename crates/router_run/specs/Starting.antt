@@ -4,10 +4,10 @@ use Rattle.process_packet.specs.declared.config.Config.{Config}
 use Rattle.router_stages.specs.Forwarding.{Forwarding}
 use Rattle.router_stages.specs.Receiving.{Receiving}
 use Rattle.router_rules.specs.Links.{link_count}
-use Rattle.stage_parts.specs.Outlets.{are_used}
-use Rattle.pipe_ends.specs.Rows.{fresh_ends}
-use Rattle.pipe_ends.specs.Shutting.{AreNew}
-use Rattle.router_pipes.specs.Filling.{AreFilled}
+use Rattle.worker_parts.specs.Outlets.{are_used}
+use Rattle.run_ends.specs.Rows.{fresh_ends}
+use Rattle.run_ends.specs.Shutting.{AreNew}
+use Rattle.run_pipes.specs.Filling.{AreFilled}
 use Rattle.router_run.specs.Run.{Run}
 use Rattle.router_run.specs.Wiring.{IsCrew}
 use Rattle.router_run.specs.declared.fault.StartFault.{StartFault}

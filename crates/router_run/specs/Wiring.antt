@@ -1,19 +1,19 @@
 -- A router's workers over their pipes, as they begin.
 use Rattle.std.specs.Prelude.{◌≡◌, ℕ, List, [], ◌∷◌, ◌+◌, length}
 use Rattle.process_packet.specs.declared.config.Config.{Config}
-use Rattle.router_laws.specs.Returned.{AllAt}
+use Rattle.worker_order.specs.Returned.{AllAt}
 use Rattle.router_stages.specs.Answering.{Answering}
 use Rattle.router_stages.specs.Forwarding.{Forwarding}
 use Rattle.router_stages.specs.Receiving.{Receiving}
 use Rattle.router_stages.specs.Working.{Working}
-use Rattle.stage_parts.specs.Outlets.{senders, are_used}
-use Rattle.pipe_ends.specs.Shutting.{AreUnended, AreShutters}
+use Rattle.worker_parts.specs.Outlets.{senders, are_used}
+use Rattle.run_ends.specs.Shutting.{AreUnended, AreShutters}
 use Rattle.run_report.specs.Crew.{Crew}
-use Rattle.router_pipes.specs.Piping.{Piping, IsPiping, IsTakerThere}
+use Rattle.run_pipes.specs.Piping.{Piping, IsPiping, IsTakerThere}
 use Rattle.ruled_pipe.specs.Pipe.{Shape, IsTakerOf}
 use Rattle.router_rules.specs.Links.{interface_at, link_count}
-use Rattle.pipe_ends.specs.Rows.{AreEndsOf, fresh_ends}
-use Rattle.wired_workers.specs.Kits.{IsAnsweringAt, IsWorkingAt}
+use Rattle.run_ends.specs.Rows.{AreEndsOf, fresh_ends}
+use Rattle.run_workers.specs.Kits.{IsAnsweringAt, IsWorkingAt}
 
 module _ {S : Type 0} where
   -- the receiver of a link has the producers of its number of the processors' pipes, and takes from the link's pipe of free buffers

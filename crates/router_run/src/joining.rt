@@ -1,22 +1,22 @@
 //! The workers stopped and joined.
 
-ghost use Rattle.pipe_ends.specs.Shutting.{AreUnended, EachEnds};
+ghost use Rattle.run_ends.specs.Shutting.{AreUnended, EachEnds};
 ghost use Rattle.router_run.specs.Back.{IsBack};
 ghost use Rattle.run_report.specs.Crew.{crew_of};
 
 use crate::threads::Threaded;
 use packet_ledger::Book;
-use pipe_ends::{Shutter, mark_all};
-use router_pipes::{Controller, notify_all};
+use run_ends::{Shutter, mark_all};
+use run_pipes::{Controller, notify_all};
 use run_report::Joined;
-use stage_parts::{EgressPacket, Gate, Router, Sink, Source};
 use std::rt::Clock;
 use std::sync::Wait;
 use std::thread::Threads;
-use worker_threads::{Orders, join_all};
+use worker_parts::{EgressPacket, Gate, RunBrand, Sink, Source};
+use worker_threads::{ThreadControl, join_all};
 
 // Marks the ends of the controller's pipes, and wakes the forwarders.
-fn marked<N: Router, R: Wait>(rt: &R, controller: Controller<N>) -> Vec<Shutter<EgressPacket<N>>>
+fn marked<N: RunBrand, R: Wait>(rt: &R, controller: Controller<N>) -> Vec<Shutter<EgressPacket<N>>>
     requires unmarked { AreUnended controller.shutters.items }
     ensures { EachEnds controller.shutters.items result.items }
 {
@@ -33,12 +33,12 @@ fn marked<N: Router, R: Wait>(rt: &R, controller: Controller<N>) -> Vec<Shutter<
 /// Stops the workers and joins them.
 pub fn join_workers<N, S, K, G, R>(
     rt: &R,
-    orders: &Orders<Book<N>>,
+    control: &ThreadControl<Book<N>>,
     controller: Controller<N>,
     threads: Threaded<N, S, K, G>,
 ) -> Joined<N, S, K, G>
 where
-    N: Router,
+    N: RunBrand,
     S: Source,
     K: Sink,
     G: Gate,
@@ -52,7 +52,7 @@ where
         slow,
         forwarders,
     } = threads;
-    orders.stop();
+    control.stop();
     let receivers = join_all(rt, receivers);
     let processors = join_all(rt, processors);
     let slow = join_all(rt, slow);

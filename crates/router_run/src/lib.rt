@@ -2,15 +2,15 @@
 //! socket, file or clock of its own.
 #![tactic(auto)]
 
+mod bare_workers;
 mod fault;
 mod joining;
 mod preparing;
 mod running;
 mod teams;
 mod threads;
-mod worker_parts;
 
 pub use fault::StartFault;
-pub use router_pipes::CloseFault;
+pub use run_pipes::CloseFault;
 pub use run_report::Report;
 pub use running::{Running, start};

@@ -3,33 +3,33 @@
 ghost use Rattle.std.specs.Prelude.{◌≡◌, ◌+◌, ◌*◌, ◌≤◌, IfOk, Some};
 ghost use Rattle.std.specs.Arc.{arc_value};
 ghost use Rattle.router_rules.specs.Links.{link_count};
-ghost use Rattle.wired_workers.specs.Shares.{AreNewShares};
+ghost use Rattle.run_workers.specs.Shares.{AreNewShares};
 ghost use Rattle.router_run.specs.Teams.{AreTeamsFor};
 ghost use Rattle.run_report.specs.Room.{HaveSpace};
-ghost use Rattle.router_run.specs.WorkerParts.{AreWorkerParts};
+ghost use Rattle.router_run.specs.BareWorkers.{AreBareWorkers};
 
+use crate::bare_workers::{BareWorkers, make_all};
 use crate::teams::{Teams, teams_for};
-use crate::worker_parts::{WorkerParts, make_all};
 use packet_ledger::{Blank, Book, Share};
 use process_packet::Config;
-use router_pipes::events_for;
 use router_rules::{Shared, link_count};
+use run_pipes::events_for;
 use run_report::{Space, space_for};
-use stage_parts::{Gate, Router, Stage, all_three};
+use run_workers::Common;
 use std::alloc::{AllocError, Global};
 use std::sync::atomic::AtomicU64;
 use std::sync::{Arc, Wait};
-use wired_workers::Common;
-use worker_threads::{HOLD, Orders};
+use worker_parts::{Gate, RunBrand, Stage, all_three};
+use worker_threads::{HOLD, ThreadControl};
 
-/// What a run stands on: what its workers share, and the orders of their threads, with the book.
+/// What a run stands on: what its workers share, and the control of their threads, with the book.
 #[derive(Drop)]
-pub struct Base<N: Router> {
+pub struct Base<N: RunBrand> {
     pub common: Common,
-    pub orders: Orders<Book<N>>,
+    pub control: ThreadControl<Book<N>>,
 }
 
-fn book_for<N: Router>(
+fn book_for<N: RunBrand>(
     alloc: Global,
     blank: Blank,
     links: usize,
@@ -44,13 +44,13 @@ fn book_for<N: Router>(
     Ok(made)
 }
 
-// The orders that the threads hold at, and the shares of the book.
-fn orders_for<N: Router>(
+// The control that the threads hold at, and the shares of the book.
+fn orders_for<N: RunBrand>(
     alloc: Global,
     blank: Blank,
     links: usize,
     processors: usize,
-) -> Result<(Orders<Book<N>>, Vec<Share<N>>), AllocError>
+) -> Result<(ThreadControl<Book<N>>, Vec<Share<N>>), AllocError>
     requires name { blank.table ≡ N.table }
     requires few { (links ≤ 33) × (processors ≤ 16) }
     requires workers { N.workers ≡ 2 * links + processors + 1 }
@@ -59,10 +59,10 @@ fn orders_for<N: Router>(
     let word = Arc::new(alloc, AtomicU64::new(HOLD))?;
     let (book, shares) = book_for(alloc, blank, links, processors)?;
     let book = Arc::new(alloc, book)?;
-    Ok((Orders::new(word, book), shares))
+    Ok((ThreadControl::new(word, book), shares))
 }
 
-// What all workers share, over the word of their orders.
+// What all workers share, over the word of their control.
 fn common_for(
     alloc: Global,
     config: Config,
@@ -82,7 +82,7 @@ fn common_for(
     })
 }
 
-fn base_for<N: Router>(
+fn base_for<N: RunBrand>(
     alloc: Global,
     blank: Blank,
     config: Config,
@@ -96,16 +96,16 @@ fn base_for<N: Router>(
     ensures shares { IfOk result (λ b. AreNewShares (2 * link_count config + config.processors + 1) b.1.items) }
 {
     let processors = usize::from(config.processors);
-    let (orders, shares) = orders_for(alloc, blank, links, processors)?;
-    let common = common_for(alloc, config, &orders.word, links, processors)?;
-    Ok((Base { common, orders }, shares))
+    let (control, shares) = orders_for(alloc, blank, links, processors)?;
+    let common = common_for(alloc, config, &control.word, links, processors)?;
+    Ok((Base { common, control }, shares))
 }
 
 /// All that is ready, for workers of any four kinds over sources `S` and sinks `K`.
 #[derive(Drop)]
 pub struct Prepared<N, G, V, W, X, Y, S, K>
 where
-    N: Router,
+    N: RunBrand,
     G: Gate,
     V: Stage,
     W: Stage,
@@ -113,7 +113,7 @@ where
     Y: Stage,
 {
     pub base: Base<N>,
-    pub worker_parts: WorkerParts<N, G>,
+    pub bare_workers: BareWorkers<N, G>,
     pub teams: Teams<Book<N>, V, W, X, Y>,
     pub space: Space<N, S, K>,
 }
@@ -127,7 +127,7 @@ pub fn prepare<N, G, V, W, X, Y, S, K, R>(
     gate: G,
 ) -> Result<Prepared<N, G, V, W, X, Y, S, K>, AllocError>
 where
-    N: Router,
+    N: RunBrand,
     G: Gate + Drop,
     V: Stage + Drop,
     W: Stage + Drop,
@@ -140,21 +140,21 @@ where
     requires config { N.config ≡ Some config }
     requires workers { N.workers ≡ 2 * link_count config + config.processors + 1 }
     ensures shared { IfOk result (λ p. (arc_value p.base.common.shared).config ≡ config) }
-    ensures worker_parts { IfOk result (λ p. AreWorkerParts config p.worker_parts.pipes p.worker_parts.receivers.items p.worker_parts.processors.items p.worker_parts.slow p.worker_parts.forwarders.items p.worker_parts.shutters.items p.worker_parts.fillers.items) }
+    ensures bare_workers { IfOk result (λ p. AreBareWorkers config p.bare_workers.pipes p.bare_workers.receivers.items p.bare_workers.processors.items p.bare_workers.slow p.bare_workers.forwarders.items p.bare_workers.shutters.items p.bare_workers.fillers.items) }
     ensures teams { IfOk result (λ p. AreTeamsFor (link_count config) config.processors p.teams.receivers p.teams.processors p.teams.slow p.teams.forwarders) }
     ensures space { IfOk result (λ p. HaveSpace (link_count config) config.processors p.space) }
 {
     let links = link_count(&config);
     let processors = usize::from(config.processors);
     let (base, shares) = base_for(alloc, blank, config, links)?;
-    let worker_parts = make_all(rt, alloc, &base.common, gate, shares);
+    let bare_workers = make_all(rt, alloc, &base.common, gate, shares);
     let events = &base.common.events;
-    let teams = teams_for(alloc, &base.orders, events, links, processors);
+    let teams = teams_for(alloc, &base.control, events, links, processors);
     let space = space_for(alloc, links, processors);
-    let (worker_parts, teams, space) = all_three(worker_parts, teams, space)?;
+    let (bare_workers, teams, space) = all_three(bare_workers, teams, space)?;
     Ok(Prepared {
         base,
-        worker_parts,
+        bare_workers,
         teams,
         space,
     })

@@ -3,48 +3,48 @@
 ghost use Rattle.std.specs.Prelude.{◌≡◌, ◌+◌, ◌*◌, ◌∷◌, MatchBool, MatchResult, Some, [], length};
 ghost use Rattle.std.specs.Arc.{arc_value};
 ghost use Rattle.order_laws.specs.Deeds.{Each};
-ghost use Rattle.router_laws.specs.Heard.{ToldNothing};
+ghost use Rattle.worker_order.specs.Heard.{ToldNothing};
 ghost use Rattle.router_rules.specs.Links.{link_count};
-ghost use Rattle.router_pipes.specs.Closing.{Closing};
-ghost use Rattle.router_run.specs.Run.{HasRun, IsSameRun};
-ghost use Rattle.router_run.specs.WorkerParts.{AreWorkerParts};
+ghost use Rattle.run_pipes.specs.Closing.{Closing};
+ghost use Rattle.router_run.specs.Run.{RouterHasRun, IsSameRun};
+ghost use Rattle.router_run.specs.BareWorkers.{AreBareWorkers};
 ghost use Rattle.router_run.specs.Teams.{AreTeamsFor};
 ghost use Rattle.run_report.specs.Room.{HaveSpace};
 ghost use Rattle.router_run.specs.Starting.{Begins, GivesBack, IsOneALink};
 
+use crate::bare_workers::BareWorkers;
 use crate::fault::StartFault;
 use crate::joining::join_workers;
 use crate::preparing::{Base, Prepared, prepare};
 use crate::threads::{Threaded, give_up_all, start_front, start_rear};
-use crate::worker_parts::WorkerParts;
 use packet_ledger::{Blank, Book};
 use process_packet::Config;
-use router_pipes::{CloseFault, Controller, Events, Pipes};
 use router_rules::{causes_are_apart, link_count, links_stand_in_order, rules_are_lawful};
 use router_stages::{Forwarder, Processor, Receiver, SlowPath};
 use ruled_pipe::Producer;
+use run_pipes::{CloseFault, Controller, Events, Pipes};
 use run_report::{Report, Space, part_all, report_of};
-use stage_parts::{Buffer, Event, Gate, Router, Sink, Source};
+use run_workers::Common;
 use std::alloc::Global;
 use std::marker::Model;
 use std::rt::Clock;
 use std::sync::Wait;
 use std::thread::Threads;
-use wired_workers::Common;
-use worker_threads::Orders;
+use worker_parts::{Buffer, Event, Gate, RunBrand, Sink, Source};
+use worker_threads::ThreadControl;
 
 /// A running router. It has no `Drop`: it can only be finished. Contracts see its configuration, its pipes,
 /// the ends that filled those of free buffers, and its workers and the controller's ends as they began.
 pub struct Running<N, S, K, G, R>
 where
-    N: Router,
+    N: RunBrand,
     S: Source,
     K: Sink,
     G: Gate,
 {
     rt: R,
     controller: Controller<N>,
-    orders: Orders<Book<N>>,
+    control: ThreadControl<Book<N>>,
     threads: Threaded<N, S, K, G>,
     pipes: Pipes<N>,
     fillers: Vec<Producer<Buffer>>,
@@ -53,7 +53,7 @@ where
 
 impl<N, S, K, G, R> Model for Running<N, S, K, G, R>
 where
-    N: Router,
+    N: RunBrand,
     S: Source,
     K: Sink,
     G: Gate,
@@ -62,10 +62,10 @@ where
     ghost use Rattle.std.specs.Arc.{arc_value};
     ghost use Rattle.router_rules.specs.Links.{link_count};
     ghost use Rattle.router_run.specs.Wiring.{IsCrew};
-    ghost use Rattle.router_pipes.specs.Pipes.{piping_of};
+    ghost use Rattle.run_pipes.specs.Pipes.{piping_of};
     ghost use Rattle.run_report.specs.Room.{HaveSpace};
     ghost use Rattle.router_run.specs.Run.{Run};
-    ghost use Rattle.router_run.specs.WorkerParts.{AllMade};
+    ghost use Rattle.router_run.specs.BareWorkers.{AllMade};
     ghost use Rattle.run_report.specs.Crew.{crew_of};
 
     ghost Value = { Run S G K };
@@ -95,7 +95,7 @@ pub fn start<N, S, K, G, R>(
     gate: G,
 ) -> Result<Running<N, S, K, G, R>, StartFault<S, K>>
 where
-    N: Router + Send + Sync + 'static,
+    N: RunBrand + Send + Sync + 'static,
     S: Source + Send + Drop + 'static,
     K: Sink + Send + Drop + 'static,
     G: Gate + Send + Sync + Drop + 'static,
@@ -129,12 +129,12 @@ fn run<N, S, K, G, R>(
     sinks: Vec<K>,
 ) -> Result<Running<N, S, K, G, R>, StartFault<S, K>>
 where
-    N: Router + Send + Sync + 'static,
+    N: RunBrand + Send + Sync + 'static,
     S: Source + Send + Drop + 'static,
     K: Sink + Send + Drop + 'static,
     G: Gate + Send + Sync + Drop + 'static,
     R: Threads + Wait + Clock + Copy + Send + 'static,
-    requires worker_parts { AreWorkerParts (arc_value prepared.base.common.shared).config prepared.worker_parts.pipes prepared.worker_parts.receivers.items prepared.worker_parts.processors.items prepared.worker_parts.slow prepared.worker_parts.forwarders.items prepared.worker_parts.shutters.items prepared.worker_parts.fillers.items }
+    requires bare_workers { AreBareWorkers (arc_value prepared.base.common.shared).config prepared.bare_workers.pipes prepared.bare_workers.receivers.items prepared.bare_workers.processors.items prepared.bare_workers.slow prepared.bare_workers.forwarders.items prepared.bare_workers.shutters.items prepared.bare_workers.fillers.items }
     requires teams { AreTeamsFor (link_count (arc_value prepared.base.common.shared).config) (arc_value prepared.base.common.shared).config.processors prepared.teams.receivers prepared.teams.processors prepared.teams.slow prepared.teams.forwarders }
     requires space { HaveSpace (link_count (arc_value prepared.base.common.shared).config) (arc_value prepared.base.common.shared).config.processors prepared.space }
     requires workers { N.workers ≡ 2 * link_count (arc_value prepared.base.common.shared).config + (arc_value prepared.base.common.shared).config.processors + 1 }
@@ -144,17 +144,17 @@ where
 {
     let Prepared {
         base,
-        worker_parts,
+        bare_workers,
         teams,
         space,
     } = prepared;
-    let Base { common, orders } = base;
+    let Base { common, control } = base;
     let Common {
         shared,
         stop: _,
         events,
     } = common;
-    let WorkerParts {
+    let BareWorkers {
         receivers,
         processors,
         slow,
@@ -162,7 +162,7 @@ where
         shutters,
         pipes,
         fillers,
-    } = worker_parts;
+    } = bare_workers;
     let controller = Controller {
         shared,
         shutters,
@@ -192,18 +192,18 @@ where
         forwarders,
     };
     if are_all {
-        orders.run();
+        control.run();
         return Ok(Running {
             rt,
             controller,
-            orders,
+            control,
             threads,
             pipes,
             fillers,
             space,
         });
     }
-    give_up_all(&rt, &orders, threads);
+    give_up_all(&rt, &control, threads);
     drop(pipes);
     drop(fillers);
     drop(space);
@@ -212,7 +212,7 @@ where
 
 impl<N, S, K, G, R> Running<N, S, K, G, R>
 where
-    N: Router,
+    N: RunBrand,
     S: Source,
     K: Sink,
     G: Gate + Drop,
@@ -231,7 +231,7 @@ where
     /// Ends the router: the workers come to their ends and are joined, and the pipes settled. It takes
     /// no memory.
     pub fn finish(self) -> Report<S, K>
-        ensures { HasRun S.told K.told K.failed S.same K.same self result.totals result.sent.items result.sources.items result.sinks.items }
+        ensures { RouterHasRun S.told K.told K.failed S.same K.same self result.totals result.sent.items result.sources.items result.sinks.items }
     {
         rules_are_lawful();
         links_stand_in_order();
@@ -239,15 +239,15 @@ where
         let Running {
             rt,
             controller,
-            orders,
+            control,
             threads,
             mut pipes,
             fillers: _,
             space,
         } = self;
-        let joined = join_workers(&rt, &orders, controller, threads);
+        let joined = join_workers(&rt, &control, controller, threads);
         let (takers, left) = part_all(joined, space, &mut pipes);
         pipes.settle(takers.packets, takers.requests, takers.egress_packets);
-        report_of(&rt, &orders.book, left)
+        report_of(&rt, &control.book, left)
     }
 }

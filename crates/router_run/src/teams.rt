@@ -4,11 +4,11 @@ ghost use Rattle.std.specs.Prelude.{IfOk};
 ghost use Rattle.router_run.specs.Teams.{AreTeamsFor};
 ghost use Rattle.worker_threads.specs.Teams.{IsFor};
 
-use router_pipes::Events;
-use stage_parts::{Event, Stage, both};
+use run_pipes::Events;
 use std::alloc::{AllocError, Global};
 use std::slice;
-use worker_threads::{Handle, Orders, Team};
+use worker_parts::{Event, Stage, both};
+use worker_threads::{Handle, Team, ThreadControl};
 
 /// The teams of a router: receivers, processors, the slow path alone, and forwarders. Workers of any kinds
 /// can stand in for these.
@@ -26,18 +26,18 @@ where
     pub forwarders: Team<B, Y>,
 }
 
-// Orders for the threads of so many workers, each with its worker's event if it has one.
+// ThreadControl for the threads of so many workers, each with its worker's event if it has one.
 fn orders_for<B: Drop>(
     alloc: Global,
-    orders: &Orders<B>,
+    control: &ThreadControl<B>,
     events: &[Event],
     count: usize,
-) -> Result<Vec<Orders<B>>, AllocError> {
+) -> Result<Vec<ThreadControl<B>>, AllocError> {
     let mut each = Vec::new(alloc);
     for k in 0..count {
         let next = match events.get(k) {
-            Some(event) => orders.another_with(event),
-            None => orders.another(),
+            Some(event) => control.another_with(event),
+            None => control.another(),
         };
         each.push(next?)?;
     }
@@ -47,18 +47,18 @@ fn orders_for<B: Drop>(
 // A team of so many workers, none of whom is there yet.
 fn team_for<B: Drop, W: Stage + Drop>(
     alloc: Global,
-    orders: &Orders<B>,
+    control: &ThreadControl<B>,
     events: &[Event],
     count: usize,
 ) -> Result<Team<B, W>, AllocError>
     ensures { IfOk result (λ t. IsFor count t) }
 {
-    let orders = orders_for(alloc, orders, events, count)?;
+    let control = orders_for(alloc, control, events, count)?;
     let workers = Vec::<W>::with_capacity(alloc, count)?;
     let room = Vec::<Handle<W>>::with_capacity(alloc, count)?;
     Ok(Team {
         workers,
-        orders,
+        control,
         room,
     })
 }
@@ -66,7 +66,7 @@ fn team_for<B: Drop, W: Stage + Drop>(
 // Two such teams, of workers that have these events.
 fn two_teams_for<B: Drop, V: Stage + Drop, W: Stage + Drop>(
     alloc: Global,
-    orders: &Orders<B>,
+    control: &ThreadControl<B>,
     first_events: &[Event],
     first: usize,
     second_events: &[Event],
@@ -74,8 +74,8 @@ fn two_teams_for<B: Drop, V: Stage + Drop, W: Stage + Drop>(
 ) -> Result<(Team<B, V>, Team<B, W>), AllocError>
     ensures { IfOk result (λ r. IsFor first r.0 × IsFor second r.1) }
 {
-    let one = team_for(alloc, orders, first_events, first);
-    let other = team_for(alloc, orders, second_events, second);
+    let one = team_for(alloc, control, first_events, first);
+    let other = team_for(alloc, control, second_events, second);
     let teams = both(one, other)?;
     Ok(teams)
 }
@@ -84,7 +84,7 @@ fn two_teams_for<B: Drop, V: Stage + Drop, W: Stage + Drop>(
 /// whom is there yet.
 pub fn teams_for<B, V, W, X, Y>(
     alloc: Global,
-    orders: &Orders<B>,
+    control: &ThreadControl<B>,
     events: &Events,
     links: usize,
     processors: usize,
@@ -99,7 +99,7 @@ where
 {
     let (receivers, processors) = two_teams_for(
         alloc,
-        orders,
+        control,
         &[],
         links,
         events.processors.as_slice(),
@@ -107,7 +107,7 @@ where
     )?;
     let (slow, forwarders) = two_teams_for(
         alloc,
-        orders,
+        control,
         slice::from_ref(&events.slow),
         1,
         events.forwarders.as_slice(),

@@ -2,23 +2,23 @@
 
 ghost use Rattle.std.specs.Prelude.{◌≡◌, ◌∷◌, [], length, true};
 ghost use Rattle.order_laws.specs.Deeds.{Each};
-ghost use Rattle.router_laws.specs.Heard.{ToldNothing};
-ghost use Rattle.wired_workers.specs.Kits.{forwardings, receivings};
+ghost use Rattle.worker_order.specs.Heard.{ToldNothing};
+ghost use Rattle.run_workers.specs.Kits.{forwardings, receivings};
 ghost use Rattle.worker_threads.specs.Teams.{IsFor};
 
 use packet_ledger::Book;
 use router_stages::{Forwarder, Processor, Receiver, SlowPath};
-use stage_parts::{Gate, Router, Sink, Source};
+use run_workers::{Entering, Leaving, over_each};
 use std::sync::Wait;
 use std::thread::Threads;
 use std::time::Clock;
-use wired_workers::{Entering, Leaving, over_each};
-use worker_threads::{Orders, Started, Team, give_up, start_each};
+use worker_parts::{Gate, RunBrand, Sink, Source};
+use worker_threads::{Started, Team, ThreadControl, give_up, start_each};
 
 /// The threads of a router's workers.
 pub struct Threaded<N, S, K, G>
 where
-    N: Router,
+    N: RunBrand,
     S: Source,
     K: Sink,
     G: Gate,
@@ -39,7 +39,7 @@ pub fn start_front<N, S, G, R>(
     working: Team<Book<N>, Processor<N, G>>,
 ) -> (Started<Receiver<N, S>>, Started<Processor<N, G>>, bool)
 where
-    N: Router + Send + Sync + 'static,
+    N: RunBrand + Send + Sync + 'static,
     S: Source + Send + Drop + 'static,
     G: Gate + Send + Sync + Drop + 'static,
     R: Threads + Wait + Clock + Copy + Send + 'static,
@@ -53,12 +53,12 @@ where
     let receivers = over_each(receivers, sources, receiving.workers);
     let receivers = Team {
         workers: receivers,
-        orders: receiving.orders,
+        control: receiving.control,
         room: receiving.room,
     };
     let processors = Team {
         workers: processors,
-        orders: working.orders,
+        control: working.control,
         room: working.room,
     };
     let (receivers, are_all) = start_each(rt, receivers, true);
@@ -78,7 +78,7 @@ pub fn start_rear<N, K, R>(
     forwarding: Team<Book<N>, Forwarder<N, K>>,
 ) -> (Started<SlowPath<N>>, Started<Forwarder<N, K>>, bool)
 where
-    N: Router + Send + Sync + 'static,
+    N: RunBrand + Send + Sync + 'static,
     K: Sink + Send + Drop + 'static,
     R: Threads + Wait + Clock + Copy + Send + 'static,
     requires count { length sinks.items ≡ length forwarders.items }
@@ -91,13 +91,13 @@ where
     answerers.push_reserved(slow);
     let answerers = Team {
         workers: answerers,
-        orders: answering.orders,
+        control: answering.control,
         room: answering.room,
     };
     let forwarders = over_each(forwarders, sinks, forwarding.workers);
     let forwarders = Team {
         workers: forwarders,
-        orders: forwarding.orders,
+        control: forwarding.control,
         room: forwarding.room,
     };
     let (slow, are_all) = start_each(rt, answerers, so_far);
@@ -106,9 +106,13 @@ where
 }
 
 /// Tells all threads to give up, and joins those that are there.
-pub fn give_up_all<N, S, K, G, R>(rt: &R, orders: &Orders<Book<N>>, threads: Threaded<N, S, K, G>)
+pub fn give_up_all<N, S, K, G, R>(
+    rt: &R,
+    control: &ThreadControl<Book<N>>,
+    threads: Threaded<N, S, K, G>,
+)
 where
-    N: Router,
+    N: RunBrand,
     S: Source + Drop,
     K: Sink + Drop,
     G: Gate + Drop,
@@ -120,8 +124,8 @@ where
         slow,
         forwarders,
     } = threads;
-    give_up(rt, orders, receivers);
-    give_up(rt, orders, processors);
-    give_up(rt, orders, slow);
-    give_up(rt, orders, forwarders);
+    give_up(rt, control, receivers);
+    give_up(rt, control, processors);
+    give_up(rt, control, slow);
+    give_up(rt, control, forwarders);
 }

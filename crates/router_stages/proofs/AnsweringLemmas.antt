@@ -7,8 +7,8 @@ use Rattle.order_laws.specs.Deeds.{payload_of, Accepted, Refused, Counted}
 use Rattle.order_laws.specs.Settled.{SlowPathRequest}
 use Rattle.process_packet.specs.declared.cause.Cause.{Cause}
 use Rattle.process_packet.specs.declared.config.Config.{Config}
-use Rattle.router_laws.specs.Keeping.{IsAnswering}
-use Rattle.router_laws.proofs.Keeping.{slow_none, slow_did, slow_mark, slow_looked, slow_tried, slow_posted}
+use Rattle.worker_order.specs.Keeping.{IsAnswering}
+use Rattle.worker_order.proofs.Keeping.{slow_none, slow_did, slow_mark, slow_looked, slow_tried, slow_posted}
 use Rattle.router_rules.specs.Rules.{kinds, replied, rules}
 use Rattle.ruled_pipe.specs.declared.entry.Load.TheVariants.{Payload, Marked}
 use Rattle.ruled_pipe.specs.declared.entry.Mark.{Mark}
@@ -16,14 +16,14 @@ use Rattle.ruled_pipe.specs.declared.entry.Mark.TheVariants as mark
 use Rattle.ruled_pipe.specs.Consumer.{Taker, looked, took}
 use Rattle.ruled_pipe.specs.Gathered.{ends_in}
 use Rattle.ruled_pipe.specs.Producer.{entry}
-use Rattle.stage_laws.specs.Answers.{answer_to}
-use Rattle.stage_laws.specs.Ends.{load_in}
-use Rattle.stage_laws.specs.Works.{deed}
-use Rattle.stage_laws.proofs.Answers.{did_reply, did_not_reply, did_withhold}
-use Rattle.stage_parts.specs.Outlet.{Offering}
-use Rattle.stage_parts.specs.Outlets.{AreFresh, AreUnended, Trying, senders}
-use Rattle.stage_parts.proofs.Marks.{ends_more}
-use Rattle.stage_parts.proofs.EndLemmas.{gave_sent, kept_away, gave_open, kept_open, senders_long, tried_each, fresh_open, fresh_senders}
+use Rattle.worker_laws.specs.Answers.{answer_to}
+use Rattle.worker_laws.specs.Ends.{load_in}
+use Rattle.worker_laws.specs.Works.{deed}
+use Rattle.worker_laws.proofs.Answers.{did_reply, did_not_reply, did_withhold}
+use Rattle.worker_parts.specs.Outlet.{Offering}
+use Rattle.worker_parts.specs.Outlets.{AreFresh, AreUnended, Trying, senders}
+use Rattle.worker_parts.proofs.Marks.{ends_more}
+use Rattle.worker_parts.proofs.EndLemmas.{gave_sent, kept_away, gave_open, kept_open, senders_long, tried_each, fresh_open, fresh_senders}
 use Rattle.router_stages.specs.Exits.{Leaving, DroppedAs, SentAs, pipe_for, with_links, with_share}
 use Rattle.router_stages.specs.Answering.{AfterReply, KeepsAnswering, RepliedTo}
 use Rattle.router_stages.proofs.WorkingLemmas.{home_is}

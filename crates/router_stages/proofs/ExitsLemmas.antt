@@ -7,9 +7,9 @@ use Rattle.process_packet.specs.declared.config.Config.{Config}
 use Rattle.router_rules.specs.Links.{has_two_bands, link_count}
 use Rattle.router_rules.specs.Rules.{is_urgent, kinds}
 use Rattle.ruled_pipe.specs.Producer.{Sender}
-use Rattle.stage_parts.specs.Outlet.{Offering}
-use Rattle.stage_parts.specs.Outlets.{KeptAt}
-use Rattle.stage_parts.specs.GivingBack.{GaveBack}
+use Rattle.worker_parts.specs.Outlet.{Offering}
+use Rattle.worker_parts.specs.Outlets.{KeptAt}
+use Rattle.worker_parts.specs.GivingBack.{GaveBack}
 use Rattle.router_stages.specs.Exits.{SentAs, pipe_for}
 
 two_below : (l n : ℕ) (b : Bool) → l < n → 2 * l + cond b 1 0 < 2 * n

@@ -2,10 +2,10 @@
 use Rattle.std.proofs.Common.{◌≡◌, ◌⊎◌, inl, inr, ℕ, ◌+◌, ◌*◌, ◌<◌, Bool, true, false, eqb, nat_lt, ◌||◌, ◌&&◌, List, length, refl, sym, ap, subst, ◌∙◌, arith}
 use Rattle.std.proofs.Math.Bool.{and_assoc, or-false, or-true}
 use Rattle.std.proofs.lemmas.Bool.{cases_eq, ne_eqb, eq-eqb, lt-ltb, le-ltb}
-use Rattle.stage_parts.specs.Outlet.{Offering}
-use Rattle.stage_parts.specs.Outlets.{Trying, is_used}
-use Rattle.stage_parts.proofs.EndLemmas.{trying_as, trying_next}
-use Rattle.stage_parts.proofs.UsedLemmas.{used_high, used_low}
+use Rattle.worker_parts.specs.Outlet.{Offering}
+use Rattle.worker_parts.specs.Outlets.{Trying, is_used}
+use Rattle.worker_parts.proofs.EndLemmas.{trying_as, trying_next}
+use Rattle.worker_parts.proofs.UsedLemmas.{used_high, used_low}
 use Rattle.router_stages.specs.Exits.{TriedLink}
 
 -- the pipes that are used of the first links

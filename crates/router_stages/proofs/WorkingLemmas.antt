@@ -10,9 +10,9 @@ use Rattle.order_laws.specs.Settled.{SlowPathRequest}
 use Rattle.order_laws.specs.Counted.{place_of}
 use Rattle.process_packet.specs.declared.cause.Cause.{Cause}
 use Rattle.process_packet.specs.declared.config.Config.{Config}
-use Rattle.router_laws.specs.Keeping.{IsWorking}
-use Rattle.router_laws.specs.Shares.{raise_all}
-use Rattle.router_laws.proofs.Keeping.{works_none, works_taken, works_did, works_mark, works_looked, works_tried, works_posted}
+use Rattle.worker_order.specs.Keeping.{IsWorking}
+use Rattle.worker_order.specs.Shares.{raise_all}
+use Rattle.worker_order.proofs.Keeping.{works_none, works_taken, works_did, works_mark, works_looked, works_tried, works_posted}
 use Rattle.router_rules.specs.Links.{has_two_bands}
 use Rattle.router_rules.specs.Rules.{decided, is_urgent, kinds, rules}
 use Rattle.router_rules.specs.declared.worker.Worker.{Worker}
@@ -22,16 +22,16 @@ use Rattle.ruled_pipe.specs.declared.entry.Mark.TheVariants as mark
 use Rattle.ruled_pipe.specs.Consumer.{Taker, looked, took}
 use Rattle.ruled_pipe.specs.Gathered.{ends_in}
 use Rattle.ruled_pipe.specs.Producer.{entry}
-use Rattle.stage_laws.specs.Counting.{dropped_by, full_by}
-use Rattle.stage_laws.specs.Ends.{load_in}
-use Rattle.stage_laws.specs.Works.{deed}
-use Rattle.stage_laws.proofs.Works.{did_send, did_refuse, did_ask, did_not_ask, did_drop}
-use Rattle.stage_parts.specs.Items.{asking}
-use Rattle.stage_parts.specs.Outlet.{Offering, Tried, gave, kept}
-use Rattle.stage_parts.specs.Outlets.{AreFresh, AreUnended, Trying, senders}
-use Rattle.stage_parts.specs.declared.turn.Turn.{Turn}
-use Rattle.stage_parts.proofs.Marks.{ends_more}
-use Rattle.stage_parts.proofs.EndLemmas.{gave_sent, kept_away, gave_open, kept_open, senders_long, tried_each, tried_once, fresh_open, fresh_senders}
+use Rattle.worker_laws.specs.Counting.{dropped_by, full_by}
+use Rattle.worker_laws.specs.Ends.{load_in}
+use Rattle.worker_laws.specs.Works.{deed}
+use Rattle.worker_laws.proofs.Works.{did_send, did_refuse, did_ask, did_not_ask, did_drop}
+use Rattle.worker_parts.specs.Items.{asking}
+use Rattle.worker_parts.specs.Outlet.{Offering, Tried, gave, kept}
+use Rattle.worker_parts.specs.Outlets.{AreFresh, AreUnended, Trying, senders}
+use Rattle.worker_parts.specs.declared.turn.Turn.{Turn}
+use Rattle.worker_parts.proofs.Marks.{ends_more}
+use Rattle.worker_parts.proofs.EndLemmas.{gave_sent, kept_away, gave_open, kept_open, senders_long, tried_each, tried_once, fresh_open, fresh_senders}
 use Rattle.router_stages.specs.Exits.{Leaving, DroppedAs, SentAs, pipe_for, with_links, with_share}
 use Rattle.router_stages.specs.Working.{After, AskedAs, KeepsWorking, PassedOn, Worked, Working, WorksFor, WorksOn, out, with_taker}
 

@@ -9,14 +9,14 @@ use Rattle.ruled_pipe.specs.declared.entry.Mark.{Mark}
 use Rattle.ruled_pipe.specs.Consumer.{Taker, looked, took}
 use Rattle.ruled_pipe.specs.Gathered.{ends_in}
 use Rattle.ruled_pipe.specs.Producer.{entry}
-use Rattle.router_laws.specs.Keeping.{IsAnswering}
+use Rattle.worker_order.specs.Keeping.{IsAnswering}
 use Rattle.router_rules.specs.Rules.{kinds, replied}
-use Rattle.stage_laws.specs.Answers.{answer_to}
-use Rattle.stage_parts.specs.Outlets.{AreUnended, Trying, are_used, senders}
+use Rattle.worker_laws.specs.Answers.{answer_to}
+use Rattle.worker_parts.specs.Outlets.{AreUnended, Trying, are_used, senders}
 use Rattle.router_stages.specs.Exits.{Leaving, DroppedAs, SentAs, with_links, with_share}
-use Rattle.stage_parts.specs.Turn.{ending}
-use Rattle.stage_parts.specs.declared.turn.Turn.{Turn}
-use Rattle.stage_parts.specs.declared.turn.Turn.TheVariants.{Did, Quiet}
+use Rattle.worker_parts.specs.Turn.{ending}
+use Rattle.worker_parts.specs.declared.turn.Turn.{Turn}
+use Rattle.worker_parts.specs.declared.turn.Turn.TheVariants.{Did, Quiet}
 
 -- what it took, and its ends of the links' pipes and counts
 pub record Answering : Type 0 where

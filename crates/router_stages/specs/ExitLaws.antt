@@ -12,22 +12,22 @@ use Rattle.router_rules.specs.Rules.{decided, is_urgent, kinds, replied}
 use Rattle.router_rules.specs.declared.worker.Worker.{Worker}
 use Rattle.ruled_pipe.specs.Consumer.{Taker}
 use Rattle.ruled_pipe.specs.Gathered.{ends_in}
-use Rattle.stage_laws.specs.Answers.{answer_to}
-use Rattle.stage_parts.specs.Items.{asking}
-use Rattle.stage_parts.specs.Outlet.{Offering}
-use Rattle.stage_parts.specs.Outlets.{HaveEnded, are_used}
+use Rattle.worker_laws.specs.Answers.{answer_to}
+use Rattle.worker_parts.specs.Items.{asking}
+use Rattle.worker_parts.specs.Outlet.{Offering}
+use Rattle.worker_parts.specs.Outlets.{HaveEnded, are_used}
 use Rattle.router_stages.specs.Answering.{Answering, Answered, AfterReply, TakesRequest}
 use Rattle.router_stages.specs.Answering as answering
 use Rattle.router_stages.specs.Exits.{Leaving, DroppedAs, SentAs, pipe_for, with_links}
 use Rattle.router_stages.specs.Working.{Working, After, AskedAs, Takes, Worked, WorksOn, out, with_taker}
 use Rattle.router_stages.specs.Working as working
-use Rattle.stage_parts.specs.declared.turn.Turn.{Turn}
-use Rattle.stage_parts.specs.declared.turn.Turn.TheVariants.{Did, Quiet, Ended}
-use Rattle.stage_parts.proofs.UsedLemmas.{used_high, used_low}
-use Rattle.stage_parts.specs.Same.{AreSameEnds, IsSameEnd, IsSameTaker, end_self, ends_self, ends_then, taker_self}
+use Rattle.worker_parts.specs.declared.turn.Turn.{Turn}
+use Rattle.worker_parts.specs.declared.turn.Turn.TheVariants.{Did, Quiet, Ended}
+use Rattle.worker_parts.proofs.UsedLemmas.{used_high, used_low}
+use Rattle.worker_parts.specs.Same.{AreSameEnds, IsSameEnd, IsSameTaker, end_self, ends_self, ends_then, taker_self}
 use Rattle.router_stages.specs.SameProcessor.{IsSameProcessor, ProcessorEnded, processor_self, processor_then}
 use Rattle.router_stages.specs.SameSlowPath.{IsSameSlowPath, SlowPathEnded, slow_self}
-use Rattle.stage_parts.proofs.SameLemmas.{ends_as, gave_same, kept_same, mark_same, tried_same, all_there, both_there}
+use Rattle.worker_parts.proofs.SameLemmas.{ends_as, gave_same, kept_same, mark_same, tried_same, all_there, both_there}
 
 -- what leaves goes into a pipe that is used
 used_pipe : (c : Config) (o : Outgoing kinds) → are_used c (pipe_for c o) ≡ true

@@ -8,9 +8,9 @@ use Rattle.process_packet.specs.declared.config.Config.{Config}
 use Rattle.router_rules.specs.Links.{has_two_bands}
 use Rattle.router_rules.specs.Rules.{is_urgent, kinds}
 use Rattle.ruled_pipe.specs.Producer.{Sender}
-use Rattle.stage_parts.specs.GivingBack.{GaveBack}
-use Rattle.stage_parts.specs.Outlet.{Offering}
-use Rattle.stage_parts.specs.Outlets.{GaveAt, KeptAt, TriedAt}
+use Rattle.worker_parts.specs.GivingBack.{GaveBack}
+use Rattle.worker_parts.specs.Outlet.{Offering}
+use Rattle.worker_parts.specs.Outlets.{GaveAt, KeptAt, TriedAt}
 
 -- the ends of the links' pipes, two of each link, and of the links' pipes of free buffers, and the counts
 pub record Leaving : Type 0 where

@@ -1,9 +1,9 @@
-pub use Rattle.receiver_stage.specs.Pool
-pub use Rattle.receiver_stage.specs.Intake
-pub use Rattle.receiver_stage.specs.Receiving
-pub use Rattle.receiver_stage.specs.SameReceiver
-pub use Rattle.forwarder_stage.specs.Forwarding
-pub use Rattle.forwarder_stage.specs.SameForwarder
+pub use Rattle.worker_receiver.specs.Pool
+pub use Rattle.worker_receiver.specs.Intake
+pub use Rattle.worker_receiver.specs.Receiving
+pub use Rattle.worker_receiver.specs.SameReceiver
+pub use Rattle.worker_forwarder.specs.Forwarding
+pub use Rattle.worker_forwarder.specs.SameForwarder
 pub mod Exits
 pub mod Working
 pub mod Answering

@@ -2,8 +2,8 @@
 use Rattle.std.specs.Prelude.{◌≡◌}
 use Rattle.std.proofs.Common.{refl, subst, ◌∙◌}
 use Rattle.process_packet.specs.declared.config.Config.{Config}
-use Rattle.stage_parts.specs.Outlets.{HaveEnded, are_used}
-use Rattle.stage_parts.specs.Same.{AreSameEnds, IsSameTaker, ends_self, ends_then, taker_self, taker_then}
+use Rattle.worker_parts.specs.Outlets.{HaveEnded, are_used}
+use Rattle.worker_parts.specs.Same.{AreSameEnds, IsSameTaker, ends_self, ends_then, taker_self, taker_then}
 use Rattle.router_stages.specs.Answering.{Answering, IsDone}
 
 -- its configuration, its end of its own pipe, and of the pipes into which it offers; a high band's pipe of a link with one band is

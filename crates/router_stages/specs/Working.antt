@@ -11,17 +11,17 @@ use Rattle.ruled_pipe.specs.declared.entry.Mark.{Mark}
 use Rattle.ruled_pipe.specs.Consumer.{Taker, looked, took}
 use Rattle.ruled_pipe.specs.Gathered.{ends_in}
 use Rattle.ruled_pipe.specs.Producer.{Sender, entry}
-use Rattle.router_laws.specs.Keeping.{IsWorking}
+use Rattle.worker_order.specs.Keeping.{IsWorking}
 use Rattle.router_rules.specs.Rules.{decided, kinds}
 use Rattle.router_rules.specs.declared.worker.Worker.{Worker}
 use Rattle.router_rules.specs.declared.worker.Worker.TheVariants as worker
-use Rattle.stage_parts.specs.Items.{asking}
-use Rattle.stage_parts.specs.Outlet.{Offering, Tried, gave, kept}
-use Rattle.stage_parts.specs.Outlets.{AreUnended, Trying, are_used, senders}
+use Rattle.worker_parts.specs.Items.{asking}
+use Rattle.worker_parts.specs.Outlet.{Offering, Tried, gave, kept}
+use Rattle.worker_parts.specs.Outlets.{AreUnended, Trying, are_used, senders}
 use Rattle.router_stages.specs.Exits.{Leaving, DroppedAs, SentAs, with_links, with_share}
-use Rattle.stage_parts.specs.Turn.{ending}
-use Rattle.stage_parts.specs.declared.turn.Turn.{Turn}
-use Rattle.stage_parts.specs.declared.turn.Turn.TheVariants.{Did, Quiet}
+use Rattle.worker_parts.specs.Turn.{ending}
+use Rattle.worker_parts.specs.declared.turn.Turn.{Turn}
+use Rattle.worker_parts.specs.declared.turn.Turn.TheVariants.{Did, Quiet}
 
 -- what it is asked about, what it asks, its number, what it took, what it has in hand, its end of the slow path's pipe, and
 -- its ends of the links' pipes and counts

@@ -4,30 +4,30 @@ ghost use Rattle.std.specs.Prelude.{◌≡◌, false, ◌+◌, ◌*◌, ◌<◌,
 ghost use Rattle.packet_ledger.specs.Share.{HasRoom, IsPosted, MayRaise};
 ghost use Rattle.router_rules.specs.Links.{link_count};
 ghost use Rattle.router_stages.specs.Exits.{DroppedAs, SentAs, TriedLink, pipe_for, with_links, with_share};
-ghost use Rattle.stage_parts.specs.Outlets.{AreUnended, Trying, are_used};
+ghost use Rattle.worker_parts.specs.Outlets.{AreUnended, Trying, are_used};
 ghost use Rattle.router_stages.specs.Working.{AskedAs, PassedOn};
-ghost use Rattle.stage_parts.specs.Items.{StandsIn};
+ghost use Rattle.worker_parts.specs.Items.{StandsIn};
 
 use packet_ledger::{Book, Share};
 use process_packet::{Cause, Decision};
 use router_rules::{Shared, rules_are_lawful};
 use ruled_pipe::{Full, Producer};
-use stage_parts::{
-    Buffer, EgressPacket, Outlet, Packet, Router, SlowPathRequest, end_at, give_back, offer_at,
-};
 use std::alloc::Global;
 use std::marker::Model;
 use std::sync::{Arc, Wait};
+use worker_parts::{
+    Buffer, EgressPacket, Outlet, Packet, RunBrand, SlowPathRequest, end_at, give_back, offer_at,
+};
 
 /// The ends of the links' pipes, two of each link, and of their pipes of free buffers, with the counts.
-pub struct Exits<N: Router> {
+pub struct Exits<N: RunBrand> {
     pub(crate) shared: Arc<Shared, Global>,
     pub(crate) links: Vec<Outlet<EgressPacket<N>>>,
     pub(crate) free: Vec<Producer<Buffer>>,
     pub(crate) share: Share<N>,
 }
 
-impl<N: Router> Model for Exits<N> {
+impl<N: RunBrand> Model for Exits<N> {
     ghost use Rattle.std.specs.Prelude.{◌≡◌, ◌*◌, length, Some};
     ghost use Rattle.std.specs.Arc.{arc_value};
     ghost use Rattle.router_rules.specs.Links.{link_count};
@@ -41,7 +41,7 @@ impl<N: Router> Model for Exits<N> {
 }
 
 // Not derived: a derived drop is proved again in each crate that drops one.
-impl<N: Router> Drop for Exits<N> {
+impl<N: RunBrand> Drop for Exits<N> {
     fn drop(self) {
         let Exits {
             shared: _,
@@ -53,7 +53,7 @@ impl<N: Router> Drop for Exits<N> {
 }
 
 // The place of the pipe for what leaves.
-fn pipe_for<N: Router>(shared: &Shared, egress_packet: &EgressPacket<N>) -> usize
+fn pipe_for<N: RunBrand>(shared: &Shared, egress_packet: &EgressPacket<N>) -> usize
     ensures { result ≡ pipe_for shared.now.config egress_packet.now }
 {
     let link = egress_packet.link();
@@ -61,7 +61,7 @@ fn pipe_for<N: Router>(shared: &Shared, egress_packet: &EgressPacket<N>) -> usiz
     2 * usize::from(link) + usize::from(high)
 }
 
-impl<N: Router> Exits<N> {
+impl<N: RunBrand> Exits<N> {
     /// The ends of pipes, and the counts.
     pub fn into_parts(
         self,

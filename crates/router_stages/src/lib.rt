@@ -6,8 +6,8 @@ mod exits;
 mod processor;
 mod slow_path;
 
-pub use forwarder_stage::{Band, Forwarder};
 pub use processor::Processor;
-pub use receiver_stage::Receiver;
 pub use slow_path::SlowPath;
-pub use stage_parts::Turn;
+pub use worker_forwarder::{Band, Forwarder};
+pub use worker_parts::Turn;
+pub use worker_receiver::Receiver;

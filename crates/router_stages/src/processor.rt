@@ -3,25 +3,26 @@
 ghost use Rattle.std.specs.Prelude.{◌≡◌, ◌&&◌, ◌*◌, ◌∷◌, true, Some, [], is_some, length};
 ghost use Rattle.std.specs.Arc.{arc_value};
 ghost use Rattle.packet_ledger.specs.Share.{HasRoom, new_share};
-ghost use Rattle.router_laws.specs.Keeping.{IsWorking};
-ghost use Rattle.stage_parts.specs.Turn.{ending};
+ghost use Rattle.worker_order.specs.Keeping.{IsWorking};
+ghost use Rattle.worker_parts.specs.Turn.{ending};
 ghost use Rattle.router_stages.specs.Working.{EndsWorking, IsDone, WorksFor, first_leaving, first_working};
 ghost use Rattle.router_rules.specs.Links.{link_count};
-ghost use Rattle.stage_parts.specs.Outlets.{AreFresh, senders};
+ghost use Rattle.worker_parts.specs.Outlets.{AreFresh, senders};
 
 use crate::exits::Exits;
 use packet_ledger::{Book, Share};
 use router_rules::{Shared, Worker};
 use ruled_pipe::{Load, Producer};
-use stage_parts::{
-    Buffer, EgressPacket, Gate, Inlet, Outlet, Packet, Router, SlowPathRequest, Stage, Turn, Turns,
-};
 use std::alloc::Global;
 use std::marker::Model;
 use std::sync::{Arc, Wait};
+use worker_parts::{
+    Buffer, EgressPacket, Gate, Inlet, Outlet, Packet, RunBrand, SlowPathRequest, Stage, Turn,
+    Turns,
+};
 
 /// Takes packets from its pipe, and passes each on as the rules decide, once the gate admits it.
-pub struct Processor<N: Router, G: Gate> {
+pub struct Processor<N: RunBrand, G: Gate> {
     gate: Arc<G, Global>,
     index: u8,
     from: Inlet<Packet<N>>,
@@ -30,7 +31,7 @@ pub struct Processor<N: Router, G: Gate> {
     exits: Exits<N>,
 }
 
-impl<N: Router, G: Gate> Model for Processor<N, G> {
+impl<N: RunBrand, G: Gate> Model for Processor<N, G> {
     ghost use Rattle.std.specs.Arc.{arc_value};
     ghost use Rattle.router_stages.specs.Working.{KeepsWorking, Working};
 
@@ -42,7 +43,7 @@ impl<N: Router, G: Gate> Model for Processor<N, G> {
 }
 
 // Not derived: a derived drop is proved again in each crate that drops one.
-impl<N: Router, G: Gate + Drop> Drop for Processor<N, G> {
+impl<N: RunBrand, G: Gate + Drop> Drop for Processor<N, G> {
     fn drop(self) {
         let Processor {
             gate: _,
@@ -61,7 +62,7 @@ fn both(a: bool, b: bool) -> Turn
     if a && b { Turn::Ended } else { Turn::Quiet }
 }
 
-impl<N: Router, G: Gate> Processor<N, G> {
+impl<N: RunBrand, G: Gate> Processor<N, G> {
     /// The processor of a number, which takes from its pipe, one producer a link, and offers to two pipes
     /// a link and to the slow path's; buffers go back by one pipe a link.
     pub fn new(
@@ -127,7 +128,7 @@ impl<N: Router, G: Gate> Processor<N, G> {
     }
 }
 
-impl<N: Router, G: Gate + Drop> Processor<N, G> {
+impl<N: RunBrand, G: Gate + Drop> Processor<N, G> {
     /// Its ends of pipes and its counts, which tell what it did, and its gate.
     pub fn into_parts(
         self,
@@ -155,7 +156,7 @@ impl<N: Router, G: Gate + Drop> Processor<N, G> {
     }
 }
 
-impl<N: Router, G: Gate> Stage for Processor<N, G> {
+impl<N: RunBrand, G: Gate> Stage for Processor<N, G> {
     ghost use Rattle.router_stages.specs.SameProcessor.{IsSameProcessor, ProcessorEnded};
 
     ghost same = { λ a b. IsSameProcessor a b };
@@ -163,11 +164,11 @@ impl<N: Router, G: Gate> Stage for Processor<N, G> {
     ghost has_ended = { λ w. ProcessorEnded w };
 }
 
-impl<N: Router, G: Gate> Turns<Book<N>> for Processor<N, G> {
+impl<N: RunBrand, G: Gate> Turns<Book<N>> for Processor<N, G> {
     ghost use Rattle.std.specs.Prelude.{◌≡◌, false, MatchBool};
     ghost use Rattle.packet_ledger.specs.Share.{HasRoom, IsDrained, IsPosted};
     ghost use Rattle.packet_ledger.proofs.Posting.{posted_drains};
-    ghost use Rattle.stage_parts.specs.declared.turn.Turn.{Turn};
+    ghost use Rattle.worker_parts.specs.declared.turn.Turn.{Turn};
     ghost use Rattle.std.proofs.Common.{subst};
     ghost use Rattle.router_stages.specs.Working.{AwaitsPush, Worked, posted};
     ghost use Rattle.router_stages.specs.SameProcessor.{processor_self, processor_then};

@@ -3,31 +3,31 @@
 ghost use Rattle.std.specs.Prelude.{◌≡◌, ◌*◌, ◌<◌, Some, [], length};
 ghost use Rattle.std.specs.Arc.{arc_value};
 ghost use Rattle.packet_ledger.specs.Share.{MayRaise, new_share};
-ghost use Rattle.router_laws.specs.Keeping.{IsAnswering};
+ghost use Rattle.worker_order.specs.Keeping.{IsAnswering};
 ghost use Rattle.router_rules.specs.Links.{link_count};
 ghost use Rattle.router_stages.specs.Answering.{EndsAnswering, IsDone, RepliedTo, first_answering};
 ghost use Rattle.router_stages.specs.Working.{first_leaving};
-ghost use Rattle.stage_parts.specs.Outlets.{AreFresh, AreUnended, senders};
+ghost use Rattle.worker_parts.specs.Outlets.{AreFresh, AreUnended, senders};
 
 use crate::exits::Exits;
 use packet_ledger::{Book, Share};
 use router_rules::Shared;
 use ruled_pipe::{Load, Producer};
-use stage_parts::{
-    Buffer, EgressPacket, Inlet, Outlet, Router, SlowPathRequest, Stage, Turn, Turns, Withheld,
-};
 use std::alloc::Global;
 use std::marker::Model;
 use std::sync::{Arc, Wait};
+use worker_parts::{
+    Buffer, EgressPacket, Inlet, Outlet, RunBrand, SlowPathRequest, Stage, Turn, Turns, Withheld,
+};
 
 /// Takes requests from its pipe, and sends the answer to each back by the link by which its packet
 /// came.
-pub struct SlowPath<N: Router> {
+pub struct SlowPath<N: RunBrand> {
     from: Inlet<SlowPathRequest<N>>,
     exits: Exits<N>,
 }
 
-impl<N: Router> Model for SlowPath<N> {
+impl<N: RunBrand> Model for SlowPath<N> {
     ghost use Rattle.router_stages.specs.Answering.{Answering, KeepsAnswering};
 
     ghost Value = { Answering };
@@ -38,13 +38,13 @@ impl<N: Router> Model for SlowPath<N> {
 }
 
 // Not derived: a derived drop is proved again in each crate that drops one.
-impl<N: Router> Drop for SlowPath<N> {
+impl<N: RunBrand> Drop for SlowPath<N> {
     fn drop(self) {
         let SlowPath { from: _, exits: _ } = self;
     }
 }
 
-impl<N: Router> Exits<N> {
+impl<N: RunBrand> Exits<N> {
     // Sends the answer to a request, or drops its packet where there is none.
     fn reply<R: Wait>(&mut self, rt: &R, request: SlowPathRequest<N>)
         requires unended { AreUnended self.old.links }
@@ -60,7 +60,7 @@ impl<N: Router> Exits<N> {
     }
 }
 
-impl<N: Router> SlowPath<N> {
+impl<N: RunBrand> SlowPath<N> {
     /// The slow path, which takes from its pipe, one producer a processor, and offers to two pipes a
     /// link; buffers go back by one pipe a link.
     pub fn new(
@@ -116,7 +116,7 @@ impl<N: Router> SlowPath<N> {
     }
 }
 
-impl<N: Router> Stage for SlowPath<N> {
+impl<N: RunBrand> Stage for SlowPath<N> {
     ghost use Rattle.router_stages.specs.SameSlowPath.{IsSameSlowPath, SlowPathEnded};
 
     ghost same = { λ a b. IsSameSlowPath a b };
@@ -124,11 +124,11 @@ impl<N: Router> Stage for SlowPath<N> {
     ghost has_ended = { λ a. SlowPathEnded a };
 }
 
-impl<N: Router> Turns<Book<N>> for SlowPath<N> {
+impl<N: RunBrand> Turns<Book<N>> for SlowPath<N> {
     ghost use Rattle.std.specs.Prelude.{◌≡◌, ◌<◌, false, MatchBool};
     ghost use Rattle.packet_ledger.specs.Share.{HasRoom, IsDrained, IsPosted};
     ghost use Rattle.packet_ledger.proofs.Posting.{posted_drains};
-    ghost use Rattle.stage_parts.specs.declared.turn.Turn.{Turn};
+    ghost use Rattle.worker_parts.specs.declared.turn.Turn.{Turn};
     ghost use Rattle.std.proofs.Common.{subst};
     ghost use Rattle.ruled_pipe.specs.Gathered.{ends_in};
     ghost use Rattle.router_stages.specs.Answering.{Answered, IsDone, posted};

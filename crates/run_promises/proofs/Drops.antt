@@ -15,7 +15,7 @@ use Rattle.order_laws.proofs.SettledOrder.{each_join}
 use Rattle.order_laws.proofs.Sums.{total-append}
 use Rattle.process_packet.specs.declared.cause.Cause.{Cause as RouterCause}
 use Rattle.router_rules.specs.Rules.{kinds}
-use Rattle.stage_laws.specs.Forwards.{Handed}
+use Rattle.worker_laws.specs.Forwards.{Handed}
 
 -- ---- lists by number
 

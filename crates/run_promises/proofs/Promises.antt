@@ -27,21 +27,21 @@ use Rattle.process_packet.specs.declared.totals.Totals.{Totals}
 use Rattle.router_rules.specs.Causes.{booked_as}
 use Rattle.router_rules.specs.Links.{link_count}
 use Rattle.router_rules.specs.Rules.{kinds, rules}
-use Rattle.stage_laws.specs.Answers.{to_back}
-use Rattle.stage_laws.specs.Causes.{when, was_counted, counted_in, was_refused}
-use Rattle.stage_laws.specs.Ended.{Ended, HasEnded, IsAnswerTo, IsPacketOf}
-use Rattle.stage_laws.specs.Forwards.{Handed, handed_items}
-use Rattle.stage_laws.specs.Places.{StandsOnce, only_of}
-use Rattle.stage_laws.specs.Reasons.{HasReasons, HasMerged, IsAskedOf}
-use Rattle.stage_laws.specs.Receives.{IsClear, lacks, unless_counted, was_lacked}
-use Rattle.stage_laws.specs.Weighed.{arrival_weight, request_weight, outgoing_weight, lost, lost_by, places}
-use Rattle.stage_laws.specs.Workers.{slow_views, views_of, went_at}
-use Rattle.stage_laws.specs.Works.{LacksNothing}
-use Rattle.stage_laws.proofs.Causes.{sum_pairs, when_add, when_sum, when_zero}
-use Rattle.stage_laws.proofs.Settling.{askable, each_refused, replied_right, right_at, sent_right}
+use Rattle.worker_laws.specs.Answers.{to_back}
+use Rattle.worker_laws.specs.Causes.{when, was_counted, counted_in, was_refused}
+use Rattle.worker_laws.specs.Ended.{Ended, HasEnded, IsAnswerTo, IsPacketOf}
+use Rattle.worker_laws.specs.Forwards.{Handed, handed_items}
+use Rattle.worker_laws.specs.Places.{StandsOnce, only_of}
+use Rattle.worker_laws.specs.Reasons.{HasReasons, HasMerged, IsAskedOf}
+use Rattle.worker_laws.specs.Receives.{IsClear, lacks, unless_counted, was_lacked}
+use Rattle.worker_laws.specs.Weighed.{arrival_weight, request_weight, outgoing_weight, lost, lost_by, places}
+use Rattle.worker_laws.specs.Workers.{slow_views, views_of, went_at}
+use Rattle.worker_laws.specs.Works.{LacksNothing}
+use Rattle.worker_laws.proofs.Causes.{sum_pairs, when_add, when_sum, when_zero}
+use Rattle.worker_laws.proofs.Settling.{askable, each_refused, replied_right, right_at, sent_right}
 use Rattle.run_promises.specs.Promises.{HasReason, IsReason, KeepsPromises, LeavesOn, departures, drops_for, places_of, sent_in_sequence, taken_of, PromisesAreKept}
-use Rattle.router_laws.specs.Returned.{shares_of}
-use Rattle.router_laws.specs.Totals.{HasTotals, same_cause, totals_of}
+use Rattle.worker_order.specs.Returned.{shares_of}
+use Rattle.worker_order.specs.Totals.{HasTotals, same_cause, totals_of}
 use Rattle.run_promises.proofs.Drops.{each_collect, sum_part, total_map, of_arrival, of_request, of_outgoing, of_end, of_deed, of_handed, at_end, stopped, stopped_sum, sum_receiver, sum_processor, sum_at_processor, sum_at_link, sum_after_mark, failed, failed_sum}
 
 -- ---- sums and tests over a list

@@ -23,11 +23,11 @@ use Rattle.router_rules.specs.Causes.{booked_as}
 use Rattle.router_rules.specs.Datagram.{Parcel}
 use Rattle.router_rules.specs.Links.{interface_at, link_count}
 use Rattle.router_rules.specs.Rules.{kinds, rules}
-use Rattle.stage_laws.specs.Causes.{was_replied, was_sent}
-use Rattle.stage_laws.specs.Forwards.{Handed, handed_items}
-use Rattle.router_laws.specs.Heard.{TellsOf}
-use Rattle.router_laws.specs.Returned.{ForwarderBack, HasRun, ReceiverBack, Returned, shares_of}
-use Rattle.router_laws.specs.Totals.{same_cause, totals_of}
+use Rattle.worker_laws.specs.Causes.{was_replied, was_sent}
+use Rattle.worker_laws.specs.Forwards.{Handed, handed_items}
+use Rattle.worker_order.specs.Heard.{TellsOf}
+use Rattle.worker_order.specs.Returned.{ForwarderBack, WorkersHaveRun, ReceiverBack, Returned, shares_of}
+use Rattle.worker_order.specs.Totals.{same_cause, totals_of}
 
 -- ---- what left, and what didn't
 
@@ -116,4 +116,4 @@ pub record IsPromised {T : Type 0} (shows : Handed kinds → T) (c : Config) (b 
   pub sent : (l : ℕ) (f : ForwarderBack T) → slice_get b.forwarders l ≡ Some f → forwarded f.share ≡ count (λ (h : Handed kinds). h.took) (handed l)
 
 abbrev pub PromisesAreKept : Type 0 → Type 0
-PromisesAreKept T = (shows : Handed kinds → T) (c : Config) (b : Returned T) (closed : ℕ → Bool) → HasRun shows c b closed → IsPromised shows c b closed
+PromisesAreKept T = (shows : Handed kinds → T) (c : Config) (b : Returned T) (closed : ℕ → Bool) → WorkersHaveRun shows c b closed → IsPromised shows c b closed

@@ -1,7 +1,7 @@
 -- Workers taken apart one by one: what was gathered grows at its end, what is left shrinks in front.
 use Rattle.std.proofs.Common.{◌≡◌, ℕ, ◌+◌, ◌≤◌, List, [], ◌∷◌, ◌++◌, map, length, sym, ◌∙◌, ap, subst, arith, length-append}
 use Rattle.order_laws.specs.Deeds.{Each}
-use Rattle.wired_workers.proofs.RestLemmas.{moved}
+use Rattle.run_workers.proofs.RestLemmas.{moved}
 
 module _ {X : Type 0} where
   pub each_same : (P : X → Type 0) (xs ys : List X) → xs ≡ ys → Each P ys → Each P xs

@@ -7,21 +7,21 @@ use Rattle.order_laws.specs.Item.{Arrival, Outgoing}
 use Rattle.order_laws.specs.Settled.{SlowPathRequest}
 use Rattle.ruled_pipe.specs.Producer.{Sender}
 use Rattle.ruled_pipe.specs.Consumer.{Taker}
-use Rattle.router_laws.specs.Heard.{Heard}
-use Rattle.router_laws.specs.Keeping.{IsAnswering, IsForwarding, IsReceiving, IsWorking}
+use Rattle.worker_order.specs.Heard.{Heard}
+use Rattle.worker_order.specs.Keeping.{IsAnswering, IsForwarding, IsReceiving, IsWorking}
 use Rattle.router_rules.specs.Rules.{kinds}
 use Rattle.router_stages.specs.Answering.{Answering}
 use Rattle.router_stages.specs.Forwarding.{Forwarding}
 use Rattle.router_stages.specs.Receiving.{EndsQuietly, Receiving}
 use Rattle.router_stages.specs.Working.{Working}
-use Rattle.stage_parts.specs.Outlet.{IsMarked}
-use Rattle.stage_parts.specs.Outlets.{senders}
-use Rattle.stage_parts.specs.Told.{Told, told_of}
-use Rattle.router_pipes.specs.Handing.{AreMarked, NeverClosed}
-use Rattle.router_pipes.specs.Piping.{Piping}
-use Rattle.router_pipes.specs.Pipes.{HaveBack, Keepers, LinkRows, ReceiverRows, RequestRow, piping_of}
-use Rattle.pipe_ends.specs.Rows.{AreEndsOf}
-use Rattle.pipe_ends.specs.Shutting.{AreMarking, PushMarks, shutter_ends}
+use Rattle.worker_parts.specs.Outlet.{IsMarked}
+use Rattle.worker_parts.specs.Outlets.{senders}
+use Rattle.worker_parts.specs.Told.{Told, told_of}
+use Rattle.run_pipes.specs.Handing.{AreMarked, NeverClosed}
+use Rattle.run_pipes.specs.Piping.{Piping}
+use Rattle.run_pipes.specs.Pipes.{HaveBack, Keepers, LinkRows, ReceiverRows, RequestRow, piping_of}
+use Rattle.run_ends.specs.Rows.{AreEndsOf}
+use Rattle.run_ends.specs.Shutting.{AreMarking, PushMarks, shutter_ends}
 use Rattle.run_report.specs.Parting.{HasEnds, HasKept, HasMarked, IsParted, shares_in}
 use Rattle.run_report.specs.Crew.{Crew, inner_rows, middle_row, outer_rows, takers_of}
 use Rattle.run_report.specs.Room.{HaveSpace, Space}

@@ -7,8 +7,8 @@ use Rattle.router_stages.specs.Answering.{Answering}
 use Rattle.router_stages.specs.Forwarding.{Forwarding}
 use Rattle.router_stages.specs.Receiving.{Receiving}
 use Rattle.router_stages.specs.Working.{Working}
-use Rattle.stage_parts.specs.Outlets.{senders}
-use Rattle.pipe_ends.specs.Shutting.{shutter_ends, Shutting}
+use Rattle.worker_parts.specs.Outlets.{senders}
+use Rattle.run_ends.specs.Shutting.{shutter_ends, Shutting}
 use Rattle.order_laws.specs.Item.{Outgoing, Arrival}
 use Rattle.ruled_pipe.specs.Producer.{Sender}
 

@@ -4,23 +4,23 @@ use Rattle.order_laws.specs.Deeds.{Each}
 use Rattle.order_laws.specs.Settled.{SlowPathRequest}
 use Rattle.ruled_pipe.specs.Consumer.{Taker}
 use Rattle.router_rules.specs.Rules.{kinds}
-use Rattle.router_laws.specs.Heard.{Heard}
-use Rattle.router_laws.specs.Returned.{AllAt}
-use Rattle.router_laws.specs.Keeping.{IsReceiving, IsWorking, IsAnswering, IsForwarding}
+use Rattle.worker_order.specs.Heard.{Heard}
+use Rattle.worker_order.specs.Returned.{AllAt}
+use Rattle.worker_order.specs.Keeping.{IsReceiving, IsWorking, IsAnswering, IsForwarding}
 use Rattle.router_stages.specs.Answering.{Answering}
 use Rattle.router_stages.specs.Forwarding.{Forwarding}
 use Rattle.router_stages.specs.Receiving.{EndsQuietly, Receiving}
 use Rattle.router_stages.specs.Working.{Working}
-use Rattle.stage_parts.specs.Outlets.{senders}
-use Rattle.stage_parts.specs.Told.{Told, told_of}
-use Rattle.router_pipes.specs.Handing.{NeverClosed, AreMarked}
-use Rattle.router_pipes.specs.Piping.{Piping}
-use Rattle.pipe_ends.specs.Rows.{AreEndsOf}
-use Rattle.pipe_ends.specs.Shutting.{PushMarks, AreMarking, shutter_ends}
+use Rattle.worker_parts.specs.Outlets.{senders}
+use Rattle.worker_parts.specs.Told.{Told, told_of}
+use Rattle.run_pipes.specs.Handing.{NeverClosed, AreMarked}
+use Rattle.run_pipes.specs.Piping.{Piping}
+use Rattle.run_ends.specs.Rows.{AreEndsOf}
+use Rattle.run_ends.specs.Shutting.{PushMarks, AreMarking, shutter_ends}
 use Rattle.run_report.specs.Crew.{Crew, inner_takers, takers_of}
 use Rattle.order_laws.specs.Item.{Outgoing, Arrival}
 use Rattle.ruled_pipe.specs.Pipe.{IsEndOf}
-use Rattle.stage_parts.specs.Outlet.{IsMarked}
+use Rattle.worker_parts.specs.Outlet.{IsMarked}
 use Rattle.packet_ledger.specs.Share.{Held}
 
 -- How many workers of each kind there are, and that each has its ends of these pipes.

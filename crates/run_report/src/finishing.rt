@@ -2,8 +2,8 @@
 
 ghost use Rattle.std.specs.Prelude.{◌≡◌, [], map, length};
 ghost use Rattle.packet_ledger.specs.Share.{forwarded};
-ghost use Rattle.router_laws.specs.Totals.{totals_of};
-ghost use Rattle.router_pipes.specs.Pipes.{HaveBack, piping_of};
+ghost use Rattle.worker_order.specs.Totals.{totals_of};
+ghost use Rattle.run_pipes.specs.Pipes.{HaveBack, piping_of};
 ghost use Rattle.run_report.specs.Crew.{inner_rows, middle_row, outer_rows};
 ghost use Rattle.run_report.specs.Parting.{HasEnds, HasKept, HasMarked, IsParted, shares_in};
 ghost use Rattle.run_report.specs.Room.{HaveSpace};
@@ -12,12 +12,12 @@ use crate::joined::Joined;
 use crate::parting::{part_forwarders, part_processors, part_receivers, part_slow_path};
 use crate::space::Space;
 use packet_ledger::{Book, Share};
-use pipe_ends::Line;
 use process_packet::Totals;
-use router_pipes::Pipes;
 use ruled_pipe::Consumer;
-use stage_parts::{EgressPacket, Gate, Packet, Router, Sink, SlowPathRequest, Source};
+use run_ends::Line;
+use run_pipes::Pipes;
 use std::sync::Wait;
+use worker_parts::{EgressPacket, Gate, Packet, RunBrand, Sink, SlowPathRequest, Source};
 
 /// What a run came to.
 #[derive(Drop)]
@@ -34,7 +34,7 @@ pub struct Report<S, K> {
 
 /// The consumers of workers that came back.
 #[derive(Drop)]
-pub struct Parted<N: Router> {
+pub struct Parted<N: RunBrand> {
     pub packets: Vec<Consumer<Packet<N>>>,
     pub requests: Consumer<SlowPathRequest<N>>,
     pub egress_packets: Vec<Consumer<EgressPacket<N>>>,
@@ -42,7 +42,7 @@ pub struct Parted<N: Router> {
 
 /// Their shares and devices, and how many each sink took.
 #[derive(Drop)]
-pub struct Left<N: Router, S, K> {
+pub struct Left<N: RunBrand, S, K> {
     pub shares: Vec<Share<N>>,
     pub sent: Vec<u128>,
     pub sources: Vec<S>,
@@ -56,7 +56,7 @@ pub fn part_all<N, S, K, G>(
     pipes: &mut Pipes<N>,
 ) -> (Parted<N>, Left<N, S, K>)
 where
-    N: Router,
+    N: RunBrand,
     S: Source,
     K: Sink,
     G: Gate + Drop,
@@ -108,7 +108,7 @@ where
 }
 
 /// The report of what is left, with the counts of all shares of the book summed up.
-pub fn report_of<N: Router, S, K, R: Wait>(
+pub fn report_of<N: RunBrand, S, K, R: Wait>(
     rt: &R,
     book: &Book<N>,
     left: Left<N, S, K>,

@@ -1,15 +1,15 @@
 //! Workers that came back from their threads.
 
-use pipe_ends::Shutter;
 use router_stages::{Forwarder, Processor, Receiver, SlowPath};
-use stage_parts::{EgressPacket, Gate, Router, Sink, Source};
+use run_ends::Shutter;
 use std::marker::Model;
+use worker_parts::{EgressPacket, Gate, RunBrand, Sink, Source};
 
 /// Workers that came back, and the controller's ends. Contracts see them as a crew.
 #[derive(Drop)]
 pub struct Joined<N, S, K, G>
 where
-    N: Router,
+    N: RunBrand,
     S: Source,
     K: Sink,
     G: Gate,
@@ -23,7 +23,7 @@ where
 
 impl<N, S, K, G> Model for Joined<N, S, K, G>
 where
-    N: Router,
+    N: RunBrand,
     S: Source,
     K: Sink,
     G: Gate,

@@ -4,34 +4,34 @@ ghost use Rattle.std.specs.Prelude.{◌≡◌, ◌≤◌, ◌<◌, ◌+◌, ◌*
 ghost use Rattle.packet_ledger.specs.Share.{forwarded};
 ghost use Rattle.order_laws.specs.Deeds.{Each};
 ghost use Rattle.ruled_pipe.specs.Pipe.{IsEndOf};
-ghost use Rattle.router_laws.specs.Keeping.{IsAnswering, IsForwarding, IsReceiving, IsWorking};
-ghost use Rattle.router_laws.specs.Returned.{AllAt};
+ghost use Rattle.worker_order.specs.Keeping.{IsAnswering, IsForwarding, IsReceiving, IsWorking};
+ghost use Rattle.worker_order.specs.Returned.{AllAt};
 ghost use Rattle.router_stages.specs.Receiving.{EndsQuietly};
-ghost use Rattle.stage_parts.specs.Outlet.{IsMarked};
-ghost use Rattle.stage_parts.specs.Outlets.{senders};
-ghost use Rattle.stage_parts.specs.Told.{told_of};
-ghost use Rattle.router_pipes.specs.Handing.{AreMarked, NeverClosed};
-ghost use Rattle.router_pipes.specs.Pipes.{HaveBack, LinkRows, ReceiverRows, RequestRow, piping_of};
-ghost use Rattle.pipe_ends.specs.Rows.{AreEndsOf};
-ghost use Rattle.pipe_ends.specs.Shutting.{AreMarking, PushMarks, shutter_ends};
+ghost use Rattle.worker_parts.specs.Outlet.{IsMarked};
+ghost use Rattle.worker_parts.specs.Outlets.{senders};
+ghost use Rattle.worker_parts.specs.Told.{told_of};
+ghost use Rattle.run_pipes.specs.Handing.{AreMarked, NeverClosed};
+ghost use Rattle.run_pipes.specs.Pipes.{HaveBack, LinkRows, ReceiverRows, RequestRow, piping_of};
+ghost use Rattle.run_ends.specs.Rows.{AreEndsOf};
+ghost use Rattle.run_ends.specs.Shutting.{AreMarking, PushMarks, shutter_ends};
 ghost use Rattle.run_report.specs.Crew.{takers_of};
 
 use packet_ledger::Share;
-use pipe_ends::{Line, Shutter};
-use router_pipes::Pipes;
 use router_stages::{Forwarder, Processor, Receiver, SlowPath};
 use ruled_pipe::Consumer;
-use stage_parts::{EgressPacket, Gate, Packet, Router, Sink, SlowPathRequest, Source};
+use run_ends::{Line, Shutter};
+use run_pipes::Pipes;
+use worker_parts::{EgressPacket, Gate, Packet, RunBrand, Sink, SlowPathRequest, Source};
 
 /// The receivers' sources, and the shares with theirs.
 #[derive(Drop)]
-pub struct ReceiverParts<N: Router, S> {
+pub struct ReceiverParts<N: RunBrand, S> {
     pub sources: Vec<S>,
     pub shares: Vec<Share<N>>,
 }
 
 /// Takes the receivers apart.
-pub fn part_receivers<N: Router, S: Source>(
+pub fn part_receivers<N: RunBrand, S: Source>(
     receivers: Vec<Receiver<N, S>>,
     pipes: &mut Pipes<N>,
     sources: Vec<S>,
@@ -65,13 +65,13 @@ pub fn part_receivers<N: Router, S: Source>(
 
 /// The processors' consumers, and the shares with theirs.
 #[derive(Drop)]
-pub struct ProcessorParts<N: Router> {
+pub struct ProcessorParts<N: RunBrand> {
     pub takers: Vec<Consumer<Packet<N>>>,
     pub shares: Vec<Share<N>>,
 }
 
 /// Takes the processors apart.
-pub fn part_processors<N: Router, G: Gate + Drop>(
+pub fn part_processors<N: RunBrand, G: Gate + Drop>(
     processors: Vec<Processor<N, G>>,
     pipes: &mut Pipes<N>,
     takers: Vec<Consumer<Packet<N>>>,
@@ -105,13 +105,13 @@ pub fn part_processors<N: Router, G: Gate + Drop>(
 
 /// The slow path's consumer, and the shares with its own.
 #[derive(Drop)]
-pub struct SlowPathParts<N: Router> {
+pub struct SlowPathParts<N: RunBrand> {
     pub requests: Consumer<SlowPathRequest<N>>,
     pub shares: Vec<Share<N>>,
 }
 
 /// Takes the slow path and the controller's ends apart.
-pub fn part_slow_path<N: Router>(
+pub fn part_slow_path<N: RunBrand>(
     slow: SlowPath<N>,
     shutters: Vec<Shutter<EgressPacket<N>>>,
     pipes: &mut Pipes<N>,
@@ -140,7 +140,7 @@ pub fn part_slow_path<N: Router>(
 
 /// The forwarders' consumers and sinks, how many each sink took, and the shares with theirs.
 #[derive(Drop)]
-pub struct ForwarderParts<N: Router, K> {
+pub struct ForwarderParts<N: RunBrand, K> {
     pub takers: Vec<Consumer<EgressPacket<N>>>,
     pub sinks: Vec<K>,
     pub sent: Vec<u128>,
@@ -148,7 +148,7 @@ pub struct ForwarderParts<N: Router, K> {
 }
 
 /// Takes the forwarders apart.
-pub fn part_forwarders<N: Router, K: Sink>(
+pub fn part_forwarders<N: RunBrand, K: Sink>(
     forwarders: Vec<Forwarder<N, K>>,
     takers: Vec<Consumer<EgressPacket<N>>>,
     sinks: Vec<K>,

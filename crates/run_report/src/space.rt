@@ -5,14 +5,14 @@ ghost use Rattle.run_report.specs.Room.{HaveSpace};
 
 use packet_ledger::Share;
 use ruled_pipe::Consumer;
-use stage_parts::{EgressPacket, Packet, Router};
 use std::alloc::{AllocError, Global};
 use std::marker::Model;
+use worker_parts::{EgressPacket, Packet, RunBrand};
 
 /// Room for the consumers of the processors' and the links' pipes, for the shares, for what each link sent, and
 /// for the devices.
 #[derive(Drop)]
-pub struct Space<N: Router, S, K> {
+pub struct Space<N: RunBrand, S, K> {
     pub packets: Vec<Consumer<Packet<N>>>,
     pub egress_packets: Vec<Consumer<EgressPacket<N>>>,
     pub shares: Vec<Share<N>>,
@@ -21,7 +21,7 @@ pub struct Space<N: Router, S, K> {
     pub sinks: Vec<K>,
 }
 
-impl<N: Router, S, K> Model for Space<N, S, K> {
+impl<N: RunBrand, S, K> Model for Space<N, S, K> {
     ghost use Rattle.std.specs.Prelude.{◌≡◌, [], vec_capacity};
     ghost use Rattle.run_report.specs.Room.{Space as Seen};
 
@@ -33,7 +33,7 @@ impl<N: Router, S, K> Model for Space<N, S, K> {
 }
 
 /// Room for what comes back of a router with these numbers of links and processors.
-pub fn space_for<N: Router, S: Drop, K: Drop>(
+pub fn space_for<N: RunBrand, S: Drop, K: Drop>(
     alloc: Global,
     links: usize,
     processors: usize,

@@ -1,7 +1,7 @@
 -- Lists of devices that never tell.
 use Rattle.std.proofs.Common.{List, [], ◌∷◌, None}
 use Rattle.order_laws.specs.Deeds.{Each}
-use Rattle.router_laws.specs.Heard.{ToldNothing}
+use Rattle.worker_order.specs.Heard.{ToldNothing}
 
 pub untold_silent : (T : Type 0) {X : Type 0} (xs : List X) → Each (λ (x : X). ToldNothing {X = T} None) xs
 untold_silent T [] = tt

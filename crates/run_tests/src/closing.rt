@@ -8,9 +8,9 @@ use crate::routers::{CAPACITY_2, CAPACITY_64, TWO_BANDS_2, TWO_BANDS_64};
 use crate::setup::Setup;
 use process_packet::Totals;
 use router_run::CloseFault;
-use stage_parts::Sent;
 use stages_tests::{CLOSED, FULL_PROCESSOR, totals};
 use std::test::*;
+use worker_parts::Sent;
 
 // Whether a sink was handed the packets of these numbers, in this order.
 fn are_numbered(list: &[Sent], numbers: &[u64]) -> bool {

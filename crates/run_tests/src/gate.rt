@@ -2,10 +2,10 @@
 
 use crate::cues::{Cue, Words};
 use router_rules::Worker;
-use stage_parts::Gate;
 use std::alloc::Global;
 use std::sync::Arc;
 use std::sync::atomic::Ordering;
+use worker_parts::Gate;
 
 /// When a gate admits a packet.
 #[derive(Clone, Copy)]

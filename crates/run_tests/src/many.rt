@@ -14,11 +14,11 @@ use hop_check::beacon;
 use path_fields::Hop;
 use process_packet::{Ip, Underlay};
 use sample_packets::{FIRST, KEY, PATH_AT, with_bytes};
-use stage_parts::{Sent, both};
 use stages_tests::FULL_SLOW_PATH;
 use std::alloc::{AllocError, Global};
 use std::sync::Arc;
 use std::test::*;
+use worker_parts::{Sent, both};
 
 /// All links, the internal network's among them.
 const LINKS: u16 = 33;

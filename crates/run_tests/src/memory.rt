@@ -7,9 +7,9 @@ use crate::setup::{OPEN, Setup};
 use crate::sink::Taking;
 use crate::source::{ENDED, FAILS, Plan};
 use sample_packets::{FIRST, PATH_AT, with_bytes};
-use stage_parts::{Sent, Sink, Source};
 use stages_tests::{NOTHING, SEND_FAILED, totals};
 use std::test::*;
+use worker_parts::{Sent, Sink, Source};
 
 /// Where the identifier of the first datagram's segment is.
 const SEGMENT_AT: usize = 42;

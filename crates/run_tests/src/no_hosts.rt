@@ -2,12 +2,12 @@
 
 use process_packet::{Ip, Underlay};
 use router_rules::Outgoing;
-use stage_parts::Sink;
 use std::net::Net;
 use std::process::Abort;
 use std::test::*;
 use std::time::Clock;
 use udp_devices::{Ends, UdpSink, open_link};
+use worker_parts::Sink;
 
 /// This machine's loopback addresses, and an address that isn't one, of both versions.
 const LOOPBACK: Ip = Ip::V4([127, 0, 0, 1]);

@@ -1,6 +1,6 @@
 //! New pipes, of which no end is made yet.
 
-use pipe_ends::{NewPipes, new_pipes};
+use run_ends::{NewPipes, new_pipes};
 use std::alloc::Global;
 use std::process::Abort;
 use std::test::*;

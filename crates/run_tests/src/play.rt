@@ -12,12 +12,12 @@ use crossbeam_utils::Backoff;
 use packet_ledger::Blank;
 use process_packet::Totals;
 use router_run::{CloseFault, Report, Running, StartFault};
-use stage_parts::{Gate, Router, Sent, Sink, Source};
 use std::marker::Brand;
 use std::rt::Clock;
 use std::sync::Wait;
 use std::sync::atomic::Ordering;
 use std::thread::Threads;
+use worker_parts::{Gate, RunBrand, Sent, Sink, Source};
 
 /// What came of a run.
 #[derive(Drop)]
@@ -62,7 +62,7 @@ trait Closing {
 
 impl<N, S, K, G, R> Closing for Running<N, S, K, G, R>
 where
-    N: Router,
+    N: RunBrand,
     S: Source + Drop,
     K: Sink + Drop,
     G: Gate + Drop,
@@ -111,7 +111,7 @@ fn obey_all<C: Closing>(running: &mut C, words: &Words, orders: &[Order]) -> boo
 
 fn play<N, R>(rt: R, blank: Blank, setup: Setup) -> Started
 where
-    N: Router + Send + Sync + 'static,
+    N: RunBrand + Send + Sync + 'static,
     R: Threads + Wait + Clock + Copy + Send + 'static,
     requires name { blank.table ≡ N.table }
     requires config { N.config ≡ Some setup.config }

@@ -9,13 +9,13 @@ use crate::setup::{Course, Devices, OPEN, Setup, sinks};
 use crate::sink::Taking;
 use crate::source::{ENDED, Plan, PlannedSource};
 use router_run::StartFault;
-use stage_parts::both;
 use std::alloc::{AllocError, Global};
 use std::rt::Clock;
 use std::sync::atomic::Ordering;
 use std::sync::{Arc, Wait};
 use std::test::*;
 use std::thread::Threads;
+use worker_parts::both;
 
 const ORDERS: [Order; 1] = [Order::Handed(1000)];
 

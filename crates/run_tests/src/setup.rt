@@ -6,9 +6,9 @@ use crate::routers::{Routed, router};
 use crate::sink::{PlannedSink, Taking};
 use crate::source::{ENDED, Plan, PlannedSource};
 use process_packet::Config;
-use stage_parts::both;
 use std::alloc::{AllocError, Global};
 use std::sync::Arc;
+use worker_parts::both;
 
 /// A source for each link, and a sink for each link.
 #[derive(Drop)]

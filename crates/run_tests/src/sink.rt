@@ -1,15 +1,15 @@
 //! A sink that takes packets by a rule.
 
 ghost use Rattle.std.specs.Prelude.{◌≡◌, ◌+◌, ◌-◌, ◌^◌, ◌<◌, None, is_ok, if◌then◌else◌};
-ghost use Rattle.stage_laws.specs.Forwards.{AddsTo};
-ghost use Rattle.stage_parts.specs.Told.{telling};
+ghost use Rattle.worker_laws.specs.Forwards.{AddsTo};
+ghost use Rattle.worker_parts.specs.Told.{telling};
 
 use crate::cues::Words;
 use router_rules::Outgoing;
-use stage_parts::{ListSink, Sent, Sink, SinkFault, both};
 use std::alloc::{AllocError, Global};
 use std::sync::Arc;
 use std::sync::atomic::Ordering;
+use worker_parts::{ListSink, Sent, Sink, SinkFault, both};
 
 /// What a sink does with what it is handed.
 #[derive(Clone, Copy)]

@@ -2,12 +2,12 @@
 
 use process_packet::{Ip, Underlay};
 use router_rules::Outgoing;
-use stage_parts::{BUFFER_LEN, NextLen, Sink, Source};
 use std::net::Net;
 use std::process::Abort;
 use std::test::*;
 use std::time::Clock;
 use udp_devices::{Ends, UdpSink, UdpSource, open_link};
+use worker_parts::{BUFFER_LEN, NextLen, Sink, Source};
 
 /// An end at an address of this machine alone, at a port that the system picks.
 const HERE: Ends = Ends {

@@ -3,17 +3,17 @@
 ghost use Rattle.std.specs.Prelude.{◌≡◌, ◌+◌, ◌-◌, ◌^◌, ◌<◌, [], ◌∷◌, None, false, length};
 ghost use Rattle.field_rows.specs.Place.{Puts};
 ghost use Rattle.sample_packets.specs.declared.datagram.TheConstants.{FIRST};
-ghost use Rattle.stage_laws.specs.Forwards.{AddsTo};
-ghost use Rattle.stage_parts.specs.Heard.{failures_of, fits, heard};
+ghost use Rattle.worker_laws.specs.Forwards.{AddsTo};
+ghost use Rattle.worker_parts.specs.Heard.{failures_of, fits, heard};
 
 use crate::cues::{Cue, Words};
 use process_packet::Underlay;
 use sample_packets::{FIRST, IN_TIME, with_bytes};
-use stage_parts::{NextLen, Source};
 use stages_tests::NEAR;
 use std::alloc::{AllocError, Global};
 use std::sync::Arc;
 use std::sync::atomic::Ordering;
+use worker_parts::{NextLen, Source};
 
 /// Of how many flows the datagrams are, where they aren't all of one.
 pub const FLOWS: u64 = 50;

@@ -3,9 +3,8 @@
 ghost use Rattle.std.specs.Prelude.{◌≡◌, ◌≤◌, false};
 
 use crossbeam_utils::sync::EventCount;
-use packet_ledger::{Blank, Book, Router, Share};
+use packet_ledger::{Blank, Book, RunBrand, Share};
 use ruled_pipe::Load;
-use stage_parts::{Event, Inlet, Outlet, Stage, Turn, Turns};
 use stages_tests::{ends_of, next_producer};
 use std::alloc::Global;
 use std::marker::Brand;
@@ -16,17 +15,18 @@ use std::test::*;
 use std::thread;
 use std::thread::Threads;
 use std::time::{Clock, Duration};
-use worker_threads::{HOLD, Orders, Started, Team, give_up, join_all, start_each};
+use worker_parts::{Event, Inlet, Outlet, Stage, Turn, Turns};
+use worker_threads::{HOLD, Started, Team, ThreadControl, give_up, join_all, start_each};
 
 // It counts a number of datagrams as received, one in a turn, is quiet for a number of turns, and has ended.
 #[derive(Drop)]
-struct Countdown<N: Router> {
+struct Countdown<N: RunBrand> {
     left: u64,
     quiet: u64,
     share: Share<N>,
 }
 
-impl<N: Router> Stage for Countdown<N> {
+impl<N: RunBrand> Stage for Countdown<N> {
     ghost use Rattle.std.specs.Prelude.{◌≡◌};
 
     ghost same = { λ a b. Unit {0} };
@@ -34,11 +34,11 @@ impl<N: Router> Stage for Countdown<N> {
     ghost has_ended = { λ a. a.left ≡ 0 };
 }
 
-impl<N: Router> Turns<Book<N>> for Countdown<N> {
+impl<N: RunBrand> Turns<Book<N>> for Countdown<N> {
     ghost use Rattle.std.specs.Prelude.{◌≡◌, refl};
     ghost use Rattle.std.proofs.Common.{◌∙◌};
     ghost use Rattle.packet_ledger.specs.Share.{HasRoom};
-    ghost use Rattle.stage_parts.specs.declared.turn.Turn.TheVariants.{Ended};
+    ghost use Rattle.worker_parts.specs.declared.turn.Turn.TheVariants.{Ended};
 
     ghost may_turn = { λ a. HasRoom a.share.counts };
 
@@ -94,11 +94,11 @@ impl<N: Router> Turns<Book<N>> for Countdown<N> {
 }
 
 // Workers and their orders, with room for the handles of their threads.
-fn team_of<N: Router, W: Stage + Drop, R: Abort>(
+fn team_of<N: RunBrand, W: Stage + Drop, R: Abort>(
     rt: &R,
     alloc: Global,
     workers: Vec<W>,
-    orders: Vec<Orders<Book<N>>>,
+    orders: Vec<ThreadControl<Book<N>>>,
 ) -> Team<Book<N>, W> {
     let room = Vec::with_capacity(alloc, workers.len()).expect(rt, "memory");
     Team {
@@ -109,7 +109,7 @@ fn team_of<N: Router, W: Stage + Drop, R: Abort>(
 }
 
 // A number of workers, with shares taken off a list.
-fn countdowns<N: Router, R: Abort>(
+fn countdowns<N: RunBrand, R: Abort>(
     rt: &R,
     alloc: Global,
     shares: &mut Vec<Share<N>>,
@@ -128,12 +128,12 @@ fn countdowns<N: Router, R: Abort>(
 }
 
 // The same orders for a number of threads.
-fn copies<N: Router, R: Abort>(
+fn copies<N: RunBrand, R: Abort>(
     rt: &R,
     alloc: Global,
-    orders: &Orders<Book<N>>,
+    orders: &ThreadControl<Book<N>>,
     count: usize,
-) -> Vec<Orders<Book<N>>> {
+) -> Vec<ThreadControl<Book<N>>> {
     let mut copies = Vec::new(alloc);
     for _ in 0..count {
         let copy = orders.another().expect(rt, "memory");
@@ -145,10 +145,10 @@ fn copies<N: Router, R: Abort>(
 // How many workers a team has, and orders for how many threads.
 type Size = (usize, usize);
 
-fn team<N: Router, R: Abort>(
+fn team<N: RunBrand, R: Abort>(
     rt: &R,
     alloc: Global,
-    orders: &Orders<Book<N>>,
+    orders: &ThreadControl<Book<N>>,
     shares: &mut Vec<Share<N>>,
     size: Size,
 ) -> Team<Book<N>, Countdown<N>> {
@@ -157,14 +157,14 @@ fn team<N: Router, R: Abort>(
 }
 
 // Whether a worker came to its end and posted all that it counted.
-fn is_over<N: Router>(worker: &Countdown<N>) -> bool {
+fn is_over<N: RunBrand>(worker: &Countdown<N>) -> bool {
     worker.left == 0 && worker.quiet == 0 && worker.share.posted().received == 3000
 }
 
 // How many workers came back, each over.
 fn joined<N, R>(rt: &R, started: Started<Countdown<N>>) -> usize
 where
-    N: Router,
+    N: RunBrand,
     R: Threads + Wait + Clock,
 {
     let back = join_all(rt, started);
@@ -176,26 +176,26 @@ where
     back.len()
 }
 
-// Orders for the threads of workers that count, and the workers' shares.
-fn orders_for<N: Router, R: Abort>(
+// ThreadControl for the threads of workers that count, and the workers' shares.
+fn orders_for<N: RunBrand, R: Abort>(
     rt: &R,
     alloc: Global,
     blank: Blank,
     workers: usize,
-) -> (Orders<Book<N>>, Vec<Share<N>>)
+) -> (ThreadControl<Book<N>>, Vec<Share<N>>)
     requires name { blank.table ≡ N.table }
     requires workers { (workers ≡ N.workers) × (workers ≤ 65536) }
 {
     let (book, shares) = Book::<N>::new(alloc, blank, workers).expect(rt, "memory");
     let word = Arc::new(alloc, AtomicU64::new(HOLD)).expect(rt, "memory");
     let book = Arc::new(alloc, book).expect(rt, "memory");
-    (Orders::new(word, book), shares)
+    (ThreadControl::new(word, book), shares)
 }
 
 // How many came back of each of four teams; none where a thread was refused, and all others gave up.
 fn four_teams<N, R>(rt: R, alloc: Global, blank: Blank, sizes: [Size; 4]) -> Option<[usize; 4]>
 where
-    N: Router + Send + Sync + 'static,
+    N: RunBrand + Send + Sync + 'static,
     R: Abort + Threads + Wait + Clock + Copy + Send + 'static,
     requires name { blank.table ≡ N.table }
     requires six { N.workers ≡ 6 }
@@ -254,7 +254,7 @@ impl Stage for Drain {
     ghost has_ended = { λ a. Unit {0} };
 }
 
-impl<N: Router> Turns<Book<N>> for Drain {
+impl<N: RunBrand> Turns<Book<N>> for Drain {
     ghost may_turn = { λ a. Unit {0} };
 
     ghost has_turned = { λ turn a b. Unit {0} };
@@ -310,11 +310,11 @@ impl<N: Router> Turns<Book<N>> for Drain {
 }
 
 // One worker, and room for its handle.
-fn alone<N: Router, W: Stage + Drop, R: Abort>(
+fn alone<N: RunBrand, W: Stage + Drop, R: Abort>(
     rt: &R,
     alloc: Global,
     worker: W,
-    orders: Orders<Book<N>>,
+    orders: ThreadControl<Book<N>>,
 ) -> Team<Book<N>, W> {
     let mut workers = Vec::new(alloc);
     workers.push(worker).expect(rt, "memory");
@@ -349,7 +349,7 @@ fn feed<R: Wait + Clock>(rt: &R, to: &mut Outlet<u64>) -> bool {
 // What a worker that sleeps takes of a pipe into which there is a push now and then: the sum.
 fn fed<N, R>(rt: R, alloc: Global, blank: Blank) -> u64
 where
-    N: Router + Send + Sync + 'static,
+    N: RunBrand + Send + Sync + 'static,
     R: Abort + Threads + Wait + Clock + Copy + Send + 'static,
     requires name { blank.table ≡ N.table }
     requires none { N.workers ≡ 0 }

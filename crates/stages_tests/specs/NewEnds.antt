@@ -2,7 +2,7 @@
 use Rattle.std.specs.Prelude.{◌≡◌, ℕ, false, []}
 use Rattle.ruled_pipe.specs.Consumer.{Taker}
 use Rattle.ruled_pipe.specs.Producer.{Sender}
-use Rattle.stage_parts.specs.Outlet.{Offering}
+use Rattle.worker_parts.specs.Outlet.{Offering}
 
 module _ {T : Type 0} where
   -- nothing was pushed by it

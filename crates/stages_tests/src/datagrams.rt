@@ -1,17 +1,17 @@
 //! Datagrams that sources give.
 
 ghost use Rattle.std.specs.Prelude.{◌≡◌, IfOk, length, map, replicate, take};
-ghost use Rattle.router_laws.specs.Heard.{Gave};
+ghost use Rattle.worker_order.specs.Heard.{Gave};
 ghost use Rattle.sample_packets.specs.declared.datagram.TheConstants.{FIRST, IN_TIME};
 ghost use Rattle.stages_tests.specs.declared.neighbour.TheConstants.{NEAR};
-ghost use Rattle.stage_parts.specs.Heard.{failures_of, fits, heard};
-ghost use Rattle.stage_parts.specs.ListSource.{heard_of};
+ghost use Rattle.worker_parts.specs.Heard.{failures_of, fits, heard};
+ghost use Rattle.worker_parts.specs.ListSource.{heard_of};
 
 use crate::neighbour::NEAR;
 use process_packet::Underlay;
 use sample_packets::{FIRST, IN_TIME};
-use stage_parts::{Next, NextLen};
 use std::alloc::{AllocError, Global};
+use worker_parts::{Next, NextLen};
 
 /// A datagram from an underlay address, at a moment.
 pub fn datagram(alloc: Global, bytes: &[u8], from: Underlay, now: u64) -> Result<Next, AllocError>

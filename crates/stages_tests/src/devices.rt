@@ -6,11 +6,11 @@ use crate::neighbour::NEAR;
 use process_packet::LONGEST_DATAGRAM;
 use router_rules::Outgoing;
 use ruled_pipe::{Consumer, Load, Mark, Pipe, Producer};
-use stage_parts::{BUFFER_LEN, Inlet, ListSink, ListSource, Next, NextLen, Outlet, Sink, Source};
 use std::alloc::{AllocError, Global};
 use std::process::Abort;
 use std::sync::Wait;
 use std::test::*;
+use worker_parts::{BUFFER_LEN, Inlet, ListSink, ListSource, Next, NextLen, Outlet, Sink, Source};
 
 // Whether the source gives a datagram of this length, with this first byte.
 fn gives(source: &mut ListSource, bytes: &mut [u8; BUFFER_LEN], want: usize, first: u8) -> bool {

@@ -7,9 +7,9 @@ ghost use Rattle.stages_tests.specs.NewEnds.{IsFresh, IsNew, IsUntaken};
 use crate::new_ends::{ends_of, next_producer};
 use packet_ledger::Share;
 use ruled_pipe::{Consumer, Producer};
-use stage_parts::{Inlet, Outlet, Router};
 use std::alloc::Global;
 use std::process::Abort;
+use worker_parts::{Inlet, Outlet, RunBrand};
 
 /// The ends of a new pipe.
 pub fn pipe_of<T: Drop, R: Abort>(
@@ -51,7 +51,7 @@ pub fn pipe_of_one<T: Drop, R: Abort>(
 }
 
 /// The next new counts.
-pub fn next_share<N: Router>(shares: &mut Vec<Share<N>>) -> Share<N>
+pub fn next_share<N: RunBrand>(shares: &mut Vec<Share<N>>) -> Share<N>
     requires new { All (λ s. s ≡ new_share) shares.old.items }
     requires some { 0 < length shares.old.items }
     ensures next { result ≡ new_share }

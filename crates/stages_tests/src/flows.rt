@@ -1,14 +1,14 @@
 //! Devices whose packets are timed: datagrams of many flows, and a sum of what leaves.
 
 ghost use Rattle.std.specs.Prelude.{◌≡◌, ◌+◌, ◌-◌, ◌^◌, ◌<◌, None, false, is_ok, if◌then◌else◌, length};
-ghost use Rattle.stage_laws.specs.Forwards.{AddsTo};
-ghost use Rattle.stage_parts.specs.Heard.{failures_of, fits, heard};
-ghost use Rattle.stage_parts.specs.Told.{telling};
+ghost use Rattle.worker_laws.specs.Forwards.{AddsTo};
+ghost use Rattle.worker_parts.specs.Heard.{failures_of, fits, heard};
+ghost use Rattle.worker_parts.specs.Told.{telling};
 
 use crate::datagrams::give;
 use router_rules::Outgoing;
 use sample_packets::{FIRST, PATH_AT};
-use stage_parts::{NextLen, Sink, SinkFault, Source};
+use worker_parts::{NextLen, Sink, SinkFault, Source};
 
 /// How many flows there are.
 const FLOWS: usize = 64;

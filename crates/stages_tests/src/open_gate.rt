@@ -1,7 +1,7 @@
 //! A gate that is never shut.
 
 use router_rules::Worker;
-use stage_parts::Gate;
+use worker_parts::Gate;
 
 /// Admits all.
 #[derive(Drop)]

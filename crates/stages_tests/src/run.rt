@@ -12,11 +12,11 @@ use process_packet::Totals;
 use router_rules::Shared;
 use router_stages::{Forwarder, Processor, Receiver, SlowPath};
 use ruled_pipe::{Mark, Producer};
-use stage_parts::{EgressPacket, ListSink, ListSource, Next, Router, Sink, Source, Turns};
 use std::alloc::Global;
 use std::marker::Brand;
 use std::process::Abort;
 use std::sync::{Arc, Wait};
+use worker_parts::{EgressPacket, ListSink, ListSource, Next, RunBrand, Sink, Source, Turns};
 
 /// What the workers are made of.
 #[derive(Clone, Copy)]
@@ -51,7 +51,7 @@ pub struct Outcome {
 
 /// The workers, and the end by which the forwarder's pipe is closed.
 #[derive(Drop)]
-pub struct Workers<N: Router, S: Source, K: Sink> {
+pub struct Workers<N: RunBrand, S: Source, K: Sink> {
     pub receiver: Receiver<N, S>,
     pub processor: Processor<N, Open>,
     pub slow_path: SlowPath<N>,
@@ -59,7 +59,7 @@ pub struct Workers<N: Router, S: Source, K: Sink> {
     pub controller: Producer<EgressPacket<N>>,
 }
 
-impl<N: Router> Workers<N, ListSource, ListSink> {
+impl<N: RunBrand> Workers<N, ListSource, ListSink> {
     fn turn<R: Wait>(&mut self, rt: &R, letter: u8) -> bool {
         match letter.to_ascii_uppercase() {
             b'R' => self.receiver.has_room() && was(self.receiver.turn(rt), letter),
@@ -79,25 +79,25 @@ impl<N: Router> Workers<N, ListSource, ListSink> {
     }
 }
 
-fn share_of_receiver<N: Router>(worker: Receiver<N, ListSource>) -> Share<N> {
+fn share_of_receiver<N: RunBrand>(worker: Receiver<N, ListSource>) -> Share<N> {
     worker.into_parts().3
 }
 
-fn share_of_processor<N: Router>(worker: Processor<N, Open>) -> Share<N> {
+fn share_of_processor<N: RunBrand>(worker: Processor<N, Open>) -> Share<N> {
     worker.into_parts().4
 }
 
-fn share_of_slow_path<N: Router>(worker: SlowPath<N>) -> Share<N> {
+fn share_of_slow_path<N: RunBrand>(worker: SlowPath<N>) -> Share<N> {
     worker.into_parts().3
 }
 
-fn sink_and_share<N: Router>(worker: Forwarder<N, ListSink>) -> (ListSink, Share<N>) {
+fn sink_and_share<N: RunBrand>(worker: Forwarder<N, ListSink>) -> (ListSink, Share<N>) {
     let (sink, _, _, _, share) = worker.into_parts();
     (sink, share)
 }
 
 // What is left of the workers: the sink and their counts.
-fn parts_of<N: Router, R: Abort>(
+fn parts_of<N: RunBrand, R: Abort>(
     rt: &R,
     alloc: Global,
     workers: Workers<N, ListSource, ListSink>,
@@ -112,7 +112,7 @@ fn parts_of<N: Router, R: Abort>(
     (sink, shares)
 }
 
-fn play<N: Router, R: Abort + Wait>(
+fn play<N: RunBrand, R: Abort + Wait>(
     rt: &R,
     alloc: Global,
     blank: Blank,

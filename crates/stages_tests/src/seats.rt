@@ -2,30 +2,30 @@
 
 ghost use Rattle.std.specs.Prelude.{◌≡◌, length};
 ghost use Rattle.packet_ledger.specs.Share.{new_share};
-ghost use Rattle.stage_parts.specs.Outlets.{AreFresh};
+ghost use Rattle.worker_parts.specs.Outlets.{AreFresh};
 ghost use Rattle.stages_tests.specs.NewEnds.{IsFresh};
 
 use crate::ends::{next_outlet, pipe_of};
 use crate::new_ends::next_producer;
 use packet_ledger::Share;
 use ruled_pipe::Producer;
-use stage_parts::{Buffer, EgressPacket, Outlet, Router};
 use std::alloc::Global;
 use std::marker::Model;
 use std::process::Abort;
+use worker_parts::{Buffer, EgressPacket, Outlet, RunBrand};
 
 /// New ends of the pipes of four links and of their free buffers, and new counts.
 #[derive(Drop)]
-pub struct Seat<N: Router> {
+pub struct Seat<N: RunBrand> {
     pub links: Vec<Outlet<EgressPacket<N>>>,
     pub free: Vec<Producer<Buffer>>,
     pub share: Share<N>,
 }
 
-impl<N: Router> Model for Seat<N> {
+impl<N: RunBrand> Model for Seat<N> {
     ghost use Rattle.std.specs.Prelude.{◌≡◌, length};
     ghost use Rattle.packet_ledger.specs.Share.{new_share};
-    ghost use Rattle.stage_parts.specs.Outlets.{AreFresh};
+    ghost use Rattle.worker_parts.specs.Outlets.{AreFresh};
 
     ghost Value = { Unit {0} };
 
@@ -72,7 +72,7 @@ pub fn new_returns<R: Abort>(rt: &R, alloc: Global, one: Producer<Buffer>) -> Ve
 }
 
 /// What a worker is given that feeds the pipes of a link's low and high band.
-pub fn new_seat<N: Router, R: Abort>(
+pub fn new_seat<N: RunBrand, R: Abort>(
     rt: &R,
     alloc: Global,
     link: u16,

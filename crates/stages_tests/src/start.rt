@@ -3,7 +3,7 @@
 ghost use Rattle.std.specs.Prelude.{◌≡◌, ◌<◌, ◌≤◌, Some, [], All, false, length};
 ghost use Rattle.std.specs.Arc.{arc_value};
 ghost use Rattle.packet_ledger.specs.Share.{new_share};
-ghost use Rattle.router_laws.specs.Heard.{ToldNothing};
+ghost use Rattle.worker_order.specs.Heard.{ToldNothing};
 ghost use Rattle.router_rules.specs.Links.{link_count};
 ghost use Rattle.stages_tests.specs.NewEnds.{IsFresh};
 ghost use Rattle.stages_tests.specs.NewBands.{IsNewBand};
@@ -17,13 +17,13 @@ use packet_ledger::Share;
 use router_rules::Shared;
 use router_stages::{Band, Forwarder, Processor, Receiver, SlowPath};
 use ruled_pipe::{Consumer, Producer};
-use stage_parts::{
-    Buffer, EgressPacket, Inlet, Outlet, Packet, Router, Sink, SlowPathRequest, Source,
-};
 use std::alloc::Global;
 use std::process::Abort;
 use std::sync::atomic::AtomicU64;
 use std::sync::{Arc, Wait};
+use worker_parts::{
+    Buffer, EgressPacket, Inlet, Outlet, Packet, RunBrand, Sink, SlowPathRequest, Source,
+};
 
 // How many free buffers fit.
 const BUFFERS: usize = 256;
@@ -35,7 +35,7 @@ fn share_of<R: Abort>(rt: &R, shared: &Arc<Shared, Global>) -> Arc<Shared, Globa
 }
 
 // Link 1's receiver.
-fn receiver<N: Router, S: Source + Drop, R: Abort>(
+fn receiver<N: RunBrand, S: Source + Drop, R: Abort>(
     rt: &R,
     alloc: Global,
     shared: &Arc<Shared, Global>,
@@ -58,7 +58,7 @@ fn receiver<N: Router, S: Source + Drop, R: Abort>(
     Receiver::new(shared, stop, 1, source, first, free, processors, share)
 }
 
-fn processor<N: Router, R: Abort>(
+fn processor<N: RunBrand, R: Abort>(
     rt: &R,
     alloc: Global,
     shared: &Arc<Shared, Global>,
@@ -77,7 +77,7 @@ fn processor<N: Router, R: Abort>(
     Processor::new(shared, 0, gate, packets, links, slow, free, share)
 }
 
-fn slow_path<N: Router, R: Abort>(
+fn slow_path<N: RunBrand, R: Abort>(
     rt: &R,
     shared: &Arc<Shared, Global>,
     requests: Inlet<SlowPathRequest<N>>,
@@ -92,7 +92,7 @@ fn slow_path<N: Router, R: Abort>(
     SlowPath::new(shared, requests, links, free, share)
 }
 
-fn forwarder<N: Router, K: Sink + Drop, R: Abort>(
+fn forwarder<N: RunBrand, K: Sink + Drop, R: Abort>(
     rt: &R,
     alloc: Global,
     shared: &Arc<Shared, Global>,
@@ -123,7 +123,7 @@ fn fill<R: Abort + Wait>(rt: &R, alloc: Global, stock: Producer<Buffer>, buffers
 
 /// The workers over these devices, whose forwarder is of a link, with as many free buffers beside the receiver's and
 /// entries in each pipe as said.
-pub fn start<N: Router, S: Source + Drop, K: Sink + Drop, R: Abort + Wait>(
+pub fn start<N: RunBrand, S: Source + Drop, K: Sink + Drop, R: Abort + Wait>(
     rt: &R,
     alloc: Global,
     shared: &Arc<Shared, Global>,

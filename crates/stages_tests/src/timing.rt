@@ -14,7 +14,6 @@ use packet_ledger::{Blank, Book};
 use process_packet::Bands;
 use router_rules::Shared;
 use router_stages::Forwarder;
-use stage_parts::{Router, Turns};
 use std::alloc::Global;
 use std::marker::Brand;
 use std::process::Abort;
@@ -22,6 +21,7 @@ use std::rt::Clock;
 use std::sync::{Arc, Wait};
 use std::time::Instant;
 use std::{env, io};
+use worker_parts::{RunBrand, Turns};
 
 // How many packets each worker passes on before the next one takes its turns.
 const BATCH: usize = 64;
@@ -40,7 +40,7 @@ const SIZES: Sizes = Sizes {
 };
 
 // Each worker passes a batch of packets on, as the loop of a thread lets it.
-fn pass_batch<N: Router, R: Wait>(rt: &R, workers: &mut Workers<N, Flows, Sums>) {
+fn pass_batch<N: RunBrand, R: Wait>(rt: &R, workers: &mut Workers<N, Flows, Sums>) {
     for _ in 0..BATCH {
         if workers.receiver.has_room() {
             let _ = workers.receiver.turn(rt);
@@ -59,7 +59,7 @@ fn pass_batch<N: Router, R: Wait>(rt: &R, workers: &mut Workers<N, Flows, Sums>)
 }
 
 // The tenths of a nanosecond of a packet.
-fn tenths_once<N: Router, R: Abort + Wait + Clock>(
+fn tenths_once<N: RunBrand, R: Abort + Wait + Clock>(
     rt: &R,
     workers: &mut Workers<N, Flows, Sums>,
 ) -> u128 {
@@ -72,7 +72,7 @@ fn tenths_once<N: Router, R: Abort + Wait + Clock>(
 }
 
 // The tenths of a nanosecond of a packet, in the middle one of the tries.
-fn tenths<N: Router, R: Abort + Wait + Clock>(
+fn tenths<N: RunBrand, R: Abort + Wait + Clock>(
     rt: &R,
     alloc: Global,
     workers: &mut Workers<N, Flows, Sums>,
@@ -86,13 +86,13 @@ fn tenths<N: Router, R: Abort + Wait + Clock>(
 }
 
 // The sum of what left by a forwarder.
-fn sum_of<N: Router>(forwarder: Forwarder<N, Sums>) -> u64 {
+fn sum_of<N: RunBrand>(forwarder: Forwarder<N, Sums>) -> u64 {
     let (sink, _, _, _, _) = forwarder.into_parts();
     sink.sum()
 }
 
 // The sum of what left.
-fn sum_left<N: Router>(workers: Workers<N, Flows, Sums>) -> u64 {
+fn sum_left<N: RunBrand>(workers: Workers<N, Flows, Sums>) -> u64 {
     let Workers {
         receiver,
         processor,
@@ -108,7 +108,7 @@ fn sum_left<N: Router>(workers: Workers<N, Flows, Sums>) -> u64 {
 }
 
 // The tenths, and the sum of what left.
-fn time_workers<N: Router, R: Abort + Wait + Clock>(
+fn time_workers<N: RunBrand, R: Abort + Wait + Clock>(
     rt: &R,
     alloc: Global,
     workers: Workers<N, Flows, Sums>,
@@ -119,7 +119,7 @@ fn time_workers<N: Router, R: Abort + Wait + Clock>(
 }
 
 // The same of the workers of a router that has this name.
-fn time<N: Router, R: Abort + Wait + Clock>(
+fn time<N: RunBrand, R: Abort + Wait + Clock>(
     rt: &R,
     alloc: Global,
     blank: Blank,

@@ -9,11 +9,11 @@ use crate::sample_router::router;
 use process_packet::{Bands, Totals};
 use router_rules::Shared;
 use sample_packets::{ANSWER, FIRST, IN_TIME, LATE, MAC_AT, OTHER_MAC, PAYLOAD_AT, with_bytes};
-use stage_parts::{Next, Sent, Sink};
 use std::alloc::{AllocError, Global};
 use std::process::Abort;
 use std::sync::Wait;
 use std::test::*;
+use worker_parts::{Next, Sent, Sink};
 
 // Link 2's forwarder, four buffers beside the receiver's, four entries in each pipe, and a sink that never fails.
 fn plan(turns: &'static str) -> Plan {

@@ -11,7 +11,6 @@ mod router;
 
 use crate::router::{Plan, end_router, plan_of, start_router};
 use path_trial::probe_of;
-use stage_parts::Router;
 use std::marker::Brand;
 use std::net::Net;
 use std::process::ExitCode;
@@ -19,6 +18,7 @@ use std::rt::{Clock, Env, Files};
 use std::sync::Wait;
 use std::thread::Threads;
 use std::{env, io};
+use worker_parts::RunBrand;
 
 /// The words after the program's name.
 fn words_of<R: Env + AllocGlobal>(rt: &R) -> io::Result<Vec<String>> {
@@ -44,7 +44,7 @@ where
 /// Tries the path while the first router runs, and prints its report.
 fn with_first<N, R>(rt: R, words: &[String], first: Plan<R>) -> io::Result<()>
 where
-    N: Router + Send + Sync + 'static,
+    N: RunBrand + Send + Sync + 'static,
     R: Files + Net + Threads + Wait + Clock + Print + AllocGlobal + Copy + Send + Drop + 'static,
     requires words { length words.now ≡ 6 }
     requires named { IsNamed N.table N.workers N.config first.blank.table first.config }
@@ -58,7 +58,7 @@ where
 /// The same while the router runs too by which the path enters the core AS.
 fn with_core_in<N, R>(rt: R, words: &[String], first: Plan<R>, core_in: Plan<R>) -> io::Result<()>
 where
-    N: Router + Send + Sync + 'static,
+    N: RunBrand + Send + Sync + 'static,
     R: Files + Net + Threads + Wait + Clock + Print + AllocGlobal + Copy + Send + Drop + 'static,
     requires words { length words.now ≡ 6 }
     requires named { IsNamed N.table N.workers N.config core_in.blank.table core_in.config }
@@ -78,7 +78,7 @@ fn with_core_out<N, R>(
     core_out: Plan<R>,
 ) -> io::Result<()>
 where
-    N: Router + Send + Sync + 'static,
+    N: RunBrand + Send + Sync + 'static,
     R: Files + Net + Threads + Wait + Clock + Print + AllocGlobal + Copy + Send + Drop + 'static,
     requires words { length words.now ≡ 6 }
     requires named { IsNamed N.table N.workers N.config core_out.blank.table core_out.config }
@@ -99,7 +99,7 @@ fn with_last<N, R>(
     last: Plan<R>,
 ) -> io::Result<()>
 where
-    N: Router + Send + Sync + 'static,
+    N: RunBrand + Send + Sync + 'static,
     R: Files + Net + Threads + Wait + Clock + Print + AllocGlobal + Copy + Send + Drop + 'static,
     requires words { length words.now ≡ 6 }
     requires named { IsNamed N.table N.workers N.config last.blank.table last.config }

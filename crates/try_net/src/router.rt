@@ -8,7 +8,6 @@ use path_trial::config_at;
 use process_packet::Config;
 use router_rules::{Worker, interface_at, link_count};
 use router_run::{Report, Running, start};
-use stage_parts::{Gate, Router};
 use std::alloc::{AllocError, Global};
 use std::io;
 use std::marker::Model;
@@ -17,6 +16,7 @@ use std::rt::{Clock, Files};
 use std::sync::Wait;
 use std::thread::Threads;
 use udp_devices::{Devices, UdpSink, UdpSource, bind_links};
+use worker_parts::{Gate, RunBrand};
 
 /// Holds no packet back.
 #[derive(Drop)]
@@ -82,7 +82,7 @@ where
 /// A router that runs, if it could be started, and the interfaces of its links. It has no `Drop`: it is to be ended.
 pub struct Started<N, R>
 where
-    N: Router,
+    N: RunBrand,
     R: Clock + Drop,
 {
     links: Vec<u16>,
@@ -92,7 +92,7 @@ where
 /// Starts the router of a plan.
 pub fn start_router<N, R>(rt: R, alloc: Global, plan: Plan<R>) -> Started<N, R>
 where
-    N: Router + Send + Sync + 'static,
+    N: RunBrand + Send + Sync + 'static,
     R: Threads + Wait + Clock + Copy + Send + Drop + 'static,
     requires { IsNamed N.table N.workers N.config plan.blank.table plan.config }
 {
@@ -133,7 +133,7 @@ fn print_report<R: Print>(rt: &R, name: &str, report: &[u8]) -> io::Result<()> {
 /// Ends a router, and prints its report under a name.
 pub fn end_router<N, R>(rt: &R, name: &str, router: Started<N, R>) -> io::Result<()>
 where
-    N: Router,
+    N: RunBrand,
     R: Threads + Wait + Clock + Print + AllocGlobal + Copy + Drop,
 {
     let Started { links, running } = router;

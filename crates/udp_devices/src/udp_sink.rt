@@ -1,8 +1,8 @@
 //! Where what leaves by a link goes.
 
 ghost use Rattle.std.specs.Prelude.{◌≡◌, ◌+◌, ◌-◌, ◌^◌, ◌<◌, ℕ, List, Option, None, is_ok, false, if◌then◌else◌};
-ghost use Rattle.stage_laws.specs.Forwards.{AddsTo};
-ghost use Rattle.stage_parts.specs.Told.{telling};
+ghost use Rattle.worker_laws.specs.Forwards.{AddsTo};
+ghost use Rattle.worker_parts.specs.Told.{telling};
 ghost use Rattle.udp_devices.specs.Devices.{Sending};
 ghost use Rattle.udp_devices.specs.Ends.{destination};
 
@@ -11,10 +11,10 @@ use crate::ends::{Ends, destination};
 use crate::readiness::wait_for_room;
 use process_packet::Underlay;
 use router_rules::Outgoing;
-use stage_parts::{Sink, SinkFault};
 use std::io::ErrorKind;
 use std::marker::Model;
 use std::net::UdpSocket;
+use worker_parts::{Sink, SinkFault};
 
 /// Sends by a socket that isn't connected. Contracts see the ends of its link, and how often it failed.
 pub struct UdpSink {

@@ -1,17 +1,17 @@
 //! Where a link's datagrams come from.
 
 ghost use Rattle.std.specs.Prelude.{◌≡◌, ◌+◌, ◌-◌, ◌^◌, ◌<◌, ℕ, List, Option, None, length};
-ghost use Rattle.stage_laws.specs.Forwards.{AddsTo};
-ghost use Rattle.stage_parts.specs.Heard.{failures_of, fits, heard};
+ghost use Rattle.worker_laws.specs.Forwards.{AddsTo};
+ghost use Rattle.worker_parts.specs.Heard.{failures_of, fits, heard};
 
 use crate::address::underlay_of;
 use crate::readiness::wait_for_datagram;
 use process_packet::Underlay;
-use stage_parts::{NextLen, Source};
 use std::io::ErrorKind;
 use std::marker::Model;
 use std::net::{SocketAddr, UdpSocket};
 use std::time::{Clock, SystemTime, UNIX_EPOCH};
+use worker_parts::{NextLen, Source};
 
 /// Reads a socket without waiting, and the machine's clock. It never answers that there will be none any
 /// more. Contracts see the address at which the socket was opened, and how often it failed.

@@ -2,10 +2,10 @@
 use Rattle.std.specs.Prelude.{◌≡◌, ⊤, ℕ, List, None, Result, Ok, Err}
 use Rattle.cli_run.specs.declared.closing.Closing.{Closing}
 use Rattle.cli_run.specs.declared.closing.Closing.TheVariants as closing
-use Rattle.router_pipes.specs.Closing.{Closing as Marking}
-use Rattle.router_run.specs.Run.{HasRun, IsSameRun, Run}
-use Rattle.router_pipes.specs.declared.closing.CloseFault.{CloseFault}
-use Rattle.router_pipes.specs.declared.closing.CloseFault.TheVariants as fault
+use Rattle.run_pipes.specs.Closing.{Closing as Marking}
+use Rattle.router_run.specs.Run.{RouterHasRun, IsSameRun, Run}
+use Rattle.run_pipes.specs.declared.closing.CloseFault.{CloseFault}
+use Rattle.run_pipes.specs.declared.closing.CloseFault.TheVariants as fault
 use Rattle.cli_run.specs.declared.control.Figures.{Figures}
 use Rattle.udp_devices.specs.Devices.{Reading, Sending}
 
@@ -26,4 +26,4 @@ pub record Closes (before : Router) (link : ℕ) (told : Closing) (after : Route
 
 -- The figures are those of a run of it. Neither its sources nor its sinks tell what a socket gave or took.
 abbrev pub Tells : Router → Figures → Type 0
-Tells router figures = (sources : List Reading) × (sinks : List Sending) × HasRun (λ s. None) (λ k. None) (λ k. k.failed) (λ a b. b.local ≡ a.local) (λ a b. b.ends ≡ a.ends) router figures.totals figures.sent.items sources sinks
+Tells router figures = (sources : List Reading) × (sinks : List Sending) × RouterHasRun (λ s. None) (λ k. None) (λ k. k.failed) (λ a b. b.local ≡ a.local) (λ a b. b.ends ≡ a.ends) router figures.totals figures.sent.items sources sinks

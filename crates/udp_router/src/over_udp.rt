@@ -6,12 +6,12 @@ ghost use Rattle.udp_router.specs.OverUdp.{result_of};
 use cli_run::{Closing, Control, Figures};
 use router_rules::Worker;
 use router_run::{CloseFault, Report, Running};
-use stage_parts::{Gate, Router};
 use std::marker::Model;
 use std::rt::Clock;
 use std::sync::Wait;
 use std::thread::Threads;
 use udp_devices::{UdpSink, UdpSource};
+use worker_parts::{Gate, RunBrand};
 
 /// Holds no packet back.
 #[derive(Drop)]
@@ -38,7 +38,7 @@ impl Gate for Open {
 /// A router that runs over its sockets. It can only be finished. Contracts see the running router.
 pub(crate) struct OverUdp<N, R>
 where
-    N: Router,
+    N: RunBrand,
     R: Wait + Clock + Copy + Drop,
 {
     running: Running<N, UdpSource<R>, UdpSink, Open, R>,
@@ -46,7 +46,7 @@ where
 
 impl<N, R> Model for OverUdp<N, R>
 where
-    N: Router,
+    N: RunBrand,
     R: Wait + Clock + Copy + Drop,
 {
     ghost use Rattle.udp_router.specs.OverUdp.{Router as Seen};
@@ -58,7 +58,7 @@ where
 
 impl<N, R> OverUdp<N, R>
 where
-    N: Router,
+    N: RunBrand,
     R: Wait + Clock + Copy + Drop,
 {
     pub(crate) fn of(running: Running<N, UdpSource<R>, UdpSink, Open, R>) -> OverUdp<N, R>
@@ -82,7 +82,7 @@ fn closing_of(closed: Result<(), CloseFault>) -> Closing
 
 impl<N, R> Control for OverUdp<N, R>
 where
-    N: Router,
+    N: RunBrand,
     R: Threads + Wait + Clock + Copy + Drop,
 {
     ghost use Rattle.udp_router.specs.OverUdp.{Closes, Tells};

@@ -12,7 +12,6 @@ use packet_ledger::Blank;
 use process_packet::Config;
 use router_rules::{interface_at, link_count};
 use router_run::{StartFault, start};
-use stage_parts::Router;
 use std::alloc::{AllocError, Global};
 use std::io::{BufRead, Write};
 use std::marker::Brand;
@@ -21,6 +20,7 @@ use std::rt::Clock;
 use std::sync::Wait;
 use std::thread::Threads;
 use udp_devices::{BindFault, Devices, UdpSink, UdpSource, bind_links};
+use worker_parts::RunBrand;
 
 /// The fault where no memory is left for the engine itself.
 const LACK: RunFault = RunFault::Lines(LinesFault::Memory);
@@ -69,7 +69,7 @@ fn start_and_lead<N, R, I: BufRead, O: Write>(
     writer: &mut O,
 ) -> Result<(), RunFault>
 where
-    N: Router + Send + Sync + 'static,
+    N: RunBrand + Send + Sync + 'static,
     R: Net + Threads + Wait + Clock + Copy + Send + Drop + 'static,
     requires name { blank.table ≡ N.table }
     requires config { N.config ≡ Some config }

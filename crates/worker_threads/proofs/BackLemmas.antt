@@ -1,7 +1,7 @@
 -- Lists of workers that go into threads and come back, taken from their ends.
 use Rattle.std.proofs.Common.{◌≡◌, ◌+◌, List, [], ◌∷◌, ◌++◌, length, map, reverse, refl, sym, ap, subst, ◌∙◌, arith, append_assoc, append-nil, length-append}
 use Rattle.std.proofs.lemmas.List.{length-reverse, map-append, reverse-append, reverse-reverse}
-use Rattle.stage_parts.specs.Back.{AreBack}
+use Rattle.worker_parts.specs.Back.{AreBack}
 
 module _ {X : Type 0} where
   pub turned_long : (xs ys : List X) → ys ≡ reverse xs → length ys ≡ length xs

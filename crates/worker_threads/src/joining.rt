@@ -1,14 +1,14 @@
 //! Workers that come back from their threads.
 
-ghost use Rattle.stage_parts.specs.Back.{AreBack};
+ghost use Rattle.worker_parts.specs.Back.{AreBack};
 
 use crate::starting::Started;
 use crate::thread::Handle;
-use stage_parts::Stage;
 use std::sync::Wait;
 use std::thread;
 use std::thread::Threads;
 use std::time::{Clock, Duration};
+use worker_parts::Stage;
 
 // Joins a worker that was told to run. One that gave up never comes.
 fn join_worker<W, R>(rt: &R, handle: Handle<W>) -> W

@@ -3,11 +3,12 @@
 
 mod idle;
 mod joining;
-mod orders;
+mod pace;
 mod starting;
 mod thread;
+mod thread_control;
 
 pub use joining::join_all;
-pub use orders::{GIVE_UP, HOLD, Orders, RUN};
 pub use starting::{Started, Team, give_up, start_each};
 pub use thread::{Handle, STACK, WillEnd, work_on};
+pub use thread_control::{GIVE_UP, HOLD, RUN, ThreadControl};

@@ -2,20 +2,20 @@
 
 ghost use Rattle.std.specs.Prelude.{◌≡◌, ◌+◌, ◌++◌, ◌<◌, ◌≤◌, length, map, reverse, true, vec_capacity};
 
-use crate::orders::Orders;
 use crate::thread::{Handle, start_worker};
-use stage_parts::{Stage, Turns};
+use crate::thread_control::ThreadControl;
 use std::marker::Model;
 use std::sync::Wait;
 use std::thread::Threads;
 use std::time::Clock;
+use worker_parts::{Stage, Turns};
 
-/// Workers of one kind, orders for the thread of each, in order, and room for the threads' handles, of which
+/// Workers of one kind, control for the thread of each, in order, and room for the threads' handles, of which
 /// none is there. Contracts see the workers, and for how many of them and of their handles there is room.
 #[derive(Drop)]
 pub struct Team<B, W: Stage> {
     pub workers: Vec<W>,
-    pub orders: Vec<Orders<B>>,
+    pub control: Vec<ThreadControl<B>>,
     pub room: Vec<Handle<W>>,
 }
 
@@ -53,7 +53,7 @@ fn start_next<B, W, R>(
     rt: R,
     so_far: bool,
     workers: &mut Vec<W>,
-    orders: &mut Vec<Orders<B>>,
+    control: &mut Vec<ThreadControl<B>>,
     handles: &mut Vec<Handle<W>>,
 ) -> bool
 where
@@ -71,7 +71,7 @@ where
     if !so_far {
         return false;
     }
-    let Some(own) = orders.pop() else {
+    let Some(own) = control.pop() else {
         return false;
     };
     let Some(worker) = workers.pop() else {
@@ -98,15 +98,15 @@ where
 {
     let Team {
         mut workers,
-        mut orders,
+        mut control,
         room: mut handles,
     } = team;
     let count = workers.len();
     workers.reverse();
-    orders.reverse();
+    control.reverse();
     let mut are_all = so_far;
     for k in 0..count {
-        are_all = start_next(rt, are_all, &mut workers, &mut orders, &mut handles);
+        are_all = start_next(rt, are_all, &mut workers, &mut control, &mut handles);
     }
     workers.clear();
     let started = Started {
@@ -116,14 +116,14 @@ where
     (started, are_all)
 }
 
-/// Tells all threads under these orders to give up, and joins those of a team.
-pub fn give_up<B, W, R>(rt: &R, orders: &Orders<B>, started: Started<W>)
+/// Tells all threads under these control to give up, and joins those of a team.
+pub fn give_up<B, W, R>(rt: &R, control: &ThreadControl<B>, started: Started<W>)
 where
     W: Stage + Drop,
     R: Threads + Wait,
 {
     let Started { handles, room: _ } = started;
-    orders.give_up();
+    control.give_up();
     for handle in handles {
         let _ = handle.join(rt);
     }

@@ -3,19 +3,17 @@
 ghost use Rattle.std.specs.Prelude.{◌≡◌, IfOk, IfSome, true};
 
 use crate::idle::{Idle, nap};
-use crate::orders::{GIVE_UP, HOLD, Orders};
-use stage_parts::{Event, Stage, Turn, Turns};
+use crate::pace::Pace;
+use crate::thread_control::{GIVE_UP, HOLD, ThreadControl};
 use std::snapshot::Snapshot;
 use std::sync::Wait;
 use std::sync::atomic::{AtomicU64, Ordering};
 use std::thread::{Builder, Promise, PromisedHandle, Threads};
 use std::time::Clock;
+use worker_parts::{Event, Stage, Turn, Turns};
 
 /// The size of a thread's stack, in bytes.
 pub const STACK: usize = 512 * 1024;
-
-// How many turns that did something lie between two posts.
-const TURNS: u32 = 1023;
 
 /// That a worker comes back ended, the same but for what it did. Only one whose thread was told to give
 /// up before its first turn doesn't come back.
@@ -26,68 +24,6 @@ impl<W: Stage> Promise<Option<W>> for WillEnd<W> {
     ghost use Rattle.std.specs.Prelude.{IfSome};
 
     ghost kept_by = { λ p r. IfSome r (λ w. W.same p.0.value w × W.has_ended w) };
-}
-
-// Waiting, and turns since the last post.
-#[derive(Drop)]
-struct Pace {
-    idle: Idle,
-    turns: u32,
-    // Turns that did something since it last waited, up to the number at which a thread gathers.
-    items: u32,
-    // How many such turns more are each followed by a wait at once.
-    alone: u32,
-}
-
-// After this many turns in a row that did something, a thread naps once before it sleeps.
-const SEVERAL: u32 = 2;
-
-// Where just one turn did something between two waits, packets come one by one, and a further turn would
-// find nothing: so many of the next turns that do something are each followed by a wait at once.
-const ALONE: u32 = 15;
-
-impl Pace {
-    fn new() -> Pace {
-        Pace {
-            idle: Idle::new(),
-            turns: 0,
-            items: 0,
-            alone: 0,
-        }
-    }
-
-    // There was something to do. Whether it is time to post.
-    fn did(&mut self) -> bool {
-        self.idle.reset();
-        if self.items < SEVERAL {
-            self.items += 1;
-        }
-        if self.turns < TURNS {
-            self.turns += 1;
-            return false;
-        }
-        self.turns = 0;
-        true
-    }
-
-    // Whether there was much to do since it last waited: then more comes soon, and a nap in which items
-    // gather costs less than a sleep for each.
-    fn gathers(&mut self) -> bool {
-        let several = self.items >= SEVERAL;
-        self.alone = if self.items == 1 { ALONE } else { 0 };
-        self.items = 0;
-        several
-    }
-
-    // Whether a wait is to follow at once.
-    fn waits_at_once(&mut self) -> bool {
-        if self.alone == 0 {
-            return false;
-        }
-        self.alone -= 1;
-        self.items = 0;
-        true
-    }
 }
 
 // Whether it is time to post after such a turn: from time to time, and at the end.
@@ -157,7 +93,7 @@ fn sleep_on<B, W: Turns<B>, R: Wait>(
 fn pause<B, W: Turns<B>, R: Wait + Clock>(
     rt: &R,
     worker: &mut W,
-    orders: &Orders<B>,
+    control: &ThreadControl<B>,
     pace: &mut Pace,
 ) -> bool
     ensures same { W.same worker.old worker.new }
@@ -168,12 +104,12 @@ fn pause<B, W: Turns<B>, R: Wait + Clock>(
         return false;
     }
     if worker.awaits_push() {
-        if let Some(event) = &orders.event {
-            return sleep_on(rt, worker, &orders.book, pace, event);
+        if let Some(event) = &control.event {
+            return sleep_on(rt, worker, &control.book, pace, event);
         }
     }
     if !worker.wait() {
-        pace.idle.rest(rt);
+        pace.rest(rt);
     }
     false
 }
@@ -182,26 +118,26 @@ fn pause<B, W: Turns<B>, R: Wait + Clock>(
 fn advance<B, W: Turns<B>, R: Wait + Clock>(
     rt: &R,
     worker: &mut W,
-    orders: &Orders<B>,
+    control: &ThreadControl<B>,
     pace: &mut Pace,
 ) -> bool
     ensures same { W.same worker.old worker.new }
     ensures ended { result ≡ true → W.has_ended worker.new × W.is_drained worker.new }
 {
-    match attempt(rt, worker, &orders.book, pace) {
+    match attempt(rt, worker, &control.book, pace) {
         Turn::Did => {
-            if orders.event.is_none() && pace.waits_at_once() {
+            if control.event.is_none() && pace.waits_at_once() {
                 let _ = worker.wait();
             }
             false
         }
-        Turn::Quiet => pause(rt, worker, orders, pace),
+        Turn::Quiet => pause(rt, worker, control, pace),
         Turn::Ended => true,
     }
 }
 
 /// Makes turns to the worker's end, and posts what it counted.
-pub fn work_on<B, W: Turns<B>, R: Wait + Clock>(rt: &R, orders: &Orders<B>, worker: W) -> W
+pub fn work_on<B, W: Turns<B>, R: Wait + Clock>(rt: &R, control: &ThreadControl<B>, worker: W) -> W
     ensures same { W.same worker result }
     ensures ended { W.has_ended result }
     ensures posted { W.is_drained result }
@@ -209,7 +145,7 @@ pub fn work_on<B, W: Turns<B>, R: Wait + Clock>(rt: &R, orders: &Orders<B>, work
     let mut worker = worker;
     let mut pace = Pace::new();
     for _ in rt.forever() {
-        let has_ended = advance(rt, &mut worker, orders, &mut pace);
+        let has_ended = advance(rt, &mut worker, control, &mut pace);
         if has_ended {
             return worker;
         }
@@ -235,13 +171,13 @@ fn may_begin<R: Wait + Clock>(rt: &R, word: &AtomicU64) -> bool {
 
 fn work_once_told<B, W: Turns<B> + Drop, R: Wait + Clock>(
     rt: &R,
-    orders: &Orders<B>,
+    control: &ThreadControl<B>,
     worker: W,
 ) -> Option<W>
     ensures { IfSome result (λ w. W.same worker w × W.has_ended w) }
 {
-    if may_begin(rt, &orders.word) {
-        Some(work_on(rt, orders, worker))
+    if may_begin(rt, &control.word) {
+        Some(work_on(rt, control, worker))
     } else {
         None
     }
@@ -250,9 +186,13 @@ fn work_once_told<B, W: Turns<B> + Drop, R: Wait + Clock>(
 /// A thread of a worker, which holds until it is told to run, and what it promises.
 pub type Handle<W> = PromisedHandle<Option<W>, WillEnd<W>>;
 
-// A thread of the worker's own, which waits for its orders; none where no thread could be made. It takes no memory of the
+// A thread of the worker's own, which waits until it is told to run; none where no thread could be made. It takes no memory of the
 // allocator.
-pub(crate) fn start_worker<B, W, R>(rt: R, orders: Orders<B>, worker: W) -> Option<Handle<W>>
+pub(crate) fn start_worker<B, W, R>(
+    rt: R,
+    control: ThreadControl<B>,
+    worker: W,
+) -> Option<Handle<W>>
 where
     B: Drop + Send + Sync + 'static,
     W: Turns<B> + Send + Drop + 'static,
@@ -261,7 +201,7 @@ where
 {
     let promise = WillEnd(Snapshot::of(&worker));
     let builder = Builder::new().stack_size(STACK);
-    match builder.spawn_with(&rt, promise, move || work_once_told(&rt, &orders, worker)) {
+    match builder.spawn_with(&rt, promise, move || work_once_told(&rt, &control, worker)) {
         Ok(handle) => Some(handle),
         Err(_) => None,
     }

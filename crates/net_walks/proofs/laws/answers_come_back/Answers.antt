@@ -1,5 +1,5 @@
 use Rattle.scmp_answer.specs.Reply.{local_address}
-use Rattle.walk_laws.specs.Net.{router_of}
+use Rattle.net_laws.specs.Net.{router_of}
 use Rattle.net_walks.proofs.HomeLemmas.{from_home}
 use Rattle.net_walks.proofs.ReturnLemmas.{comes_back}
 use Rattle.net_walks.proofs.laws.answers_come_back.Goals as goal

@@ -1,4 +1,4 @@
-use Rattle.walk_laws.proofs.LawfulLemmas.{unasked}
+use Rattle.net_laws.proofs.LawfulLemmas.{unasked}
 use Rattle.net_walks.proofs.LawfulWalk.{starts_walked}
 use Rattle.net_walks.proofs.laws.lawful_starts_are_walked.Goals as goal
 

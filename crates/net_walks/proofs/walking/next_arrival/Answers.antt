@@ -1,5 +1,5 @@
 use Rattle.std.proofs.Common.{refl, sym, ◌∙◌}
-use Rattle.walk_laws.specs.Net.{net_of}
+use Rattle.net_laws.specs.Net.{net_of}
 use Rattle.net_walks.proofs.StopsLemmas.{ends_there, sent_next}
 use Rattle.net_walks.proofs.walking.next_arrival.Goals as goal
 

@@ -1,5 +1,5 @@
 use Rattle.std.proofs.Common.{◌<◌, ◌^◌, ℕ, Some, refl, subst}
-use Rattle.walk_laws.specs.Net.{router_of}
+use Rattle.net_laws.specs.Net.{router_of}
 use Rattle.net_walks.proofs.StopsLemmas.{at_router, looked_up}
 use Rattle.net_walks.proofs.walking.stop_at.Goals as goal
 

@@ -1,8 +1,8 @@
 use Rattle.std.proofs.Common.{append-nil, All, IfSome, ◌≡◌, ◌<◌, ◌++◌, ◌-◌, ◌+◌, ℕ, None, Option, Some, length, map, option_map, ap, sym, subst, ◌∙◌, arith}
 use Rattle.std.proofs.lemmas.List.{length-map}
 use Rattle.field_rows.specs.Place.{IsBytes}
-use Rattle.walk_laws.specs.Net.{Net, net_of, router_of}
-use Rattle.walk_laws.proofs.ConfiguredLemmas.{net_numbered}
+use Rattle.net_laws.specs.Net.{Net, net_of, router_of}
+use Rattle.net_laws.proofs.ConfiguredLemmas.{net_numbered}
 use Rattle.net_walks.specs.Coming as way
 use Rattle.net_walks.specs.Stops.{Came, IsStop, came_by, came_to, next_stop, stops_from}
 use Rattle.net_walks.specs.declared.walking.Coming.{Coming}

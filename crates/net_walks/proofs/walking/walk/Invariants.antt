@@ -1,5 +1,5 @@
 use Rattle.std.proofs.Common.{All, ◌≡◌, ◌<◌, ◌++◌, ◌-◌, Some, length, map}
-use Rattle.walk_laws.specs.Net.{net_of}
+use Rattle.net_laws.specs.Net.{net_of}
 use Rattle.net_walks.specs.Stops.{IsStop, came_by, came_to, stops_from}
 use Rattle.net_walks.specs.Coming as way
 use Rattle.net_walks.proofs.walking.walk.Given as goal

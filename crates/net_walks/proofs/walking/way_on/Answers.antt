@@ -1,6 +1,6 @@
 use Rattle.std.proofs.Common.{None, Option, Some, ap, ap₂, sym, ◌∙◌}
 use Rattle.std.proofs.lemmas.Option.{slice_get_past}
-use Rattle.walk_laws.specs.Net.{Router, net_of}
+use Rattle.net_laws.specs.Net.{Router, net_of}
 use Rattle.process_packet.specs.declared.underlay.Underlay.{Underlay}
 use Rattle.net_walks.specs.Stops.{came_to, sent_from}
 use Rattle.net_walks.proofs.StopsLemmas.{at_router, looked_up}

@@ -9,7 +9,7 @@ use Rattle.packet_ledger.proofs.sums.split_shares.Given as goal
 
 abbrev pub invariant-loop-place : goal.invariant-loop-place
 invariant-loop-place g l =
-    (l.token.table_id ≡ g.N.Router.table)
+    (l.token.table_id ≡ g.N.RunBrand.table)
     × (cell_view l.token ≡ keeper (65537 - l.place) nothing nothing no_rows)
     × (length l.shares.items ≡ l.place)
     × All (λ (s : Held). s ≡ new_share) l.shares.items

@@ -8,7 +8,7 @@ use Rattle.packet_ledger.proofs.sums.take_all.Given as goal
 
 abbrev pub invariant-loop-share : goal.invariant-loop-share
 invariant-loop-share g l =
-    (l.token.table_id ≡ g.N.Router.table)
+    (l.token.table_id ≡ g.N.RunBrand.table)
     × (cell_view l.token ≡ gathered (length l.yielded) (posted_by l.yielded) (cell_view l.initial.token))
     × (l.counts ≡ counts_of l.yielded)
     × ((i : ℕ) → count_at i l.counts ≤ length l.yielded * 1267650600228229401496703205376)

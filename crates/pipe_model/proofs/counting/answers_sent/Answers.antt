@@ -2,7 +2,7 @@ use Rattle.std.proofs.Common.{◌∙◌, ℕ, List, [], get_or, ap, arith}
 use Rattle.order_laws.specs.Counts.{count}
 use Rattle.order_laws.specs.Item.{Outgoing}
 use Rattle.router_rules.specs.Rules.{kinds}
-use Rattle.pipe_parts.specs.Sent.{left}
+use Rattle.replay_state.specs.Sent.{left}
 use Rattle.router_rules.specs.declared.outgoing.Outgoing.{Outgoing as Left}
 use Rattle.pipe_model.proofs.Sums.{count-map, total_more}
 use Rattle.pipe_model.proofs.counting.answers_sent.Goals as goal

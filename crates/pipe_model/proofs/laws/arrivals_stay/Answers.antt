@@ -1,5 +1,5 @@
 use Rattle.std.proofs.Common.{map}
-use Rattle.pipe_steps.specs.Step.{step_in}
+use Rattle.replay_steps.specs.Step.{step_in}
 use Rattle.pipe_model.proofs.Turns.{arriving_kept}
 use Rattle.pipe_model.proofs.laws.arrivals_stay.Goals as goal
 

@@ -9,7 +9,7 @@ use Rattle.router_rules.specs.Links.{link_count}
 use Rattle.router_rules.specs.Rules.{kinds}
 use Rattle.router_rules.specs.Rules as router
 use Rattle.pipe_model.specs.Shown.{stands_in}
-use Rattle.pipe_parts.specs.Sent.{first}
+use Rattle.replay_state.specs.Sent.{first}
 use Rattle.pipe_model.proofs.Places.{last_of_four}
 use Rattle.pipe_model.proofs.place.find.Goals as goal
 

@@ -1,7 +1,7 @@
 use Rattle.std.proofs.Common.{◌≡◌, drop}
 use Rattle.order_laws.specs.Item.{is_one}
 use Rattle.replay_laws.specs.Place.{in_fates}
-use Rattle.pipe_parts.specs.Sent.{first}
+use Rattle.replay_state.specs.Sent.{first}
 use Rattle.pipe_model.proofs.place.find_in_fates.Given as goal
 
 abbrev pub invariant-loop-fate : goal.invariant-loop-fate

@@ -2,7 +2,7 @@ use Rattle.std.proofs.Common.{◌≡◌, drop}
 use Rattle.order_laws.specs.Item.{is_one}
 use Rattle.replay_laws.specs.Place.{in_hands}
 use Rattle.router_rules.specs.Rules.{rules}
-use Rattle.pipe_parts.specs.Sent.{first}
+use Rattle.replay_state.specs.Sent.{first}
 use Rattle.pipe_model.proofs.place.find_in_hands.Given as goal
 
 abbrev pub invariant-loop-seat : goal.invariant-loop-seat

@@ -3,7 +3,7 @@ use Rattle.order_laws.specs.Item.{is_one}
 use Rattle.replay_laws.specs.Place.{in_pipes}
 use Rattle.router_rules.specs.Links.{link_count}
 use Rattle.router_rules.specs.Rules.{rules}
-use Rattle.pipe_parts.specs.Sent.{first}
+use Rattle.replay_state.specs.Sent.{first}
 use Rattle.pipe_model.proofs.place.find_in_pipes.Given as goal
 
 abbrev pub invariant-loop-i : goal.invariant-loop-i

@@ -1,4 +1,4 @@
-use Rattle.wired_workers.proofs.Making.{new_shares}
+use Rattle.run_workers.proofs.Making.{new_shares}
 use Rattle.router_run.proofs.preparing.book_for.Goals as goal
 
 pub returns : goal.returns

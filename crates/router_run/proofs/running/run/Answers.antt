@@ -1,24 +1,24 @@
 use Rattle.std.proofs.Common.{length, refl, arith}
 use Rattle.std.specs.Arc.{arc_value}
-use Rattle.router_pipes.specs.Pipes.{piping_of}
+use Rattle.run_pipes.specs.Pipes.{piping_of}
 use Rattle.router_run.proofs.TeamLemmas.{for_as}
 use Rattle.router_run.proofs.Begin.{begins, crew_by, is_crew}
 use Rattle.router_run.proofs.running.run.Goals as goal
 
 pub start_front-receivers-requires-clause-count : goal.start_front-receivers-requires-clause-count
-start_front-receivers-requires-clause-count g c = let a = c.requires.sources.1 in let b = c.requires.worker_parts.entering.count in omega arith
+start_front-receivers-requires-clause-count g c = let a = c.requires.sources.1 in let b = c.requires.bare_workers.entering.count in omega arith
 
 pub start_front-receivers-requires-clause-untold : goal.start_front-receivers-requires-clause-untold
 start_front-receivers-requires-clause-untold g c κs within = c.requires.sources.0
 
 pub start_front-receivers-requires-clause-receiving : goal.start_front-receivers-requires-clause-receiving
-start_front-receivers-requires-clause-receiving g c κs within = for_as _ (length c.args.prepared.worker_parts.receivers.items) _ c.requires.teams.0 (let n = c.requires.worker_parts.entering.count in omega arith)
+start_front-receivers-requires-clause-receiving g c κs within = for_as _ (length c.args.prepared.bare_workers.receivers.items) _ c.requires.teams.0 (let n = c.requires.bare_workers.entering.count in omega arith)
 
 pub start_front-receivers-requires-clause-working : goal.start_front-receivers-requires-clause-working
-start_front-receivers-requires-clause-working g c κs within = for_as _ (length c.args.prepared.worker_parts.processors.items) _ c.requires.teams.1 (let n = c.requires.worker_parts.working.count in omega arith)
+start_front-receivers-requires-clause-working g c κs within = for_as _ (length c.args.prepared.bare_workers.processors.items) _ c.requires.teams.1 (let n = c.requires.bare_workers.working.count in omega arith)
 
 pub start_rear-slow-requires-clause-count : goal.start_rear-slow-requires-clause-count
-start_rear-slow-requires-clause-count g c = let a = c.requires.sinks.1 in let b = c.requires.worker_parts.leaving.count in omega arith
+start_rear-slow-requires-clause-count g c = let a = c.requires.sinks.1 in let b = c.requires.bare_workers.leaving.count in omega arith
 
 pub start_rear-slow-requires-clause-untold : goal.start_rear-slow-requires-clause-untold
 start_rear-slow-requires-clause-untold g c κs within = c.requires.sinks.0
@@ -27,24 +27,24 @@ pub start_rear-slow-requires-clause-answering : goal.start_rear-slow-requires-cl
 start_rear-slow-requires-clause-answering g c κs within = c.requires.teams.2
 
 pub start_rear-slow-requires-clause-forwarding : goal.start_rear-slow-requires-clause-forwarding
-start_rear-slow-requires-clause-forwarding g c κs within = for_as _ (length c.args.prepared.worker_parts.forwarders.items) _ c.requires.teams.3 (let n = c.requires.worker_parts.leaving.count in omega arith)
+start_rear-slow-requires-clause-forwarding g c κs within = for_as _ (length c.args.prepared.bare_workers.forwarders.items) _ c.requires.teams.3 (let n = c.requires.bare_workers.leaving.count in omega arith)
 
 pub invariant_of-result : goal.invariant_of-result
 invariant_of-result g c =
-    let made = c.args.prepared.worker_parts in
+    let made = c.args.prepared.bare_workers in
     let rear = c.start_rear-slow.ensures c.if-are_all.true in
     let front = c.start_front-receivers.ensures rear.0 in (
       c.requires.workers,
       crew_by (arc_value c.args.prepared.base.common.shared).config (piping_of made.pipes) _ _ _ _ _ _ _ _ made.shutters.items
           front.0 front.1 rear.1 rear.2
-          (is_crew g.K.Sink.failed _ made.pipes made.receivers.items made.processors.items made.slow made.forwarders.items made.shutters.items made.fillers.items c.args.sources.items c.args.sinks.items c.requires.worker_parts c.requires.sources.1 c.requires.sinks.1),
-      c.requires.worker_parts.made,
+          (is_crew g.K.Sink.failed _ made.pipes made.receivers.items made.processors.items made.slow made.forwarders.items made.shutters.items made.fillers.items c.args.sources.items c.args.sinks.items c.requires.bare_workers c.requires.sources.1 c.requires.sinks.1),
+      c.requires.bare_workers.made,
       c.requires.space,
     )
 
 pub returns-then-are_all : goal.returns-then-are_all
 returns-then-are_all g c =
-    let made = c.args.prepared.worker_parts in
+    let made = c.args.prepared.bare_workers in
     let config = (arc_value c.args.prepared.base.common.shared).config in
     let rear = c.start_rear-slow.ensures c.if-are_all.true in
     let front = c.start_front-receivers.ensures rear.0 in
@@ -52,11 +52,11 @@ returns-then-are_all g c =
     refl
     front.0
     rear.2
-    (let b = c.requires.worker_parts.entering.count in omega arith)
-    (let b = c.requires.worker_parts.leaving.count in omega arith)
+    (let b = c.requires.bare_workers.entering.count in omega arith)
+    (let b = c.requires.bare_workers.leaving.count in omega arith)
     (c.requires.sources.1, c.requires.sinks.1)
     (crew_by config (piping_of made.pipes) _ _ _ _ _ _ _ _ made.shutters.items
     front.0 front.1 rear.1 rear.2
-    (is_crew g.K.Sink.failed _ made.pipes made.receivers.items made.processors.items made.slow made.forwarders.items made.shutters.items made.fillers.items c.args.sources.items c.args.sinks.items c.requires.worker_parts c.requires.sources.1 c.requires.sinks.1))
-    c.requires.worker_parts.shutting
-    c.requires.worker_parts.filled
+    (is_crew g.K.Sink.failed _ made.pipes made.receivers.items made.processors.items made.slow made.forwarders.items made.shutters.items made.fillers.items c.args.sources.items c.args.sinks.items c.requires.bare_workers c.requires.sources.1 c.requires.sinks.1))
+    c.requires.bare_workers.shutting
+    c.requires.bare_workers.filled

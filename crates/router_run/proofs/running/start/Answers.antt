@@ -15,8 +15,8 @@ prepare-requires-clause-config g c = c.requires.config
 pub prepare-requires-clause-workers : goal.prepare-requires-clause-workers
 prepare-requires-clause-workers g c = c.requires.workers
 
-pub run-requires-clause-worker_parts : goal.run-requires-clause-worker_parts
-run-requires-clause-worker_parts g c κs within = parts_as _ _ _ _ _ _ _ _ _ c.in-Ok.ensures.shared c.in-Ok.ensures.worker_parts
+pub run-requires-clause-bare_workers : goal.run-requires-clause-bare_workers
+run-requires-clause-bare_workers g c κs within = parts_as _ _ _ _ _ _ _ _ _ c.in-Ok.ensures.shared c.in-Ok.ensures.bare_workers
 
 pub run-requires-clause-teams : goal.run-requires-clause-teams
 run-requires-clause-teams g c κs within = let same = c.in-Ok.ensures.shared in teams_as _ _ _ _ _ _ _ _ c.in-Ok.ensures.teams (ap link_count same) (ap (λ (k : Config). k.processors) same)

@@ -1,4 +1,4 @@
-use Rattle.router_pipes.proofs.OkLemmas.{of_ok}
+use Rattle.run_pipes.proofs.OkLemmas.{of_ok}
 use Rattle.router_run.proofs.teams.two_teams_for.Goals as goal
 
 pub returns : goal.returns

@@ -1,6 +1,6 @@
 use Rattle.std.proofs.Common.{length, ◌∙◌, ap, arith}
 use Rattle.worker_threads.specs.Teams.{Seated}
-use Rattle.wired_workers.specs.Kits.{receiving_over}
+use Rattle.run_workers.specs.Kits.{receiving_over}
 use Rattle.router_run.proofs.Begin.{paired_long}
 use Rattle.router_run.proofs.threads.start_front.Goals as goal
 

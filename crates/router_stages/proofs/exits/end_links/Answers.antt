@@ -1,8 +1,8 @@
 use Rattle.std.proofs.Common.{◌<◌, ◌+◌, ◌*◌, ◌&&◌, Bool, length, ap, sym, subst, arith}
 use Rattle.std.proofs.lemmas.Bool.{lt-ltb}
 use Rattle.router_rules.specs.Links.{has_two_bands}
-use Rattle.stage_parts.specs.Outlets.{Trying, is_used}
-use Rattle.stage_parts.proofs.EndLemmas.{trying_as}
+use Rattle.worker_parts.specs.Outlets.{Trying, is_used}
+use Rattle.worker_parts.proofs.EndLemmas.{trying_as}
 use Rattle.router_stages.proofs.UsedLemmas.{used_to, link_more}
 use Rattle.router_stages.proofs.exits.end_links.Goals as goal
 

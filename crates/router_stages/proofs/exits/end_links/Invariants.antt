@@ -1,5 +1,5 @@
 use Rattle.router_rules.specs.Links.{has_two_bands}
-use Rattle.stage_parts.specs.Outlets.{Trying}
+use Rattle.worker_parts.specs.Outlets.{Trying}
 use Rattle.router_stages.proofs.UsedLemmas.{used_to}
 use Rattle.router_stages.proofs.exits.end_links.Given as goal
 

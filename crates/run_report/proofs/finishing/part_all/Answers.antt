@@ -3,12 +3,12 @@ use Rattle.std.proofs.lemmas.List.{length-map}
 use Rattle.packet_ledger.specs.Share.{forwarded}
 use Rattle.router_stages.specs.Receiving.{Receiving}
 use Rattle.router_stages.specs.Working.{Working}
-use Rattle.stage_parts.specs.Outlets.{senders}
-use Rattle.router_pipes.specs.Piping.{Piping}
-use Rattle.router_pipes.specs.Pipes.{piping_of}
+use Rattle.worker_parts.specs.Outlets.{senders}
+use Rattle.run_pipes.specs.Piping.{Piping}
+use Rattle.run_pipes.specs.Pipes.{piping_of}
 use Rattle.ruled_pipe.specs.Pipe.{IsEndOf}
-use Rattle.router_laws.specs.Returned.{AllAt}
-use Rattle.pipe_ends.specs.Rows.{AreEndsOf}
+use Rattle.worker_order.specs.Returned.{AllAt}
+use Rattle.run_ends.specs.Rows.{AreEndsOf}
 use Rattle.run_report.proofs.PartLemmas.{longer}
 use Rattle.run_report.proofs.PartedLemmas.{back_as, back_own, ends_as, grew, has_back, has_kept, has_marked, is_parted, le_as, none_long, only_one, shares_parted, slow_next, space_as}
 use Rattle.run_report.proofs.finishing.part_all.Goals as goal

@@ -6,7 +6,7 @@ use Rattle.router_stages.specs.Forwarding.{Forwarding}
 use Rattle.ruled_pipe.specs.Consumer.{Taker}
 use Rattle.run_report.specs.Crew.{takers_of}
 use Rattle.run_report.proofs.PartLemmas.{each_none, each_same, longer, none_left, started, same_after, grown, room_kept, fits_still}
-use Rattle.wired_workers.proofs.RestLemmas.{all_done, each_back, shorter}
+use Rattle.run_workers.proofs.RestLemmas.{all_done, each_back, shorter}
 use Rattle.run_report.proofs.parting.part_forwarders.Goals as goal
 
 module _ {K : Type 0} where

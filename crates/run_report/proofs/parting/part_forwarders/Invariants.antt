@@ -1,8 +1,8 @@
 use Rattle.std.proofs.Common.{◌≡◌, ◌+◌, ◌*◌, ◌++◌, ◌≤◌, length, map, vec_capacity}
 use Rattle.packet_ledger.specs.Share.{forwarded}
 use Rattle.order_laws.specs.Deeds.{Each}
-use Rattle.router_laws.specs.Keeping.{IsForwarding}
-use Rattle.stage_parts.specs.Told.{told_of}
+use Rattle.worker_order.specs.Keeping.{IsForwarding}
+use Rattle.worker_parts.specs.Told.{told_of}
 use Rattle.run_report.specs.Crew.{takers_of}
 use Rattle.run_report.proofs.parting.part_forwarders.Given as goal
 

@@ -5,15 +5,15 @@ use Rattle.ruled_pipe.specs.Pipe.{IsEndOf}
 use Rattle.ruled_pipe.specs.Producer.{Sender}
 use Rattle.router_rules.specs.Rules.{kinds}
 use Rattle.router_stages.specs.Working.{Working}
-use Rattle.router_laws.specs.Returned.{AllAt}
-use Rattle.stage_parts.specs.Outlet.{IsMarked, Offering}
-use Rattle.stage_parts.specs.Outlets.{senders}
-use Rattle.router_pipes.specs.Handing.{AreMarked, NeverClosed}
-use Rattle.router_pipes.specs.Pipes.{HaveBack, piping_of}
-use Rattle.router_pipes.proofs.PipesLemmas.{middle_end_next, outer_row_next}
-use Rattle.pipe_ends.specs.Rows.{AreEndsOf}
+use Rattle.worker_order.specs.Returned.{AllAt}
+use Rattle.worker_parts.specs.Outlet.{IsMarked, Offering}
+use Rattle.worker_parts.specs.Outlets.{senders}
+use Rattle.run_pipes.specs.Handing.{AreMarked, NeverClosed}
+use Rattle.run_pipes.specs.Pipes.{HaveBack, piping_of}
+use Rattle.run_pipes.proofs.PipesLemmas.{middle_end_next, outer_row_next}
+use Rattle.run_ends.specs.Rows.{AreEndsOf}
 use Rattle.run_report.proofs.PartLemmas.{each_same, each_none, longer, none_left, started, same_after, grown, room_kept, fits_still}
-use Rattle.wired_workers.proofs.RestLemmas.{all_done, all_next, each_back, shorter}
+use Rattle.run_workers.proofs.RestLemmas.{all_done, all_next, each_back, shorter}
 use Rattle.run_report.proofs.parting.part_processors.Goals as goal
 
 pub loop-k-init : goal.loop-k-init

@@ -4,14 +4,14 @@ use Rattle.order_laws.specs.Item.{Arrival, Outgoing}
 use Rattle.order_laws.specs.Settled.{SlowPathRequest}
 use Rattle.ruled_pipe.specs.Pipe.{IsEndOf}
 use Rattle.ruled_pipe.specs.Producer.{Sender}
-use Rattle.router_laws.specs.Keeping.{IsWorking}
-use Rattle.router_laws.specs.Returned.{AllAt}
+use Rattle.worker_order.specs.Keeping.{IsWorking}
+use Rattle.worker_order.specs.Returned.{AllAt}
 use Rattle.router_rules.specs.Rules.{kinds}
-use Rattle.stage_parts.specs.Outlet.{IsMarked}
-use Rattle.stage_parts.specs.Outlets.{senders}
-use Rattle.router_pipes.specs.Handing.{AreMarked, NeverClosed}
-use Rattle.router_pipes.specs.Pipes.{HaveBack, piping_of}
-use Rattle.pipe_ends.specs.Rows.{AreEndsOf}
+use Rattle.worker_parts.specs.Outlet.{IsMarked}
+use Rattle.worker_parts.specs.Outlets.{senders}
+use Rattle.run_pipes.specs.Handing.{AreMarked, NeverClosed}
+use Rattle.run_pipes.specs.Pipes.{HaveBack, piping_of}
+use Rattle.run_ends.specs.Rows.{AreEndsOf}
 use Rattle.run_report.proofs.parting.part_processors.Given as goal
 
 abbrev pub invariant-loop-k : goal.invariant-loop-k

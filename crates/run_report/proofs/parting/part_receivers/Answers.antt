@@ -3,14 +3,14 @@ use Rattle.order_laws.specs.Item.{Arrival}
 use Rattle.ruled_pipe.specs.Producer.{Sender}
 use Rattle.router_rules.specs.Rules.{kinds}
 use Rattle.router_stages.specs.Receiving.{Receiving}
-use Rattle.stage_parts.specs.Outlets.{senders}
-use Rattle.router_laws.specs.Returned.{AllAt}
-use Rattle.router_pipes.specs.Handing.{AreMarked, NeverClosed}
-use Rattle.router_pipes.specs.Pipes.{HaveBack, piping_of}
-use Rattle.router_pipes.proofs.PipesLemmas.{inner_row_next}
-use Rattle.pipe_ends.specs.Rows.{AreEndsOf}
+use Rattle.worker_parts.specs.Outlets.{senders}
+use Rattle.worker_order.specs.Returned.{AllAt}
+use Rattle.run_pipes.specs.Handing.{AreMarked, NeverClosed}
+use Rattle.run_pipes.specs.Pipes.{HaveBack, piping_of}
+use Rattle.run_pipes.proofs.PipesLemmas.{inner_row_next}
+use Rattle.run_ends.specs.Rows.{AreEndsOf}
 use Rattle.run_report.proofs.PartLemmas.{each_same, each_none, longer, none_left, started, same_after, grown, room_kept, fits_still}
-use Rattle.wired_workers.proofs.RestLemmas.{all_done, all_next, each_back, shorter}
+use Rattle.run_workers.proofs.RestLemmas.{all_done, all_next, each_back, shorter}
 use Rattle.run_report.proofs.parting.part_receivers.Goals as goal
 
 pub loop-k-init : goal.loop-k-init

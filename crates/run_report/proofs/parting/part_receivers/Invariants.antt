@@ -2,14 +2,14 @@ use Rattle.std.proofs.Common.{◌≡◌, ◌+◌, ◌++◌, ◌≤◌, [], List,
 use Rattle.order_laws.specs.Deeds.{Each}
 use Rattle.order_laws.specs.Item.{Arrival}
 use Rattle.ruled_pipe.specs.Producer.{Sender}
-use Rattle.router_laws.specs.Keeping.{IsReceiving}
-use Rattle.router_laws.specs.Returned.{AllAt}
+use Rattle.worker_order.specs.Keeping.{IsReceiving}
+use Rattle.worker_order.specs.Returned.{AllAt}
 use Rattle.router_rules.specs.Rules.{kinds}
 use Rattle.router_stages.specs.Receiving.{EndsQuietly}
-use Rattle.stage_parts.specs.Outlets.{senders}
-use Rattle.router_pipes.specs.Handing.{AreMarked, NeverClosed}
-use Rattle.router_pipes.specs.Pipes.{HaveBack, piping_of}
-use Rattle.pipe_ends.specs.Rows.{AreEndsOf}
+use Rattle.worker_parts.specs.Outlets.{senders}
+use Rattle.run_pipes.specs.Handing.{AreMarked, NeverClosed}
+use Rattle.run_pipes.specs.Pipes.{HaveBack, piping_of}
+use Rattle.run_ends.specs.Rows.{AreEndsOf}
 use Rattle.run_report.proofs.parting.part_receivers.Given as goal
 
 abbrev pub invariant-loop-k : goal.invariant-loop-k

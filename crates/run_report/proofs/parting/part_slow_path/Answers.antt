@@ -2,12 +2,12 @@ use Rattle.std.proofs.Common.{◌+◌, [], ◌∷◌, ◌++◌, List, length, re
 use Rattle.order_laws.specs.Item.{Outgoing}
 use Rattle.ruled_pipe.specs.Producer.{Sender}
 use Rattle.router_rules.specs.Rules.{kinds}
-use Rattle.stage_parts.specs.Outlets.{senders}
-use Rattle.router_pipes.specs.Handing.{AreMarked, NeverClosed}
-use Rattle.router_pipes.specs.Pipes.{HaveBack, piping_of}
-use Rattle.router_pipes.proofs.PipesLemmas.{outer_row_next}
-use Rattle.pipe_ends.specs.Rows.{AreEndsOf}
-use Rattle.pipe_ends.specs.Shutting.{shutter_ends}
+use Rattle.worker_parts.specs.Outlets.{senders}
+use Rattle.run_pipes.specs.Handing.{AreMarked, NeverClosed}
+use Rattle.run_pipes.specs.Pipes.{HaveBack, piping_of}
+use Rattle.run_pipes.proofs.PipesLemmas.{outer_row_next}
+use Rattle.run_ends.specs.Rows.{AreEndsOf}
+use Rattle.run_ends.specs.Shutting.{shutter_ends}
 use Rattle.run_report.proofs.parting.part_slow_path.Goals as goal
 
 pub take_back_link_ends-requires : goal.take_back_link_ends-requires

@@ -1,5 +1,5 @@
-use Rattle.router_laws.specs.Heard.{Heard}
-use Rattle.stage_parts.specs.Told.{Told}
+use Rattle.worker_order.specs.Heard.{Heard}
+use Rattle.worker_parts.specs.Told.{Told}
 use Rattle.run_tests.proofs.UntoldLemmas.{untold_silent}
 use Rattle.run_tests.proofs.play.play.Goals as goal
 

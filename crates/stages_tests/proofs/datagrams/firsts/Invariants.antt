@@ -1,8 +1,8 @@
 use Rattle.std.proofs.Common.{◌≡◌, map, replicate}
-use Rattle.router_laws.specs.Heard.{Gave}
+use Rattle.worker_order.specs.Heard.{Gave}
 use Rattle.sample_packets.specs.declared.datagram.TheConstants.{FIRST, IN_TIME}
 use Rattle.stages_tests.specs.declared.neighbour.TheConstants.{NEAR}
-use Rattle.stage_parts.specs.ListSource.{heard_of}
+use Rattle.worker_parts.specs.ListSource.{heard_of}
 use Rattle.stages_tests.proofs.datagrams.firsts.Given as goal
 
 abbrev pub invariant-loop : goal.invariant-loop

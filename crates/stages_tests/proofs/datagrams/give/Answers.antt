@@ -1,5 +1,5 @@
 use Rattle.std.proofs.Common.{ℕ, List, ap, ◌∙◌}
-use Rattle.router_laws.specs.Heard.{Gave}
+use Rattle.worker_order.specs.Heard.{Gave}
 use Rattle.sample_packets.specs.declared.datagram.TheConstants.{IN_TIME}
 use Rattle.stages_tests.specs.declared.neighbour.TheConstants.{NEAR}
 use Rattle.stages_tests.proofs.DatagramLemmas.{take_front}

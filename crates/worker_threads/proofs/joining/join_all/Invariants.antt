@@ -1,5 +1,5 @@
 use Rattle.std.proofs.Common.{◌≡◌, ◌+◌, ◌++◌, ◌≤◌, List, length, map, reverse, vec_capacity}
-use Rattle.stage_parts.specs.Back.{AreBack}
+use Rattle.worker_parts.specs.Back.{AreBack}
 use Rattle.worker_threads.proofs.joining.join_all.Given as goal
 
 abbrev pub invariant-loop-k : goal.invariant-loop-k

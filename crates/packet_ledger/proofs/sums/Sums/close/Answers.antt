@@ -14,7 +14,7 @@ invariant_of-self g c =
     let long : length totals.dropped ≡ causes = search rules in
     let rows = rows_of c.self.inside.inputs.items c.self.inside.outputs.items in
     let given = c.give.ensures.kept.1 ∙ (λ i. kept c.len-parts.result c.none.result (rows_of (c.as_slice.ensures.value i) (c.as_slice-2.ensures.value i)) (cell_view c.audit.new.keeper)) in
-    let end = closes g.N.Router.workers (length c.args.shares.items) c.len-parts.result totals c.none.result rows c.args.shares.items _ _ _ _ c.self.invariant.3 c.requires.shares (search rules) long c.none.ensures c.self.invariant.1 c.take_all-counts.ensures.token c.audit.ensures.known given in (
+    let end = closes g.N.RunBrand.workers (length c.args.shares.items) c.len-parts.result totals c.none.result rows c.args.shares.items _ _ _ _ c.self.invariant.3 c.requires.shares (search rules) long c.none.ensures c.self.invariant.1 c.take_all-counts.ensures.token c.audit.ensures.known given in (
       c.give.ensures.kept.0 ∙ c.audit.ensures.own ∙ c.take_all-counts.ensures.own,
       end.0,
       c.self.invariant.2,
@@ -30,7 +30,7 @@ returns-clause-totals g c =
     let long : length totals.dropped ≡ causes = search rules in
     let rows = rows_of c.self.inside.inputs.items c.self.inside.outputs.items in
     let given = c.give.ensures.kept.1 ∙ (λ i. kept c.len-parts.result c.none.result (rows_of (c.as_slice.ensures.value i) (c.as_slice-2.ensures.value i)) (cell_view c.audit.new.keeper)) in
-    let end = closes g.N.Router.workers (length c.args.shares.items) c.len-parts.result totals c.none.result rows c.args.shares.items _ _ _ _ c.self.invariant.3 c.requires.shares (search rules) long c.none.ensures c.self.invariant.1 c.take_all-counts.ensures.token c.audit.ensures.known given in
+    let end = closes g.N.RunBrand.workers (length c.args.shares.items) c.len-parts.result totals c.none.result rows c.args.shares.items _ _ _ _ c.self.invariant.3 c.requires.shares (search rules) long c.none.ensures c.self.invariant.1 c.take_all-counts.ensures.token c.audit.ensures.known given in
     c.added.ensures ∙ (λ i. plus (end.1 i) (c.take_all-counts.ensures.counts i))
 
 pub returns-clause-posted : goal.returns-clause-posted
@@ -39,7 +39,7 @@ returns-clause-posted g c =
     let long : length totals.dropped ≡ causes = search rules in
     let rows = rows_of c.self.inside.inputs.items c.self.inside.outputs.items in
     let given = c.give.ensures.kept.1 ∙ (λ i. kept c.len-parts.result c.none.result (rows_of (c.as_slice.ensures.value i) (c.as_slice-2.ensures.value i)) (cell_view c.audit.new.keeper)) in
-    let end = closes g.N.Router.workers (length c.args.shares.items) c.len-parts.result totals c.none.result rows c.args.shares.items _ _ _ _ c.self.invariant.3 c.requires.shares (search rules) long c.none.ensures c.self.invariant.1 c.take_all-counts.ensures.token c.audit.ensures.known given in
+    let end = closes g.N.RunBrand.workers (length c.args.shares.items) c.len-parts.result totals c.none.result rows c.args.shares.items _ _ _ _ c.self.invariant.3 c.requires.shares (search rules) long c.none.ensures c.self.invariant.1 c.take_all-counts.ensures.token c.audit.ensures.known given in
     ap (λ (s : Shown). s.totals) (sym c.self.view_is) ∙ end.1
 
 pub give-requires-clause-few : goal.give-requires-clause-few

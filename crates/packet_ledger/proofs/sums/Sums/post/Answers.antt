@@ -26,7 +26,7 @@ give-requires-clause-few g c =
     let longP : length posted.dropped ≡ causes = search rules in
     let rows = rows_of c.self.inside.inputs.items c.self.inside.outputs.items in
     let spared = c.give-spare.ensures.kept.1 ∙ (λ i. kept 0 c.none.result (rows_of (c.as_slice.ensures.value i) (c.as_slice-2.ensures.value i)) (cell_view c.self.inside.token)) in
-    let all = joins g.N.Router.workers totals posted c.none.result rows _ _ _ (cell_view c.replace-token.result) c.self.invariant.3 longT longP c.none.ensures c.self.invariant.1 spared
+    let all = joins g.N.RunBrand.workers totals posted c.none.result rows _ _ _ (cell_view c.replace-token.result) c.self.invariant.3 longT longP c.none.ensures c.self.invariant.1 spared
     (ap cell_view c.replace-token.ensures.value ∙ c.share.invariant.2) c.take_in.ensures.1 in
     gives_one _ totals posted c.share.inside.counts c.added-posted.result rows _ (c.audit.ensures.known.0 ∙ all) c.added-posted.ensures c.if-not-at_most.ensures
 
@@ -49,13 +49,13 @@ invariant_of-self g c =
     let longP : length posted.dropped ≡ causes = search rules in
     let rows = rows_of c.self.inside.inputs.items c.self.inside.outputs.items in
     let spared = c.give-spare.ensures.kept.1 ∙ (λ i. kept 0 c.none.result (rows_of (c.as_slice.ensures.value i) (c.as_slice-2.ensures.value i)) (cell_view c.self.inside.token)) in
-    let all = joins g.N.Router.workers totals posted c.none.result rows _ _ _ (cell_view c.replace-token.result) c.self.invariant.3 longT longP c.none.ensures c.self.invariant.1 spared
+    let all = joins g.N.RunBrand.workers totals posted c.none.result rows _ _ _ (cell_view c.replace-token.result) c.self.invariant.3 longT longP c.none.ensures c.self.invariant.1 spared
     (ap cell_view c.replace-token.ensures.value ∙ c.share.invariant.2) c.take_in.ensures.1 in
     let next = rows_of c.raise.new.row.items c.raise-2.new.row.items in
     let given = c.give.ensures.kept.1 ∙ (λ i. kept 1 c.share.inside.counts (rows_of (c.as_slice-3.ensures.value i) (c.as_slice-4.ensures.value i)) (cell_view c.audit.new.keeper)) in
-    let moved = posts g.N.Router.workers totals posted c.share.inside.counts rows next _ _ _ c.self.invariant.3 (c.audit.ensures.known.0 ∙ all) given c.give.ensures.given.2 in (
+    let moved = posts g.N.RunBrand.workers totals posted c.share.inside.counts rows next _ _ _ c.self.invariant.3 (c.audit.ensures.known.0 ∙ all) given c.give.ensures.given.2 in (
       c.give.ensures.kept.0 ∙ c.audit.ensures.own ∙ c.take_in.ensures.0 ∙ c.give-spare.ensures.kept.0 ∙ c.self.invariant.0,
-      moved.0 ∙ (λ i. keeper (65537 - g.N.Router.workers) nothing (sym c.added-sums.ensures i) next),
+      moved.0 ∙ (λ i. keeper (65537 - g.N.RunBrand.workers) nothing (sym c.added-sums.ensures i) next),
       booked_most _ totals posted c.share.inside.counts c.added-sums.result rows _ all c.audit.ensures.known.1 c.share.invariant.3 c.added-sums.ensures,
       c.self.invariant.3,
       adds_up totals c.share.inside.counts c.added-sums.result c.self.inside.inputs.items c.self.inside.outputs.items c.raise.new.row.items c.raise-2.new.row.items c.self.invariant.4 c.added-sums.ensures c.raise.ensures.sum c.raise-2.ensures.sum,
@@ -71,9 +71,9 @@ invariant_of-share g c =
     let longP : length posted.dropped ≡ causes = search rules in
     let rows = rows_of c.self.inside.inputs.items c.self.inside.outputs.items in
     let spared = c.give-spare.ensures.kept.1 ∙ (λ i. kept 0 c.none.result (rows_of (c.as_slice.ensures.value i) (c.as_slice-2.ensures.value i)) (cell_view c.self.inside.token)) in
-    let all = joins g.N.Router.workers totals posted c.none.result rows _ _ _ (cell_view c.replace-token.result) c.self.invariant.3 longT longP c.none.ensures c.self.invariant.1 spared
+    let all = joins g.N.RunBrand.workers totals posted c.none.result rows _ _ _ (cell_view c.replace-token.result) c.self.invariant.3 longT longP c.none.ensures c.self.invariant.1 spared
     (ap cell_view c.replace-token.ensures.value ∙ c.share.invariant.2) c.take_in.ensures.1 in
-    let moved = posts g.N.Router.workers totals posted c.share.inside.counts rows _ _ _ _ c.self.invariant.3 (c.audit.ensures.known.0 ∙ all) c.give.ensures.kept.1 c.give.ensures.given.2 in (
+    let moved = posts g.N.RunBrand.workers totals posted c.share.inside.counts rows _ _ _ _ c.self.invariant.3 (c.audit.ensures.known.0 ∙ all) c.give.ensures.kept.1 c.give.ensures.given.2 in (
       c.give.ensures.given.0 ∙ c.audit.ensures.own ∙ c.take_in.ensures.0 ∙ c.give-spare.ensures.kept.0 ∙ c.self.invariant.0,
       c.give.ensures.given.1,
       moved.1 ∙ ap (holder 1) (sym c.added-posted.ensures),

@@ -4,7 +4,7 @@ use Rattle.replay_laws.specs.Place.{places}
 use Rattle.router_rules.specs.Rules.{rules}
 use Rattle.pipe_model.specs.Pipeline.{Pipeline}
 use Rattle.pipe_model.specs.Shown.{place_of, stands_in}
-use Rattle.pipe_parts.specs.Sent.{first}
+use Rattle.replay_state.specs.Sent.{first}
 use Rattle.pipe_model.proofs.world.World.place.Goals as goal
 
 pub returns : goal.returns

@@ -1,7 +1,7 @@
 use Rattle.std.proofs.Common.{◌≡◌, ◌++◌, map, take, drop}
 use Rattle.replay_laws.specs.Run.{skipped_from}
 use Rattle.pipe_model.specs.Pipeline.{ran, rules_in, skipped}
-use Rattle.pipe_steps.specs.Step.{step_in}
+use Rattle.replay_steps.specs.Step.{step_in}
 use Rattle.pipe_model.proofs.world.World.run.Given as goal
 
 abbrev pub invariant-loop-i : goal.invariant-loop-i

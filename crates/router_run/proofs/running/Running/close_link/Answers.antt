@@ -3,7 +3,7 @@ use Rattle.std.specs.Arc.{arc_value}
 use Rattle.process_packet.specs.declared.config.Config.{Config}
 use Rattle.router_rules.specs.Links.{link_count}
 use Rattle.router_rules.specs.declared.shared.Shared.{Shared}
-use Rattle.router_pipes.specs.Closing.{Closing}
+use Rattle.run_pipes.specs.Closing.{Closing}
 use Rattle.router_run.specs.Run.{Run}
 use Rattle.router_run.proofs.CrewLemmas.{controller_long, controller_used, crew_after}
 use Rattle.router_run.proofs.Finish.{all_made_as, crew_as, space_as}

@@ -1,6 +1,6 @@
 use Rattle.std.proofs.Common.{length, sym, ◌∙◌, ap}
-use Rattle.router_laws.proofs.Returned.{runs_as_told}
-use Rattle.router_pipes.proofs.PipesLemmas.{none_are_back}
+use Rattle.worker_order.proofs.Returned.{runs_as_told}
+use Rattle.run_pipes.proofs.PipesLemmas.{none_are_back}
 use Rattle.router_run.proofs.Finish.{has_run, inner_ready, middle_ready, outer_ready, run_as, settled, shares_count, the_slow}
 use Rattle.run_report.proofs.PartedLemmas.{own_ends, own_space}
 use Rattle.router_run.proofs.Crews.{crews_end}

@@ -3,7 +3,7 @@ use Rattle.std.specs.Arc.{arc_value}
 use Rattle.packet_ledger.specs.Share.{Held}
 use Rattle.router_rules.specs.Links.{link_count}
 use Rattle.router_stages.specs.Exits.{Leaving, DroppedAs}
-use Rattle.stage_parts.proofs.BackLemmas.{back_long}
+use Rattle.worker_parts.proofs.BackLemmas.{back_long}
 use Rattle.router_stages.proofs.exits.Exits.drop_for.Goals as goal
 
 pub invariant_of-self : goal.invariant_of-self

@@ -9,8 +9,8 @@ use Rattle.router_rules.specs.Datagram.{Parcel}
 use Rattle.router_rules.specs.Links.{link_count, link_index}
 use Rattle.router_rules.specs.Rules.{Arrives, by_decision, decided, kinds}
 use Rattle.router_rules.specs.declared.shared.Shared.{Shared}
-use Rattle.stage_parts.specs.Items.{StandsIn, asking, leaving, with_bytes}
-use Rattle.stage_parts.specs.Outlet.{Offering}
+use Rattle.worker_parts.specs.Items.{StandsIn, asking, leaving, with_bytes}
+use Rattle.worker_parts.specs.Outlet.{Offering}
 use Rattle.router_stages.specs.Exits.{Leaving, DroppedAs, SentAs}
 use Rattle.router_stages.specs.Working.{After, AskedAs, PassedOn, out}
 use Rattle.router_stages.proofs.exits.Exits.pass_on.Goals as goal

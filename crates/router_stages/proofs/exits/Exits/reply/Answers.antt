@@ -9,8 +9,8 @@ use Rattle.router_rules.specs.Links.{link_count}
 use Rattle.router_rules.specs.Rules.{Arrives, kinds, replied}
 use Rattle.router_rules.specs.declared.shared.Shared.{Shared}
 use Rattle.router_rules.proofs.ReplyLemmas.{answer_leaves_by}
-use Rattle.stage_laws.specs.Answers.{answer_to}
-use Rattle.stage_parts.specs.Items.{StandsIn}
+use Rattle.worker_laws.specs.Answers.{answer_to}
+use Rattle.worker_parts.specs.Items.{StandsIn}
 use Rattle.router_stages.specs.Exits.{Leaving, DroppedAs, SentAs}
 use Rattle.router_stages.specs.Answering.{AfterReply, RepliedTo}
 use Rattle.router_stages.proofs.exits.Exits.reply.Goals as goal

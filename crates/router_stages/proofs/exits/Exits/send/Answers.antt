@@ -5,11 +5,11 @@ use Rattle.process_packet.specs.declared.cause.Cause.TheVariants as cause
 use Rattle.process_packet.specs.declared.config.Config.{Config}
 use Rattle.router_rules.specs.Links.{link_count}
 use Rattle.router_rules.specs.declared.shared.Shared.{Shared}
-use Rattle.stage_parts.specs.Items.{StandsIn}
-use Rattle.stage_parts.specs.Outlets.{GaveAt}
-use Rattle.stage_parts.proofs.EndLemmas.{gave_long, kept_long}
+use Rattle.worker_parts.specs.Items.{StandsIn}
+use Rattle.worker_parts.specs.Outlets.{GaveAt}
+use Rattle.worker_parts.proofs.EndLemmas.{gave_long, kept_long}
 use Rattle.router_stages.specs.Exits.{Leaving, SentAs, pipe_for}
-use Rattle.stage_parts.proofs.BackLemmas.{back_long}
+use Rattle.worker_parts.proofs.BackLemmas.{back_long}
 use Rattle.router_stages.proofs.ExitsLemmas.{pipe_below, sent_not}
 use Rattle.router_stages.proofs.exits.Exits.send.Goals as goal
 

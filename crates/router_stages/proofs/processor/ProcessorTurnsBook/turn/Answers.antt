@@ -14,9 +14,9 @@ invariant_of-self-in-Some-Payload g c =
     let s = c.self.inside in
     let e = c.in-Some-Payload.ensures in
     let free = nobody s.hand (sym c.is_some.ensures ∙ c.if-is_some.false) in
-    let kept = keeps_taken g.N.Router.config s.from s.hand s.slow s.exits c.self.invariant e.0 c.in-Some-Payload.packet free (c.if-is_done.ensures.left refl) in
+    let kept = keeps_taken g.N.RunBrand.config s.from s.hand s.slow s.exits c.self.invariant e.0 c.in-Some-Payload.packet free (c.if-is_done.ensures.left refl) in
     let is = e.2 ∙ ap (λ (l : Load (Arrival kinds)). took s.from (entry e.0 l)) c.in-Some-Payload.field-0-is in
-    subst (λ (t : Taker (Arrival kinds)). KeepsWorking g.N.Router.config t (Some c.in-Some-Payload.packet) s.slow s.exits) (sym is) kept
+    subst (λ (t : Taker (Arrival kinds)). KeepsWorking g.N.RunBrand.config t (Some c.in-Some-Payload.packet) s.slow s.exits) (sym is) kept
 
 pub returns-in-Some-Marked : goal.returns-in-Some-Marked
 returns-in-Some-Marked g c = search rules

@@ -1,5 +1,5 @@
 use Rattle.std.proofs.Common.{sym, subst}
-use Rattle.stage_parts.specs.Outlets.{are_used}
+use Rattle.worker_parts.specs.Outlets.{are_used}
 use Rattle.router_stages.specs.Answering.{Answering, IsDone}
 use Rattle.router_stages.proofs.AnsweringLemmas.{keeps_ending}
 use Rattle.router_stages.proofs.slow_path.SlowPath.end.Goals as goal
@@ -8,4 +8,4 @@ pub invariant_of-self : goal.invariant_of-self
 invariant_of-self g c =
     let s = c.self.inside in
     let done = subst (λ (a : Answering). IsDone a) (sym c.self.view_is) c.requires in
-    keeps_ending g.N.Router.config s.from s.exits c.self.invariant (are_used s.exits.config) c.end.result c.end.new.self done c.end.ensures.tried c.end.ensures.same
+    keeps_ending g.N.RunBrand.config s.from s.exits c.self.invariant (are_used s.exits.config) c.end.result c.end.new.self done c.end.ensures.tried c.end.ensures.same

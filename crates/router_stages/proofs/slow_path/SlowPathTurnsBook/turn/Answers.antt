@@ -7,7 +7,7 @@ use Rattle.ruled_pipe.specs.Producer.{entry}
 use Rattle.ruled_pipe.specs.declared.entry.Load.{Load}
 use Rattle.router_stages.specs.Answering.{Answering, KeepsAnswering}
 use Rattle.router_stages.proofs.AnsweringLemmas.{keeps_replied}
-use Rattle.stage_parts.proofs.RoomLemmas.{may_raise}
+use Rattle.worker_parts.proofs.RoomLemmas.{may_raise}
 use Rattle.router_stages.proofs.slow_path.SlowPathTurnsBook.turn.Goals as goal
 
 pub reply-requires-clause-room : goal.reply-requires-clause-room
@@ -18,9 +18,9 @@ invariant_of-self-in-Some-Payload g c =
     let s = c.self.inside in
     let q = c.in-Some-Payload.request in
     let e = c.in-Some-Payload.ensures in
-    let kept = keeps_replied g.N.Router.config s.from s.exits c.self.invariant e.0 q c.reply.new.self (c.if-is_done.ensures.left refl) c.reply.ensures.some c.reply.ensures.replied in
+    let kept = keeps_replied g.N.RunBrand.config s.from s.exits c.self.invariant e.0 q c.reply.new.self (c.if-is_done.ensures.left refl) c.reply.ensures.some c.reply.ensures.replied in
     let is = e.2 ∙ ap (λ (l : Load (SlowPathRequest kinds)). took s.from (entry e.0 l)) c.in-Some-Payload.field-0-is in
-    subst (λ (t : Taker (SlowPathRequest kinds)). KeepsAnswering g.N.Router.config t c.reply.new.self) (sym is) kept
+    subst (λ (t : Taker (SlowPathRequest kinds)). KeepsAnswering g.N.RunBrand.config t c.reply.new.self) (sym is) kept
 
 pub returns-in-None : goal.returns-in-None
 returns-in-None g c = search rules

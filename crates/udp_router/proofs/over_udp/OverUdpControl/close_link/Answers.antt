@@ -1,6 +1,6 @@
 use Rattle.std.proofs.Common.{Result, subst, sym}
-use Rattle.router_pipes.specs.Closing.{Closing}
-use Rattle.router_pipes.specs.declared.closing.CloseFault.{CloseFault}
+use Rattle.run_pipes.specs.Closing.{Closing}
+use Rattle.run_pipes.specs.declared.closing.CloseFault.{CloseFault}
 use Rattle.udp_router.specs.OverUdp.{Closes, Router}
 use Rattle.udp_router.proofs.over_udp.OverUdpControl.close_link.Goals as goal
 

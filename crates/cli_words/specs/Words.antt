@@ -1,0 +1,109 @@
+-- What the words of a command line ask for, by what a parse of them finds.
+use Rattle.std.specs.Str.{bytes_eq}
+use Rattle.std.specs.Prelude.{◌≡◌, ◌≤◌, ℕ, Bool, List, [], Option, Some, None, Result, IfOk, true, false, codes, decimal, option_map}
+use Rattle.clap.specs.Faults.{fault_of}
+use Rattle.clap.specs.Simple.{App, app_of, new_app, new_rule, on_top, subcommand_of, with_rule, with_subcommand}
+use Rattle.clap.specs.Walk.{Row, Rule, Text, first_of}
+use Rattle.process_packet.specs.declared.underlay.Underlay.{Underlay}
+use Rattle.text_values.specs.Address.{underlay_of}
+use Rattle.std.specs.declared.alloc.AllocError.{AllocError}
+use Rattle.clap.specs.declared.builder.command.Command.{Command}
+use Rattle.clap.specs.declared.builder.command.Command.TheViews.{out-Command as fields_of}
+use Rattle.clap.specs.declared.builder.action.ArgAction.TheVariants.{Set, SetTrue}
+use Rattle.cli_words.specs.declared.words.Subcommand.{Subcommand}
+use Rattle.cli_words.specs.declared.words.Subcommand.TheVariants as order
+
+-- The command, where there was memory for it, takes these words, and has no option that its orders share.
+abbrev pub IsGrammar : App → Result Command AllocError → Type 0
+IsGrammar app made = IfOk made (λ c. (app_of c ≡ app) × ((fields_of c).has_globals ≡ false))
+
+-- `--name VALUE`, which has to be there
+abbrev pub wanted : Text → Rule
+wanted name = record (new_rule name) { long = Some name; value_names = 1; action = Some Set; required = true }
+
+-- `--name VALUE`, which may be there
+abbrev pub offered : Text → Rule
+offered name = record (new_rule name) { long = Some name; value_names = 1; action = Some Set }
+
+-- `--name`, which may be there
+abbrev pub flag : Text → Rule
+flag name = record (new_rule name) { long = Some name; action = Some SetTrue }
+
+-- `route --config FILE --link N --now S [--from ADDR]`
+abbrev pub route : App
+route =
+    with_rule (with_rule (with_rule (with_rule (new_app (codes "route")) (wanted (codes "config"))) (wanted (codes "link"))) (wanted (codes "now")))
+    (offered (codes "from"))
+
+-- `replay --config FILE`, `run --config FILE`
+abbrev pub alone : Text → App
+alone name = with_rule (new_app name) (wanted (codes "config"))
+
+-- `check --config FILE [--strict] [--bind]`
+abbrev pub check : App
+check = with_rule (with_rule (alone (codes "check")) (flag (codes "strict"))) (flag (codes "bind"))
+
+-- the program, whose words begin after its name
+abbrev pub router : App
+router =
+    with_subcommand
+    (with_subcommand
+    (with_subcommand
+    (with_subcommand (on_top (λ top. record top { has_version = true; no_binary_name = true; subcommand_required = true }) (new_app (codes "router"))) route.top)
+    (alone (codes "replay")).top)
+    (alone (codes "run")).top)
+    check.top
+
+-- what a parse finds of an option without a value
+abbrev pub is_given : Option Text → Bool
+is_given None = false
+is_given (Some text) = bytes_eq text (codes "true")
+
+-- the address that a word names, if it is one; no word names none
+abbrev pub from_of : Option Text → Option (Option Underlay)
+from_of None = Some None
+from_of (Some text) = option_map (λ u. Some u) (underlay_of text)
+
+-- what is asked for
+pub data Asked : Type 0 where
+  Routes : Text → ℕ → ℕ → Option Underlay → Asked  -- the configuration, the link, the moment, the source
+  Replays : Text → Asked  -- the configuration
+  Runs : Text → Asked
+  Checks : Text → Bool → Bool → Asked  -- the configuration, whether a warning is a fault, whether sockets are opened
+
+abbrev pub asked_of : Subcommand → Asked
+asked_of (order.Route config link now from) = Routes config.now link now from
+asked_of (order.Replay config) = Replays config.now
+asked_of (order.Run config) = Runs config.now
+asked_of (order.Check config strict bind) = Checks config.now strict bind
+
+-- The options of `route` have these values. A number stands there as its decimal digits.
+pub record AsksRoute (rows : List Row) (config : Text) (link now : ℕ) (from : Option Underlay) : Type 0 where
+  pub config_is : first_of (codes "config") rows ≡ Some config
+  pub link_is : first_of (codes "link") rows ≡ Some (decimal link)
+  pub now_is : first_of (codes "now") rows ≡ Some (decimal now)
+  pub from_is : from_of (first_of (codes "from") rows) ≡ Some from
+  pub link_fits : link ≤ 65535
+  pub now_fits : now ≤ 1099511627775
+
+-- The options of `check` have these values.
+pub record AsksCheck (rows : List Row) (config : Text) (strict bind : Bool) : Type 0 where
+  pub config_is : first_of (codes "config") rows ≡ Some config
+  pub strict_is : strict ≡ is_given (first_of (codes "strict") rows)
+  pub bind_is : bind ≡ is_given (first_of (codes "bind") rows)
+
+-- a subcommand and its options ask for it
+abbrev pub Asks : Text × List Row → Asked → Type 0
+Asks entered (Routes config link now from) = (entered.0 ≡ codes "route") × AsksRoute entered.1 config link now from
+Asks entered (Replays config) = (entered.0 ≡ codes "replay") × (first_of (codes "config") entered.1 ≡ Some config)
+Asks entered (Runs config) = (entered.0 ≡ codes "run") × (first_of (codes "config") entered.1 ≡ Some config)
+Asks entered (Checks config strict bind) = (entered.0 ≡ codes "check") × AsksCheck entered.1 config strict bind
+
+abbrev pub AsksOf : Option (Text × List Row) → Asked → Type 0
+AsksOf None asked = ⊥
+AsksOf (Some entered) asked = Asks entered asked
+
+-- The words are taken by the grammar, and ask for it.
+pub record Orders (words : List Text) (asked : Asked) : Type 0 where
+  pub taken : fault_of router words ≡ []
+  pub asks : AsksOf (subcommand_of router words) asked

@@ -1,0 +1,6 @@
+//! The words of the program's command line, and what they ask for.
+#![tactic(auto)]
+
+mod words;
+
+pub use words::{Subcommand, WordsFault, read_words};

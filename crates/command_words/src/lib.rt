@@ -1,6 +1,0 @@
-//! The words of the program's command line, and what they ask for.
-#![tactic(auto)]
-
-mod words;
-
-pub use words::{Order, WordsFault, read_words};

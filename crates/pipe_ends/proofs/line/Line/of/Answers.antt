@@ -1,6 +1,0 @@
-use Rattle.std.proofs.Common.{rules}
-use Rattle.std.proofs.lemmas.List.{reverse-reverse}
-use Rattle.pipe_ends.proofs.line.Line.of.Goals as goal
-
-pub returns : goal.returns
-returns g c = search (rules, reverse-reverse)

@@ -1,5 +1,0 @@
-use Rattle.pipe_ends.specs.Shutting.{IsStill}
-use Rattle.pipe_ends.proofs.shutter.Shutter.end.Given as goal
-
-abbrev pub invariant-loop : goal.invariant-loop
-invariant-loop g l = IsStill l.fn.self l.self

@@ -1,5 +1,0 @@
-use Rattle.std.proofs.Common.{rules}
-use Rattle.pipe_parts.proofs.item.Item.full.Goals as goal
-
-pub returns-in-Request : goal.returns-in-Request
-returns-in-Request c = search rules

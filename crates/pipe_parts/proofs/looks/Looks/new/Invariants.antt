@@ -1,5 +1,0 @@
-use Rattle.std.proofs.Common.{◌≡◌, false, replicate}
-use Rattle.pipe_parts.proofs.looks.Looks.new.Given as goal
-
-abbrev pub invariant-loop-i : goal.invariant-loop-i
-invariant-loop-i l = l.links.items ≡ replicate l.i false

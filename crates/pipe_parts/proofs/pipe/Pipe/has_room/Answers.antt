@@ -1,6 +1,0 @@
-use Rattle.std.proofs.lemmas.Grind.{common_steps}
-use Rattle.std.proofs.Common.{arith}
-use Rattle.pipe_parts.proofs.pipe.Pipe.has_room.Goals as goal
-
-pub returns : goal.returns
-returns c = grind (arith, common_steps)

@@ -1,5 +1,0 @@
-use Rattle.std.proofs.Common.{rules}
-use Rattle.pipe_parts.proofs.rules.home.Goals as goal
-
-pub returns-in-Packet : goal.returns-in-Packet
-returns-in-Packet c = search rules

@@ -1,9 +1,0 @@
-use Rattle.std.proofs.Common.{◌≡◌, drop}
-use Rattle.order_laws.specs.Item.{is_one}
-use Rattle.replay_laws.specs.Place.{in_sent}
-use Rattle.pipe_parts.specs.Sent.{joined}
-use Rattle.pipe_parts.specs.Sent.{first}
-use Rattle.pipe_parts.proofs.sent.find_among.Given as goal
-
-abbrev pub invariant-loop-i : goal.invariant-loop-i
-invariant-loop-i l = first (in_sent (is_one l.arrived l.number) (joined (drop l.i l.ways) (drop l.i l.entries))) ≡ first (in_sent (is_one l.arrived l.number) (joined l.ways l.entries))

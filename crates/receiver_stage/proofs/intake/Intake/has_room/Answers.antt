@@ -1,7 +1,0 @@
-use Rattle.std.proofs.Common.{MatchBool, subst}
-use Rattle.packet_ledger.specs.Share.{HasRoom}
-use Rattle.receiver_stage.specs.Intake.{Taking}
-use Rattle.receiver_stage.proofs.intake.Intake.has_room.Goals as goal
-
-pub returns : goal.returns
-returns g c = subst (λ (t : Taking). MatchBool c.has_room.result (HasRoom t.side.share.counts) (HasRoom t.side.share.counts → ⊥)) c.self.view_is c.has_room.ensures.room

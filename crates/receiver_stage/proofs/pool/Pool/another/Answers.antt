@@ -1,8 +1,0 @@
-use Rattle.std.proofs.Common.{rules}
-use Rattle.receiver_stage.proofs.pool.Pool.another.Goals as goal
-
-pub returns-in-Some-clause-got : goal.returns-in-Some-clause-got
-returns-in-Some-clause-got g c = search rules
-
-pub returns-clause-got : goal.returns-clause-got
-returns-clause-got g c = search rules

@@ -1,6 +1,0 @@
-use Rattle.std.proofs.Common.{sym}
-use Rattle.receiver_stage.proofs.PoolLemmas.{passed_more}
-use Rattle.receiver_stage.proofs.pool.take_buffer.Goals as goal
-
-pub loop-preserved : goal.loop-preserved
-loop-preserved g c = passed_more c.args.free.now c.loop.free c.take.new.self c.in-Some-take.entry c.loop.invariant (sym c.in_default-buffer_of.ensures) c.in-Some-take.ensures.step

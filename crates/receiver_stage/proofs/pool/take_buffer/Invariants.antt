@@ -1,7 +1,0 @@
-use Rattle.std.proofs.Common.{◌≡◌, ℕ, List}
-use Rattle.ruled_pipe.specs.declared.entry.Entry.{Entry}
-use Rattle.receiver_stage.specs.Pool.{AreMarks, passed}
-use Rattle.receiver_stage.proofs.pool.take_buffer.Given as goal
-
-abbrev pub invariant-loop : goal.invariant-loop
-invariant-loop g l = (marks : List (Entry (List ℕ))) × AreMarks marks × (l.free ≡ passed l.initial.free marks)

@@ -1,0 +1,5 @@
+use Rattle.std.proofs.Common.{◌≡◌, false, replicate}
+use Rattle.replay_state.proofs.looks.Looks.new.Given as goal
+
+abbrev pub invariant-loop-i : goal.invariant-loop-i
+invariant-loop-i l = l.links.items ≡ replicate l.i false

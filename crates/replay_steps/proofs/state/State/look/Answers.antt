@@ -1,0 +1,17 @@
+use Rattle.std.proofs.Common.{arith}
+use Rattle.replay_steps.proofs.state.State.look.Goals as goal
+
+pub returns-clause-ok : goal.returns-clause-ok
+returns-clause-ok c = grind arith steps 1000000
+
+pub returns-then-not-is_there-clause-not_now : goal.returns-then-not-is_there-clause-not_now
+returns-then-not-is_there-clause-not_now c = grind arith steps 1000000
+
+pub returns-in-Some-Got-clause-not_now : goal.returns-in-Some-Got-clause-not_now
+returns-in-Some-Got-clause-not_now c = grind arith steps 1000000
+
+pub returns-in-Some-clause-not_now : goal.returns-in-Some-clause-not_now
+returns-in-Some-clause-not_now c = grind arith steps 1000000
+
+pub returns-clause-not_now : goal.returns-clause-not_now
+returns-clause-not_now c = grind arith steps 1000000

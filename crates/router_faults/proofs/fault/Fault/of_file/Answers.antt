@@ -1,5 +1,0 @@
-use Rattle.std.proofs.Common.{refl, ◌∙◌}
-use Rattle.router_faults.proofs.fault.Fault.of_file.Goals as goal
-
-pub returns-in_default : goal.returns-in_default
-returns-in_default c = record { memory = λ is. absurd (c.in_default.not-OutOfMemory (c.kind.ensures ∙ is)); file = λ other. refl }

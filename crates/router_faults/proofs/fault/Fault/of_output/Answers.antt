@@ -1,5 +1,0 @@
-use Rattle.std.proofs.Common.{refl}
-use Rattle.router_faults.proofs.fault.Fault.of_output.Goals as goal
-
-pub returns : goal.returns
-returns c = refl

@@ -1,5 +1,0 @@
-use Rattle.router_laws.proofs.Returned.{runs_as_told}
-use Rattle.router_laws.proofs.laws.runs_as_told.Goals as goal
-
-pub returns : goal.returns
-returns g c = runs_as_told c.rules_are_lawful.ensures c.links_stand_in_order.ensures c.causes_are_apart.ensures

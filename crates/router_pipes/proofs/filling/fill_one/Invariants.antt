@@ -1,8 +1,0 @@
-use Rattle.std.proofs.Common.{◌≡◌, length}
-use Rattle.order_laws.specs.Deeds.{payloads}
-use Rattle.stage_laws.specs.Ends.{pushes}
-use Rattle.stage_parts.specs.Same.{IsSameEnd}
-use Rattle.router_pipes.proofs.filling.fill_one.Given as goal
-
-abbrev pub invariant-loop-put : goal.invariant-loop-put
-invariant-loop-put g l = IsSameEnd l.fn.end l.end × (length (payloads (pushes l.end.offers)) ≡ l.put)

@@ -1,5 +1,0 @@
-use Rattle.router_pipes.proofs.HandingLemmas.{finishes}
-use Rattle.router_pipes.proofs.laws.finishes.Goals as goal
-
-pub returns : goal.returns
-returns g c = record { law = finishes }

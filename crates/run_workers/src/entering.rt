@@ -1,0 +1,153 @@
+//! What receivers are made of.
+
+ghost use Rattle.std.specs.Prelude.{◌≡◌, ◌<◌, ℕ, List, IfOk, [], Some, length};
+ghost use Rattle.std.specs.Arc.{arc_value};
+ghost use Rattle.packet_ledger.specs.Share.{new_share};
+ghost use Rattle.router_rules.specs.Links.{link_count};
+ghost use Rattle.ruled_pipe.specs.Pipe.{Shape};
+ghost use Rattle.worker_parts.specs.Outlets.{senders};
+ghost use Rattle.run_ends.specs.Rows.{AreEndsOf, IsBundle, fresh_ends, new_takers};
+ghost use Rattle.run_ends.specs.Opened.{shapes_of};
+ghost use Rattle.run_pipes.specs.Piping.{IsPiping};
+ghost use Rattle.run_pipes.specs.Pipes.{HaveMade, piping_of};
+ghost use Rattle.run_workers.specs.Kits.{IsEnteringAt};
+ghost use Rattle.run_workers.specs.Shares.{AreNewShares, HaveGone};
+ghost use Rattle.run_pipes.specs.Rest.{IsRest};
+
+use crate::common::Common;
+use crate::over::Over;
+use packet_ledger::Share;
+use router_rules::{Shared, link_count};
+use router_stages::Receiver;
+use ruled_pipe::{Consumer, Producer};
+use run_ends::Line;
+use run_pipes::{Pipes, outlets};
+use std::alloc::{AllocError, Global};
+use std::marker::Model;
+use std::sync::Arc;
+use std::sync::atomic::AtomicU64;
+use worker_parts::{Buffer, Outlet, Packet, RunBrand, Source, all_three};
+
+/// All that a receiver is made of but its source.
+pub struct Entering<N: RunBrand> {
+    shared: Arc<Shared, Global>,
+    stop: Arc<AtomicU64, Global>,
+    link: u16,
+    first: Buffer,
+    free: Consumer<Buffer>,
+    processors: Vec<Outlet<Packet<N>>>,
+    share: Share<N>,
+}
+
+impl<N: RunBrand> Model for Entering<N> {
+    ghost use Rattle.std.specs.Prelude.{◌≡◌, ◌<◌, [], Some, length};
+    ghost use Rattle.std.specs.Arc.{arc_value};
+    ghost use Rattle.packet_ledger.specs.Share.{new_share};
+    ghost use Rattle.router_rules.specs.Links.{link_count};
+    ghost use Rattle.worker_parts.specs.Outlets.{AreFresh};
+    ghost use Rattle.run_workers.specs.Kits.{Entry};
+
+    ghost Value = { Entry };
+
+    ghost view = { λ e. record { config = (arc_value e.shared).config; link = e.link; free = e.free; processors = e.processors.items } };
+
+    ghost invariant = { λ e. (N.config ≡ Some (arc_value e.shared).config) × (e.link < link_count (arc_value e.shared).config) × (length e.processors.items ≡ (arc_value e.shared).config.processors) × AreFresh e.processors.items × (e.free.looks ≡ []) × (e.share ≡ new_share) };
+}
+
+// Not derived: a derived drop is proved again in each crate that drops one.
+impl<N: RunBrand> Drop for Entering<N> {
+    fn drop(self) {
+        let Entering {
+            shared: _,
+            stop: _,
+            link: _,
+            first: _,
+            free: _,
+            processors: _,
+            share: _,
+        } = self;
+    }
+}
+
+impl<N: RunBrand, S: Source> Over<S, Receiver<N, S>> for Entering<N> {
+    ghost use Rattle.worker_order.specs.Heard.{ToldNothing};
+    ghost use Rattle.run_workers.specs.Kits.{receiving_over};
+
+    ghost fits = { λ s. ToldNothing (S.told s) };
+
+    ghost worker = { λ e s. receiving_over e s };
+
+    fn over(self, source: S) -> Receiver<N, S> {
+        let Entering {
+            shared,
+            stop,
+            link,
+            first,
+            free,
+            processors,
+            share,
+        } = self;
+        Receiver::new(shared, stop, link, source, first, free, processors, share)
+    }
+}
+
+fn entering_at<N: RunBrand>(
+    alloc: Global,
+    common: &Common,
+    link: u16,
+    ends: Vec<Producer<Packet<N>>>,
+    free: Consumer<Buffer>,
+    share: Share<N>,
+) -> Result<Entering<N>, AllocError>
+    requires config { N.config ≡ Some (arc_value common.now.shared).config }
+    requires link { link < link_count (arc_value common.now.shared).config }
+    requires ends { IsBundle ends.items × (length ends.items ≡ (arc_value common.now.shared).config.processors) }
+    requires free { free.looks ≡ [] }
+    requires share { share ≡ new_share }
+    ensures config { IfOk result (λ e. (e.config ≡ (arc_value common.now.shared).config) × (e.link ≡ link)) }
+    ensures free { IfOk result (λ e. e.free ≡ free) }
+    ensures processors { IfOk result (λ e. (p : ℕ) (shapes : List Shape) → ends.items ≡ fresh_ends p shapes → AreEndsOf p shapes (senders e.processors)) }
+{
+    let stop = Arc::try_clone(&common.stop)?;
+    let processors = outlets(alloc, ends, common.events.processors.as_slice(), 1);
+    let shared = Arc::try_clone(&common.shared);
+    let (processors, shared, first) = all_three(processors, shared, Buffer::new(alloc))?;
+    Ok(Entering {
+        shared,
+        stop,
+        link,
+        first,
+        free,
+        processors,
+        share,
+    })
+}
+
+/// All that the receivers are made of but their sources.
+pub fn all_entering<N: RunBrand>(
+    alloc: Global,
+    common: &Common,
+    pipes: &mut Pipes<N>,
+    free: Vec<Consumer<Buffer>>,
+    shares: &mut Line<Share<N>>,
+) -> Result<Vec<Entering<N>>, AllocError>
+    requires config { N.config ≡ Some (arc_value common.now.shared).config }
+    requires piping { IsPiping (arc_value common.now.shared).config (piping_of pipes.old) }
+    requires made { HaveMade 0 0 0 0 (piping_of pipes.old) pipes.old }
+    requires free { free.items ≡ new_takers (shapes_of pipes.old.free) }
+    requires shares { AreNewShares (link_count (arc_value common.now.shared).config) shares.old }
+    ensures pipes { IfOk result (λ _. HaveMade (link_count (arc_value common.now.shared).config) 0 0 0 (piping_of pipes.old) pipes.new) }
+    ensures shares { IfOk result (λ _. HaveGone (link_count (arc_value common.now.shared).config) shares.old shares.new) }
+    ensures made { IfOk result (λ v. IsRest (IsEnteringAt (arc_value common.now.shared).config (piping_of pipes.old)) 0 (link_count (arc_value common.now.shared).config) v.items) }
+{
+    let links = link_count(&common.shared.config);
+    let mut made = Vec::with_capacity(alloc, links)?;
+    let mut free = Line::of(free);
+    for link in 0..links {
+        let ends = pipes.receiver_ends(alloc)?;
+        let taker = free.next();
+        let share = shares.next();
+        made.push_reserved(entering_at(alloc, common, link as u16, ends, taker, share)?);
+    }
+    Ok(made)
+}

@@ -1,5 +1,0 @@
-use Rattle.stage_laws.proofs.Sums.{adds_up}
-use Rattle.stage_laws.proofs.laws.adds_up.Goals as goal
-
-pub returns : goal.returns
-returns g c = record { law = adds_up _ }

@@ -1,5 +1,0 @@
-use Rattle.stage_laws.proofs.Composed.{composes}
-use Rattle.stage_laws.proofs.laws.composes.Goals as goal
-
-pub returns : goal.returns
-returns g c = record { law = composes _ }

@@ -1,5 +1,0 @@
-use Rattle.stage_laws.proofs.SmallRun.{is_example}
-use Rattle.stage_laws.proofs.laws.example.Goals as goal
-
-pub returns : goal.returns
-returns c = record { example = is_example }

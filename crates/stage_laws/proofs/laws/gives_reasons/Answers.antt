@@ -1,5 +1,0 @@
-use Rattle.stage_laws.proofs.Reasons.{gives_reasons}
-use Rattle.stage_laws.proofs.laws.gives_reasons.Goals as goal
-
-pub returns : goal.returns
-returns g c = record { law = gives_reasons _ }

@@ -1,5 +1,0 @@
-use Rattle.stage_laws.proofs.Reasons.{merges_bands}
-use Rattle.stage_laws.proofs.laws.merges_bands.Goals as goal
-
-pub returns : goal.returns
-returns g c = record { law = merges_bands _ }

@@ -1,5 +1,0 @@
-use Rattle.stage_laws.proofs.Gathers.{drains}
-use Rattle.stage_laws.proofs.pipes.drains.Goals as goal
-
-pub returns : goal.returns
-returns g c = record { law = drains }

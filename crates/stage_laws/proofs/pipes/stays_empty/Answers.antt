@@ -1,5 +1,0 @@
-use Rattle.stage_laws.proofs.Gathers.{stays_empty}
-use Rattle.stage_laws.proofs.pipes.stays_empty.Goals as goal
-
-pub returns : goal.returns
-returns g c = record { law = stays_empty }

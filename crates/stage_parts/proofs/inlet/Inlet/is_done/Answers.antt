@@ -1,5 +1,0 @@
-use Rattle.std.proofs.Common.{rules}
-use Rattle.stage_parts.proofs.inlet.Inlet.is_done.Goals as goal
-
-pub returns-clause-done : goal.returns-clause-done
-returns-clause-done g c = search rules

@@ -1,9 +1,0 @@
-use Rattle.std.proofs.Common.{◌≡◌, ℕ, List, take, ap, subst, ◌∙◌}
-use Rattle.process_packet.specs.Decide.{decide}
-use Rattle.process_packet.specs.Network.{network}
-use Rattle.stage_parts.proofs.packet.decide_at_front.Goals as goal
-
-pub returns-clause-decision : goal.returns-clause-decision
-returns-clause-decision c =
-    let of : List ℕ → Type 0 = λ b. c.route_in_place.result ≡ decide (network c.args.config.now) c.args.link c.args.source c.args.now b in
-    subst of (c.split_at_mut-front.ensures.front ∙ ap (take c.args.len) c.deref_mut.ensures.value) c.route_in_place.ensures.decision

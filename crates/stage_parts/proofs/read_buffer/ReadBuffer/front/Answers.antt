@@ -1,5 +1,0 @@
-use Rattle.std.proofs.Common.{rules}
-use Rattle.stage_parts.proofs.read_buffer.ReadBuffer.front.Goals as goal
-
-pub returns : goal.returns
-returns c = search rules

@@ -1,5 +1,0 @@
-use Rattle.std.proofs.Common.{rules}
-use Rattle.walk_laws.proofs.agreement.are_apart.Goals as goal
-
-pub returns-then-not-same_end-3 : goal.returns-then-not-same_end-3
-returns-then-not-same_end-3 c = search rules

@@ -1,0 +1,5 @@
+use Rattle.worker_laws.proofs.Composed.{composes}
+use Rattle.worker_laws.proofs.laws.composes.Goals as goal
+
+pub returns : goal.returns
+returns g c = record { law = composes _ }

@@ -1,0 +1,152 @@
+//! A datagram on its way to its processor.
+
+ghost use Rattle.std.specs.Prelude.{◌≡◌, ◌≤◌, length, take};
+ghost use Rattle.packet_answer.specs.Answer.{IsAnswerable};
+ghost use Rattle.process_packet.specs.Decide.{decide, moved};
+ghost use Rattle.process_packet.specs.Network.{network};
+ghost use Rattle.process_packet.specs.declared.decision.Problem.{Problem as Told};
+ghost use Rattle.router_rules.specs.Rules.{by_decision, decided};
+ghost use Rattle.worker_order.specs.Heard.{arrival};
+ghost use Rattle.worker_parts.specs.Items.{StandsIn, asking, leaving, with_bytes};
+
+use crate::buffer::{Buffer, Storage};
+use crate::egress_packet::EgressPacket;
+use crate::read_buffer::ReadBuffer;
+use crate::request::SlowPathRequest;
+use packet_ledger::RunBrand;
+use process_packet::{Config, Decision, Problem, Underlay, answers_are_sound, route_in_place};
+use std::marker::{Model, PhantomData};
+
+/// A datagram as it arrived, in the buffer into which it was read.
+#[derive(Drop)]
+pub struct Packet<N: RunBrand> {
+    pub(crate) storage: Box<Storage>,
+    pub(crate) of: PhantomData<N>,
+}
+
+impl<N: RunBrand> Model for Packet<N> {
+    ghost use Rattle.std.specs.Prelude.{◌≡◌, ◌≤◌, length, take};
+    ghost use Rattle.order_laws.specs.Item.{Arrival};
+    ghost use Rattle.router_rules.specs.Rules.{kinds};
+    ghost use Rattle.worker_order.specs.Heard.{arrival};
+    ghost use Rattle.worker_parts.specs.Items.{StandsIn};
+
+    ghost Value = { Arrival kinds };
+
+    ghost view = { λ p. arrival p.storage.value.link p.storage.value.interface p.storage.value.number p.storage.value.source p.storage.value.moment (take p.storage.value.len p.storage.value.bytes.items) };
+
+    ghost invariant = { λ p. (length p.storage.value.bytes.items ≡ 9217) × (p.storage.value.len ≤ 9217) × StandsIn N.config p.storage.value.link p.storage.value.interface };
+}
+
+// Decides on the datagram at the front of a buffer, where it lies.
+fn decide_at_front(
+    config: &Config,
+    link: u16,
+    source: Underlay,
+    now: u64,
+    bytes: &mut Vec<u8>,
+    len: usize,
+) -> Decision
+    requires { len ≤ length bytes.old.items }
+    ensures decision { result ≡ decide (network config.now) link source now (take len bytes.old.items) }
+    ensures bytes { take len bytes.new.items ≡ moved (network config.now) link source now (take len bytes.old.items) }
+    ensures same { length bytes.new.items ≡ length bytes.old.items }
+{
+    let (front, _) = bytes.split_at_mut(len);
+    route_in_place(config, link, source, now, front)
+}
+
+impl<N: RunBrand> Packet<N> {
+    /// The datagram of the first `len` bytes of what was read, which came by the link of this number and
+    /// interface.
+    pub fn new(
+        link: u16,
+        interface: u16,
+        number: u64,
+        source: Underlay,
+        moment: u64,
+        len: usize,
+        read: ReadBuffer,
+    ) -> Packet<N>
+        requires len { len ≤ 9217 }
+        requires stands { StandsIn N.config link interface }
+        ensures { result ≡ arrival link interface number source moment (take len read) }
+    {
+        let ReadBuffer { mut storage } = read;
+        storage.len = len;
+        storage.link = link;
+        storage.interface = interface;
+        storage.number = number;
+        storage.source = source;
+        storage.moment = moment;
+        Packet {
+            storage,
+            of: PhantomData,
+        }
+    }
+
+    /// The number of the link by which it came.
+    pub fn link(&self) -> u16
+        ensures link { result ≡ self.now.link }
+        ensures stands { StandsIn N.config self.now.link self.now.datagram.interface }
+    {
+        self.storage.link
+    }
+
+    /// Its number among the datagrams of that link, from 1 on.
+    pub fn number(&self) -> u64
+        ensures { result ≡ self.now.number }
+    {
+        self.storage.number
+    }
+
+    /// The interface of the link by which it came; 0 is the internal network.
+    pub fn interface(&self) -> u16
+        ensures { result ≡ self.now.datagram.interface }
+    {
+        self.storage.interface
+    }
+
+    /// Decides on it where it lies: where it leaves, its bytes are what leaves, and else as they came.
+    pub fn decide(&mut self, config: &Config) -> Decision
+        ensures decided { by_decision config.now self.old.datagram.interface result self.new.datagram.bytes ≡ decided config.now self.old.datagram }
+        ensures kept { self.new ≡ with_bytes self.new.datagram.bytes self.old }
+        ensures sound { (p : Told) → result ≡ Decision.Answer p → IsAnswerable self.new.datagram.bytes p × (self.new.datagram.bytes ≡ self.old.datagram.bytes) }
+    {
+        answers_are_sound();
+        let storage = &mut *self.storage;
+        let (interface, source, now) = (storage.interface, storage.source, storage.moment);
+        let len = storage.len;
+        decide_at_front(config, interface, source, now, &mut storage.bytes, len)
+    }
+
+    /// Its buffer, which begins with its bytes and is free again.
+    pub fn into_buffer(self) -> Buffer
+        ensures { take (length self.datagram.bytes) result ≡ self.datagram.bytes }
+    {
+        let Packet { storage, of: _ } = self;
+        Buffer { storage }
+    }
+
+    /// The packet on its way out by the link of a number, with its bytes as they are.
+    pub fn into_egress_packet(self, link: u16, to: Option<Underlay>) -> EgressPacket<N>
+        ensures { result ≡ leaving self link to }
+    {
+        let Packet { mut storage, of } = self;
+        storage.answer = false;
+        storage.egress = link;
+        storage.to = to;
+        EgressPacket { storage, of }
+    }
+
+    /// The packet with what it is answered.
+    pub fn into_request(self, problem: Problem) -> SlowPathRequest<N>
+        requires { IsAnswerable self.datagram.bytes problem }
+        ensures { result ≡ asking self problem }
+    {
+        SlowPathRequest {
+            packet: self,
+            problem,
+        }
+    }
+}

@@ -1,0 +1,78 @@
+//! When a thread posts, waits and naps.
+
+use crate::idle::Idle;
+use std::time::Clock;
+
+// How many turns that did something lie between two posts.
+const TURNS_PER_POST: u32 = 1023;
+
+// After this many turns in a row that did something, a thread naps once before it sleeps.
+const NAP_AFTER: u32 = 2;
+
+// Where just one turn did something between two waits, packets come one by one, and a further turn would
+// find nothing: so many of the next turns that do something are each followed by a wait at once.
+const WAITS_AFTER_SINGLE: u32 = 15;
+
+// How a thread has worked of late, and waited.
+#[derive(Drop)]
+pub(crate) struct Pace {
+    idle: Idle,
+    turns: u32,
+    // Turns that did something since it last waited, up to the number at which a thread gathers.
+    items: u32,
+    // How many such turns more are each followed by a wait at once.
+    alone: u32,
+}
+
+impl Pace {
+    pub(crate) fn new() -> Pace {
+        Pace {
+            idle: Idle::new(),
+            turns: 0,
+            items: 0,
+            alone: 0,
+        }
+    }
+
+    // There was something to do. Whether it is time to post.
+    pub(crate) fn did(&mut self) -> bool {
+        self.idle.reset();
+        if self.items < NAP_AFTER {
+            self.items += 1;
+        }
+        if self.turns < TURNS_PER_POST {
+            self.turns += 1;
+            return false;
+        }
+        self.turns = 0;
+        true
+    }
+
+    // Whether there was much to do since it last waited: then more comes soon, and a nap in which items
+    // gather costs less than a sleep for each.
+    pub(crate) fn gathers(&mut self) -> bool {
+        let several = self.items >= NAP_AFTER;
+        self.alone = if self.items == 1 {
+            WAITS_AFTER_SINGLE
+        } else {
+            0
+        };
+        self.items = 0;
+        several
+    }
+
+    // Whether a wait is to follow at once.
+    pub(crate) fn waits_at_once(&mut self) -> bool {
+        if self.alone == 0 {
+            return false;
+        }
+        self.alone -= 1;
+        self.items = 0;
+        true
+    }
+
+    // There was nothing to do, and nothing to sleep on.
+    pub(crate) fn rest<R: Clock>(&mut self, rt: &R) {
+        self.idle.rest(rt);
+    }
+}
