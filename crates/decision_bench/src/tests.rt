@@ -1,3 +1,5 @@
+//! The timing program's datagrams are decided as it expects.
+
 use super::ciphers::*;
 use super::*;
 use sample_packets::{FIRST, IN_TIME, PATH_AT, with_bytes};

@@ -1,3 +1,5 @@
+//! Answers to what the decision answers.
+
 use crate::sound::is_sound;
 use process_packet::{Arrival, Cause, Config, Ip, Problem, Underlay};
 use router_config::read_config;

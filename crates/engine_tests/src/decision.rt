@@ -1,3 +1,5 @@
+//! The decision on whole datagrams.
+
 use process_packet::{
     Arrival, CAUSES, Cause, Ip, NoMemory, Problem, Routed, Totals, Underlay, route, trace_request,
 };

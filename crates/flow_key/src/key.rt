@@ -1,3 +1,5 @@
+//! The flow of a datagram.
+
 ghost use Rattle.std.specs.Prelude.{◌<◌, ◌^◌};
 
 /// The flow of a datagram. Two keys are equal where the datagrams belong to one flow.

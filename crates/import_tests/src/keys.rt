@@ -1,3 +1,5 @@
+//! Vectors of HMAC and of derived keys.
+
 use crate::joined;
 use key_derivation::{derived_block, forwarding_key, hmac_sha256};
 

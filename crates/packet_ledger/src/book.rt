@@ -54,7 +54,6 @@ pub struct Book<N: RunBrand> {
     ghost named: { cell.table.shared.table_id ≡ N.table },
 }
 
-// Not derived: a derived drop is proved again in each crate that drops one.
 impl<N: RunBrand> Drop for Book<N> {
     fn drop(self) {
         let Book { cell: _, sums: _ } = self;

@@ -43,7 +43,6 @@ impl<N: RunBrand> Model for Sums<N> {
     ghost invariant = { λ s. (s.token.table_id ≡ N.table) × (cell_view s.token ≡ keeper (65537 - N.workers) nothing s.totals (rows_of s.inputs.items s.outputs.items)) × AtMost (2 ^ 126) s.totals × (N.workers ≤ 65536) × AddUp (record { totals = s.totals; inputs = s.inputs.items; outputs = s.outputs.items }) × (length s.inputs.items ≡ N.workers) × (length s.outputs.items ≡ N.workers) };
 }
 
-// Not derived: a derived drop is proved again in each crate that drops one.
 impl<N: RunBrand> Drop for Sums<N> {
     fn drop(self) {
         let Sums {

@@ -1,3 +1,5 @@
+//! Vectors of AES-128.
+
 use aes128_core::{Aes128, VectorAes128};
 
 // The examples of FIPS 197: appendix B, and C.1 of the edition of 2001.

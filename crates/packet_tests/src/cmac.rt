@@ -1,3 +1,5 @@
+//! Vectors of AES-CMAC.
+
 use cmac_core::Cmac;
 
 // The key of RFC 4493's examples, section 4.

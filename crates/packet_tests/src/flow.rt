@@ -1,3 +1,5 @@
+//! Flows and their processors.
+
 use flow_key::{FlowKey, flow_of, fnv1a, processor_of};
 
 /// The header of a datagram of flow 1 from 1-ff00:0:111, 10.1.0.5 to 1-ff00:0:112, 10.2.0.7, and no

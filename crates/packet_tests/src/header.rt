@@ -1,3 +1,5 @@
+//! Headers, read and written.
+
 use sample_packets::{FIRST, with_bytes};
 use scion_header::{
     Address, Domain, Header, HeaderEnds, HeaderFault, Host, NoRoom, Upper, UpperPlace,

@@ -1,3 +1,5 @@
+//! Paths, read, moved along and written.
+
 use crate::hops::hop_between;
 use field_rows::array_at;
 use path_fields::{

@@ -1,3 +1,5 @@
+//! Pairs of links at a change of segments.
+
 use path_fields::read_path;
 use segment_switch::{LinkKind, PairFault, is_switch, joins, pair_ok};
 

@@ -1,3 +1,5 @@
+//! What can be wrong with a path.
+
 use thiserror::Error;
 
 /// What is wrong with a path: the first of its tests that fails.

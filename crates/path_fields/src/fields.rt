@@ -1,3 +1,5 @@
+//! Info fields and hop fields.
+
 ghost use Rattle.std.specs.Prelude.{◌≡◌, ◌<◌, ◌^◌, length};
 
 /// An info field (draft-dekater-scion-dataplane, "SCION Path Type"). The peering flag is clear in each, and

@@ -1,3 +1,5 @@
+//! The path meta header.
+
 ghost use Rattle.std.specs.Prelude.{◌≡◌, ◌+◌, ◌*◌, ◌/◌, ◌%◌, ◌<◌, ◌≤◌, ◌^◌, ◌==◌, length, slice_index, IsTrue, None, Some, MatchResult, IfOk, OnOk};
 ghost use Rattle.scion_packet.specs.Path.{current_hop, current_info, lengths_of, meta_field, no_peering, path_fault};
 ghost use Rattle.scion_packet.specs.Lengths.{are_lengths, hop_count, info_place, path_len, segment_of};

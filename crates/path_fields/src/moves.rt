@@ -1,3 +1,5 @@
+//! The cursor's move to the next hop.
+
 ghost use Rattle.std.specs.Prelude.{◌≡◌, ◌↔◌, IsErr, OnOk, OnErr, Some, None};
 ghost use Rattle.scion_packet.specs.Places.{next};
 ghost use Rattle.path_fields.specs.Path.{place, segments};

@@ -1,3 +1,5 @@
+//! A path, and the cursor's place on it.
+
 ghost use Rattle.std.specs.Prelude.{◌≡◌, ◌<◌, ◌^◌, IsTrue, slice_index};
 ghost use Rattle.arrayvec.specs.ArrayVec.{array_vec_len};
 ghost use Rattle.scion_packet.specs.Lengths.{are_lengths, hop_count, segment_count, segment_of};

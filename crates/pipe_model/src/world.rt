@@ -33,7 +33,6 @@ impl Model for World {
     ghost invariant = { λ w. IsReached w.config w.state };
 }
 
-// Not derived: a derived drop is proved again in each crate that drops one.
 impl Drop for World {
     fn drop(self) {
         let World {

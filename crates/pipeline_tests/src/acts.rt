@@ -1,3 +1,5 @@
+//! Single steps of the machine.
+
 use crate::samples::{EXPIRED, LEAVES, is_what_leaves, pipeline};
 use pipe_model::{Outgoing, Place, Queue, Step, StepFault, Worker, World};
 use process_packet::{Bands, Cause};

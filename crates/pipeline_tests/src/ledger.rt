@@ -1,3 +1,5 @@
+//! Counts of several threads, added up.
+
 ghost use Rattle.std.specs.Prelude.{◌≡◌, ◌*◌, ◌≤◌};
 
 use packet_ledger::{Blank, Book, RunBrand, Share};

@@ -1,3 +1,5 @@
+//! A pipe between threads.
+
 ghost use Rattle.std.specs.Prelude.{◌≡◌, ◌<◌, ◌≤◌, ◌∷◌, [], true, MatchBool};
 ghost use Rattle.ruled_pipe.specs.Producer.{entry, new_sender, offered, refused};
 ghost use Rattle.ruled_pipe.specs.Consumer.{looked, new_taker, took};

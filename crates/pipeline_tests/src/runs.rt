@@ -1,3 +1,5 @@
+//! Whole runs of the machine.
+
 use crate::samples::{Coming, EXPIRED, LEAVES, is_what_leaves, pipeline};
 use pipe_model::{NoMemoryAt, Outgoing, Place, Queue, Step, StepFault, Worker, World};
 use process_packet::{Bands, CAUSES, Cause, NoMemory, Totals};

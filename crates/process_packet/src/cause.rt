@@ -1,3 +1,5 @@
+//! Why a packet is dropped.
+
 ghost use Rattle.std.specs.Prelude.{◌≡◌, ◌<◌, ◌≤◌};
 ghost use Rattle.process_packet.specs.Cause.{causes, number_of};
 

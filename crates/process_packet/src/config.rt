@@ -66,7 +66,6 @@ pub struct Config {
     pub ghost services_are_distinct: { IsTrue (are_distinct (map service_number services.items)) },
 }
 
-// Not derived: a derived drop is proved again in each crate that drops one.
 impl Drop for Config {
     fn drop(self) {
         let Config {

@@ -1,3 +1,5 @@
+//! A range of ports.
+
 /// The ports from the first to the last, both among them.
 #[derive(Clone, Copy, PartialEq, Eq)]
 pub struct PortRange {

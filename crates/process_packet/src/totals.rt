@@ -1,3 +1,5 @@
+//! What became of all datagrams.
+
 ghost use Rattle.std.specs.Prelude.{◌≡◌};
 ghost use Rattle.process_packet.specs.Totals.{dropped_for};
 

@@ -16,7 +16,6 @@ impl Model for Bytes {
     ghost view = { λ b. b.items.items };
 }
 
-// Not derived: a derived drop is proved again in each crate that drops one.
 impl Drop for Bytes {
     fn drop(self) {
         let Bytes { items: _ } = self;

@@ -43,7 +43,6 @@ impl Model for Fates {
     ghost view = { λ f. f.items.items };
 }
 
-// Not derived: a derived drop is proved again in each crate that drops one.
 impl Drop for Fates {
     fn drop(self) {
         let Fates { items: _ } = self;

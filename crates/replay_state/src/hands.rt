@@ -51,7 +51,6 @@ impl Model for Hands {
     ghost view = { λ h. h.seats.items };
 }
 
-// Not derived: a derived drop is proved again in each crate that drops one.
 impl Drop for Hands {
     fn drop(self) {
         let Hands { seats: _ } = self;

@@ -21,7 +21,6 @@ impl Model for Looks {
     ghost view = { λ l. l.links.items };
 }
 
-// Not derived: a derived drop is proved again in each crate that drops one.
 impl Drop for Looks {
     fn drop(self) {
         let Looks { links: _ } = self;

@@ -33,7 +33,6 @@ impl Model for Entry {
     ghost view = { λ e. record { from = worker_of e.from; item = item_in e.item } };
 }
 
-// Not derived: a derived drop is proved again in each crate that drops one.
 impl Drop for Entry {
     fn drop(self) {
         let Entry { from: _, item: _ } = self;
@@ -120,7 +119,6 @@ impl Model for Pipe {
     ghost invariant = { IsKept };
 }
 
-// Not derived: a derived drop is proved again in each crate that drops one.
 impl Drop for Pipe {
     fn drop(self) {
         let Pipe {

@@ -29,7 +29,6 @@ impl Model for Pipes {
     ghost view = { λ p. p.items.items };
 }
 
-// Not derived: a derived drop is proved again in each crate that drops one.
 impl Drop for Pipes {
     fn drop(self) {
         let Pipes { items: _ } = self;

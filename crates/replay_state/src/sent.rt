@@ -98,7 +98,6 @@ impl Model for Sent {
     ghost view = { λ s. s.links.items };
 }
 
-// Not derived: a derived drop is proved again in each crate that drops one.
 impl Drop for Sent {
     fn drop(self) {
         let Sent { links: _ } = self;

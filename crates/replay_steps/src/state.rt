@@ -48,7 +48,6 @@ impl Model for State {
     ghost view = { λ s. record { hands = s.hands; pipes = s.pipes; looks = s.looks; fates = s.fates; sent = s.sent } };
 }
 
-// Not derived: a derived drop is proved again in each crate that drops one.
 impl Drop for State {
     fn drop(self) {
         let State {

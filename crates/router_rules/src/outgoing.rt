@@ -1,3 +1,5 @@
+//! What a sink is told of a packet.
+
 use process_packet::Underlay;
 
 /// A packet that left, or the answer to one, named by the packet's arriving link and its number there.

@@ -1,3 +1,5 @@
+//! What all workers of a router share.
+
 ghost use Rattle.router_rules.specs.Ports.{IsPortsOf};
 
 use crate::ports::Ports;
@@ -10,7 +12,6 @@ pub struct Shared {
     pub ghost of: { IsPortsOf config ports },
 }
 
-// Not derived: a derived drop is proved again in each crate that drops one.
 impl Drop for Shared {
     fn drop(self) {
         let Shared {

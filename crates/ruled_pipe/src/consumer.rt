@@ -38,7 +38,6 @@ impl<T> Model for Consumer<T> {
     ghost invariant = { λ c. IsPassOf (arc_value c.queue) c.seat × (known_by c.seat ≡ consumer (size_of (ruled_capacity (arc_value c.queue)) c.producers) (known_by c.seat).taken) };
 }
 
-// Not derived: a derived drop is proved again in each crate that drops one.
 impl<T: Drop> Drop for Consumer<T> {
     fn drop(self) {
         let Consumer {

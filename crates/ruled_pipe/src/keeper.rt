@@ -41,7 +41,6 @@ impl<T> Model for Keeper<T> {
     ghost invariant = { λ k. IsPassOf (arc_value k.queue) k.seat × (known_by k.seat ≡ keeper k.made (size_of (ruled_capacity (arc_value k.queue)) k.producers) (known_by k.seat).known) × AreLeft k.producers (ruled_capacity (arc_value k.queue)) (known_by k.seat).known };
 }
 
-// Not derived: a derived drop is proved again in each crate that drops one.
 impl<T: Drop> Drop for Keeper<T> {
     fn drop(self) {
         let Keeper {

@@ -27,7 +27,6 @@ impl<T> Model for Pipe<T> {
     ghost invariant = { λ p. (p.keeper.made ≡ p.keeper.producers) × (p.keeper.senders ≡ []) };
 }
 
-// Not derived: a derived drop is proved again in each crate that drops one.
 impl<T: Drop> Drop for Pipe<T> {
     fn drop(self) {
         let Pipe { keeper: _ } = self;

@@ -36,7 +36,6 @@ impl<T> Model for Producer<T> {
     ghost invariant = { λ p. IsPassOf (arc_value p.queue) p.seat × (known_by p.seat ≡ producer p.number (size_of (ruled_capacity (arc_value p.queue)) (known_by p.seat).size.producers) (known_by p.seat).offers) × AllFull (known_by p.seat).size.producers p.number (ruled_capacity (arc_value p.queue)) (known_by p.seat).offers p.notes × (p.number < (known_by p.seat).size.producers) };
 }
 
-// Not derived: a derived drop is proved again in each crate that drops one.
 impl<T: Drop> Drop for Producer<T> {
     fn drop(self) {
         let Producer {

@@ -27,7 +27,6 @@ impl<T> Model for Shutter<T> {
     ghost invariant = { λ s. IsShutting (shutting s.producer s.used s.closed s.ended) };
 }
 
-// Not derived: a derived drop is proved again in each crate that drops one.
 impl<T: Drop> Drop for Shutter<T> {
     fn drop(self) {
         let Shutter {

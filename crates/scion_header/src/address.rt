@@ -1,3 +1,5 @@
+//! The address of an end host.
+
 ghost use Rattle.std.specs.Prelude.{◌≡◌, ◌<◌, ◌^◌, length};
 ghost use Rattle.scion_packet.specs.Header.{host_len};
 ghost use Rattle.scion_header.specs.Host.{host_bytes, length_code};

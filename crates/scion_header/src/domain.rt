@@ -1,3 +1,5 @@
+//! An isolation domain and an AS in it.
+
 ghost use Rattle.std.specs.Prelude.{◌<◌, ◌^◌};
 
 /// The AS of an end host.

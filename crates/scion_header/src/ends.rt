@@ -1,3 +1,5 @@
+//! Where the parts of a header end.
+
 /// Where the parts of a datagram's header end, counted in bytes from the datagram's start.
 #[derive(Clone, Copy, PartialEq, Eq)]
 pub struct HeaderEnds {

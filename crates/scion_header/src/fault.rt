@@ -1,3 +1,5 @@
+//! What can be wrong with a header.
+
 use thiserror::Error;
 
 /// What is wrong with a header: the first of its tests that fails.

@@ -1,3 +1,5 @@
+//! The common header and the address header.
+
 ghost use Rattle.std.specs.Prelude.{◌+◌, ◌*◌, ◌<◌, ◌≤◌, ◌^◌};
 ghost use Rattle.scion_packet.specs.Header.{host_len};
 ghost use Rattle.scion_header.specs.Host.{length_code};

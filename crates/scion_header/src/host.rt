@@ -1,3 +1,5 @@
+//! A host's address within its AS.
+
 ghost use Rattle.std.specs.Prelude.{◌≡◌, ◌+◌, ◌<◌, ◌≤◌, length};
 ghost use Rattle.field_rows.specs.Place.{text_at};
 ghost use Rattle.scion_packet.specs.Header.{host_len};

@@ -1,3 +1,5 @@
+//! How a header is read.
+
 ghost use Rattle.std.specs.Prelude.{◌≡◌, ◌+◌, ◌/◌, ◌%◌, ◌<◌, ◌≤◌, length, slice_index, None, Some, MatchResult, IfOk};
 ghost use Rattle.scion_packet.specs.Header.{address_of, front_end, header_end, header_fault, header_fault_as, header_of, host_kinds, host_len, scion_path};
 ghost use Rattle.scion_header.specs.Address.{host_address};

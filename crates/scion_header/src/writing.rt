@@ -1,3 +1,5 @@
+//! How a header is written.
+
 ghost use Rattle.std.specs.Prelude.{◌≡◌, ◌+◌, ◌*◌, ◌<◌, ◌≤◌, ◌↔◌, length, IsErr, IfOk, OnOk, OnErr};
 ghost use Rattle.field_rows.specs.Row.{rows};
 ghost use Rattle.field_rows.specs.Place.{Puts};

@@ -1,3 +1,5 @@
+//! Why a pair of links is not lawful.
+
 ghost use Rattle.std.specs.Prelude.{◌≡◌};
 
 use thiserror::Error;

@@ -1,3 +1,5 @@
+//! The kinds of links.
+
 /// What the AS at the other end of a link is to the local one.
 #[derive(Clone, Copy, PartialEq, Eq)]
 pub enum LinkKind {

@@ -31,7 +31,6 @@ impl Model for UdpSink {
     ghost view = { λ s. record { ends = s.ends; failed = s.failed } };
 }
 
-// Not derived: a derived drop is proved again in each crate that drops one.
 impl Drop for UdpSink {
     fn drop(self) {
         let UdpSink {

@@ -28,7 +28,6 @@ impl<T> Model for Inlet<T> {
     ghost invariant = { λ i. (i.producers ≡ i.consumer.producers) × (i.ends ≡ ends_in i.consumer.taken) × (i.ends ≤ i.producers) };
 }
 
-// Not derived: a derived drop is proved again in each crate that drops one.
 impl<T: Drop> Drop for Inlet<T> {
     fn drop(self) {
         let Inlet {

@@ -39,7 +39,6 @@ impl Model for ListSink {
     ghost view = { λ s. record { fails = s.fails.items; calls = s.calls; told = option_map (λ l. map told_in l.items) s.list; failed = s.failed } };
 }
 
-// Not derived: a derived drop is proved again in each crate that drops one.
 impl Drop for ListSink {
     fn drop(self) {
         let ListSink {

@@ -27,7 +27,6 @@ impl<T> Model for Outlet<T> {
     ghost invariant = { λ o. IsMarked o.producer o.ended };
 }
 
-// Not derived: a derived drop is proved again in each crate that drops one.
 impl<T: Drop> Drop for Outlet<T> {
     fn drop(self) {
         let Outlet {
