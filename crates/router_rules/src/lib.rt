@@ -4,6 +4,8 @@
 
 mod faults;
 mod flows;
+mod index;
+mod interface;
 mod laws;
 mod links;
 mod outgoing;
@@ -13,6 +15,8 @@ mod worker;
 
 pub use faults::inspect;
 pub use flows::{is_urgent, processor, processor_or_fault};
+pub use index::LinkIndex;
+pub use interface::Interface;
 pub use laws::{
     causes_are_apart, examples, links_stand_in_order, replies_are_answers, rules_are_lawful,
 };

@@ -5,11 +5,13 @@ ghost use Rattle.process_packet.specs.declared.config.Config.{Config as Configur
 ghost use Rattle.router_rules.specs.Links.{has_two_bands, interface_at, link_count, link_index};
 ghost use Rattle.router_rules.specs.Ports.{IsPortsOf};
 
+use crate::index::LinkIndex;
+use crate::interface::Interface;
 use crate::links::{has_two_bands, interface_at, link_count};
 use process_packet::Config;
 use std::marker::Model;
 
-/// The links of a router by their numbers: their interfaces, which ascend, and whether each has two
+/// The links of a router by their indices: their interfaces, which ascend, and whether each has two
 /// bands. It is made once of a configuration, which would rank all its links for each that is looked up.
 #[derive(Drop)]
 pub struct Ports {
@@ -55,33 +57,40 @@ impl Ports {
         self.count
     }
 
-    /// The number of the link with this interface; `count` where there is none.
-    pub fn number(&self, id: u16) -> u16
+    // The place of this interface; `count` where it has none.
+    fn place_of(&self, id: u16) -> u16
         ensures { (c : Configured) → IsPortsOf c self.now → result ≡ link_index c id }
     {
         match self.interfaces[..self.count].binary_search(&id) {
-            Ok(number) => number as u16,
+            Ok(place) => place as u16,
             Err(_) => self.count as u16,
         }
     }
 
-    /// The interface of the link with this number; 0 where there is none.
-    pub fn interface(&self, link: u16) -> u16
+    /// The index of the link with this interface; `count` where there is none.
+    pub fn index(&self, interface: Interface) -> LinkIndex
+        ensures { (c : Configured) → IsPortsOf c self.now → result ≡ link_index c interface }
+    {
+        LinkIndex::of(self.place_of(interface.id()))
+    }
+
+    /// The interface of the link with this index; 0 where there is none.
+    pub fn interface(&self, link: LinkIndex) -> Interface
         ensures { (c : Configured) → IsPortsOf c self.now → result ≡ interface_at c link }
     {
-        let at = usize::from(link);
+        let at = link.place();
         if at < self.count {
-            self.interfaces[at]
+            Interface::of(self.interfaces[at])
         } else {
-            0
+            Interface::of(0)
         }
     }
 
-    /// Whether the link with this number has two bands.
-    pub fn two_bands(&self, link: u16) -> bool
+    /// Whether the link with this index has two bands.
+    pub fn two_bands(&self, link: LinkIndex) -> bool
         ensures { (c : Configured) → IsPortsOf c self.now → result ≡ has_two_bands c link }
     {
-        let at = usize::from(link);
+        let at = link.place();
         at < self.count && self.two_bands[at]
     }
 }

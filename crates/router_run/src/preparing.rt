@@ -19,8 +19,8 @@ use run_workers::Common;
 use std::alloc::{AllocError, Global};
 use std::sync::atomic::AtomicU64;
 use std::sync::{Arc, Wait};
-use worker_parts::{Gate, RunBrand, Stage, all_three};
-use worker_threads::{HOLD, ThreadControl};
+use worker_parts::{Gate, RunBrand, Signal, Stage, all_three};
+use worker_threads::ThreadControl;
 
 /// What a run stands on: what its workers share, and the control of their threads, with the book.
 #[derive(Drop)]
@@ -56,7 +56,7 @@ fn orders_for<N: RunBrand>(
     requires workers { N.workers ≡ 2 * links + processors + 1 }
     ensures { IfOk result (λ r. AreNewShares (2 * links + processors + 1) r.1.items) }
 {
-    let word = Arc::new(alloc, AtomicU64::new(HOLD))?;
+    let word = Arc::new(alloc, AtomicU64::new(Signal::Hold.word()))?;
     let (book, shares) = book_for(alloc, blank, links, processors)?;
     let book = Arc::new(alloc, book)?;
     Ok((ThreadControl::new(word, book), shares))

@@ -3,6 +3,7 @@
 ghost use Rattle.std.specs.Prelude.{◌≡◌, false, ◌+◌, ◌*◌, ◌<◌, MatchBool, length, ◌&&◌};
 ghost use Rattle.packet_ledger.specs.Share.{HasRoom, IsPosted, MayRaise};
 ghost use Rattle.router_rules.specs.Links.{link_count};
+ghost use Rattle.router_stages.specs.Answering.{RepliedTo};
 ghost use Rattle.router_stages.specs.Exits.{DroppedAs, SentAs, TriedLink, pipe_for, with_links, with_share};
 ghost use Rattle.worker_parts.specs.Outlets.{AreUnended, Trying, are_used};
 ghost use Rattle.router_stages.specs.Working.{AskedAs, PassedOn};
@@ -10,13 +11,14 @@ ghost use Rattle.worker_parts.specs.Items.{StandsIn};
 
 use packet_ledger::{Book, Share};
 use process_packet::{Cause, Decision};
-use router_rules::{Shared, rules_are_lawful};
+use router_rules::{Interface, LinkIndex, Shared, rules_are_lawful};
 use ruled_pipe::{Full, Producer};
 use std::alloc::Global;
 use std::marker::Model;
 use std::sync::{Arc, Wait};
 use worker_parts::{
-    Buffer, EgressPacket, Outlet, Packet, RunBrand, SlowPathRequest, end_at, give_back, offer_at,
+    Buffer, EgressPacket, Outlet, Packet, RunBrand, SlowPathRequest, Withheld, are_both, end_at,
+    give_back, offer_at,
 };
 
 /// The ends of the links' pipes, two of each link, and of their pipes of free buffers, with the counts.
@@ -31,6 +33,7 @@ impl<N: RunBrand> Model for Exits<N> {
     ghost use Rattle.std.specs.Prelude.{◌≡◌, ◌*◌, length, Some};
     ghost use Rattle.std.specs.Arc.{arc_value};
     ghost use Rattle.router_rules.specs.Links.{link_count};
+    ghost use Rattle.router_stages.specs.Answering.{RepliedTo};
     ghost use Rattle.router_stages.specs.Exits.{Leaving};
 
     ghost Value = { Leaving };
@@ -40,7 +43,6 @@ impl<N: RunBrand> Model for Exits<N> {
     ghost invariant = { λ e. (N.config ≡ Some (arc_value e.shared).config) × (length e.links.items ≡ 2 * link_count (arc_value e.shared).config) × (length e.free.items ≡ link_count (arc_value e.shared).config) };
 }
 
-// Not derived: a derived drop is proved again in each crate that drops one.
 impl<N: RunBrand> Drop for Exits<N> {
     fn drop(self) {
         let Exits {
@@ -58,7 +60,7 @@ fn pipe_for<N: RunBrand>(shared: &Shared, egress_packet: &EgressPacket<N>) -> us
 {
     let link = egress_packet.link();
     let high = shared.ports.two_bands(link) && egress_packet.is_urgent();
-    2 * usize::from(link) + usize::from(high)
+    2 * link.place() + usize::from(high)
 }
 
 impl<N: RunBrand> Exits<N> {
@@ -89,7 +91,7 @@ impl<N: RunBrand> Exits<N> {
     }
 
     /// Drops a packet for a cause: its buffer goes back to the link by which it came.
-    pub fn drop_for<R: Wait>(&mut self, rt: &R, link: u16, buffer: Buffer, cause: Cause)
+    pub fn drop_for<R: Wait>(&mut self, rt: &R, link: LinkIndex, buffer: Buffer, cause: Cause)
         requires there { link < link_count self.old.config }
         requires room { MayRaise self.old.share.counts }
         ensures { DroppedAs link cause self.old self.new }
@@ -130,7 +132,7 @@ impl<N: RunBrand> Exits<N> {
         let link = packet.link();
         match packet.decide(&self.shared.config) {
             Decision::Send { link, to } => {
-                let link = self.shared.ports.number(link);
+                let link = self.shared.ports.index(Interface::of(link));
                 self.send(rt, packet.into_egress_packet(link, to));
             }
             Decision::Answer(problem) => self.ask(rt, slow, packet.into_request(problem)),
@@ -156,6 +158,20 @@ impl<N: RunBrand> Exits<N> {
         }
     }
 
+    /// Sends the answer to a request, or drops its packet where there is none.
+    pub fn reply<R: Wait>(&mut self, rt: &R, request: SlowPathRequest<N>)
+        requires unended { AreUnended self.old.links }
+        requires room { MayRaise self.old.share.counts }
+        ensures some { 0 < length self.old.links }
+        ensures replied { RepliedTo request self.old self.new }
+    {
+        let link = request.link();
+        match request.answer(&self.shared) {
+            Ok(answer) => self.send(rt, answer),
+            Err(Withheld { cause, buffer }) => self.drop_for(rt, link, buffer, cause),
+        }
+    }
+
     /// Posts the counts.
     pub fn post<R: Wait>(&mut self, rt: &R, book: &Book<N>)
         ensures share { IsPosted self.old.share self.new.share }
@@ -174,12 +190,6 @@ impl<N: RunBrand> Exits<N> {
     }
 }
 
-fn both(a: bool, b: bool) -> bool
-    ensures { result ≡ (a && b) }
-{
-    a && b
-}
-
 // Tries the end marks that are owed of a link's pipes, and says whether they are there.
 fn end_link<T: Drop, R: Wait>(
     rt: &R,
@@ -195,7 +205,7 @@ fn end_link<T: Drop, R: Wait>(
     }
     let high = end_at(rt, ends, 2 * link + 1);
     let low = end_at(rt, ends, 2 * link);
-    both(high, low)
+    are_both(high, low)
 }
 
 // Tries the end marks that are owed of all links' pipes, and says whether they are there.
@@ -205,8 +215,13 @@ fn end_links<T: Drop, R: Wait>(rt: &R, shared: &Shared, ends: &mut Vec<Outlet<T>
 {
     let mut all = true;
     for link in 0..shared.ports.count() {
-        let there = end_link(rt, ends, link, shared.ports.two_bands(link as u16));
-        all = both(all, there);
+        let there = end_link(
+            rt,
+            ends,
+            link,
+            shared.ports.two_bands(LinkIndex::of(link as u16)),
+        );
+        all = are_both(all, there);
     }
     all
 }

@@ -42,7 +42,6 @@ impl<N: RunBrand, G: Gate> Model for Processor<N, G> {
     ghost invariant = { λ p. KeepsWorking N.config p.from p.hand p.slow p.exits };
 }
 
-// Not derived: a derived drop is proved again in each crate that drops one.
 impl<N: RunBrand, G: Gate + Drop> Drop for Processor<N, G> {
     fn drop(self) {
         let Processor {
@@ -56,7 +55,8 @@ impl<N: RunBrand, G: Gate + Drop> Drop for Processor<N, G> {
     }
 }
 
-fn both(a: bool, b: bool) -> Turn
+// The turn that tried both kinds of end marks.
+fn ending(a: bool, b: bool) -> Turn
     ensures { result ≡ ending (a && b) }
 {
     if a && b { Turn::Ended } else { Turn::Quiet }
@@ -109,7 +109,8 @@ impl<N: RunBrand, G: Gate> Processor<N, G> {
             unreachable!()
         };
         let me = Worker::Processor(self.index);
-        if !self.gate.admits(me, packet.interface(), packet.number()) {
+        let interface = packet.interface().id();
+        if !self.gate.admits(me, interface, packet.number()) {
             self.hand = Some(packet);
             return Turn::Quiet;
         }
@@ -124,7 +125,7 @@ impl<N: RunBrand, G: Gate> Processor<N, G> {
     {
         let slow = self.slow.end(rt);
         let links = self.exits.end(rt);
-        both(slow, links)
+        ending(slow, links)
     }
 }
 

@@ -2,12 +2,12 @@
 
 ghost use Rattle.std.specs.Prelude.{◌≡◌, ◌*◌, ◌<◌, Some, [], length};
 ghost use Rattle.std.specs.Arc.{arc_value};
-ghost use Rattle.packet_ledger.specs.Share.{MayRaise, new_share};
+ghost use Rattle.packet_ledger.specs.Share.{new_share};
 ghost use Rattle.worker_order.specs.Keeping.{IsAnswering};
 ghost use Rattle.router_rules.specs.Links.{link_count};
-ghost use Rattle.router_stages.specs.Answering.{EndsAnswering, IsDone, RepliedTo, first_answering};
+ghost use Rattle.router_stages.specs.Answering.{EndsAnswering, IsDone, first_answering};
 ghost use Rattle.router_stages.specs.Working.{first_leaving};
-ghost use Rattle.worker_parts.specs.Outlets.{AreFresh, AreUnended, senders};
+ghost use Rattle.worker_parts.specs.Outlets.{AreFresh, senders};
 
 use crate::exits::Exits;
 use packet_ledger::{Book, Share};
@@ -17,7 +17,7 @@ use std::alloc::Global;
 use std::marker::Model;
 use std::sync::{Arc, Wait};
 use worker_parts::{
-    Buffer, EgressPacket, Inlet, Outlet, RunBrand, SlowPathRequest, Stage, Turn, Turns, Withheld,
+    Buffer, EgressPacket, Inlet, Outlet, RunBrand, SlowPathRequest, Stage, Turn, Turns,
 };
 
 /// Takes requests from its pipe, and sends the answer to each back by the link by which its packet
@@ -37,26 +37,9 @@ impl<N: RunBrand> Model for SlowPath<N> {
     ghost invariant = { λ p. KeepsAnswering N.config p.from p.exits };
 }
 
-// Not derived: a derived drop is proved again in each crate that drops one.
 impl<N: RunBrand> Drop for SlowPath<N> {
     fn drop(self) {
         let SlowPath { from: _, exits: _ } = self;
-    }
-}
-
-impl<N: RunBrand> Exits<N> {
-    // Sends the answer to a request, or drops its packet where there is none.
-    fn reply<R: Wait>(&mut self, rt: &R, request: SlowPathRequest<N>)
-        requires unended { AreUnended self.old.links }
-        requires room { MayRaise self.old.share.counts }
-        ensures some { 0 < length self.old.links }
-        ensures replied { RepliedTo request self.old self.new }
-    {
-        let link = request.link();
-        match request.answer(&self.shared) {
-            Ok(answer) => self.send(rt, answer),
-            Err(Withheld { cause, buffer }) => self.drop_for(rt, link, buffer, cause),
-        }
     }
 }
 

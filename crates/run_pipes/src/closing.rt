@@ -10,7 +10,7 @@ ghost use Rattle.worker_parts.specs.Outlets.{are_used};
 ghost use Rattle.run_pipes.specs.Closing.{Closing, ClosesMarks, StayEnds};
 
 use crate::waking::notify_one;
-use router_rules::Shared;
+use router_rules::{Interface, LinkIndex, Shared};
 use run_ends::{Shutter, close_at};
 use std::alloc::Global;
 use std::sync::{Arc, Wait};
@@ -81,17 +81,17 @@ fn close_both<T: Drop, R: Wait>(
     rt: &R,
     shared: &Shared,
     shutters: &mut Vec<Shutter<T>>,
-    number: u16,
+    link: LinkIndex,
 ) -> Result<(), CloseFault>
-    requires there { number < link_count shared.now.config }
+    requires there { link < link_count shared.now.config }
     requires count { length shutters.old.items ≡ 2 * link_count shared.now.config }
     requires used { (j : ℕ) (d : Shutting T) → j < length shutters.old.items → (slice_index_or shutters.old.items j d).used ≡ are_used shared.now.config j }
     requires unended { AreUnended shutters.old.items }
-    ensures closes { ClosesMarks (has_two_bands shared.now.config number) (2 * number) result shutters.old.items shutters.new.items }
+    ensures closes { ClosesMarks (has_two_bands shared.now.config link) (2 * link) result shutters.old.items shutters.new.items }
     ensures stay { StayEnds shutters.old.items shutters.new.items }
 {
-    let low = 2 * usize::from(number);
-    if shared.ports.two_bands(number) {
+    let low = 2 * link.place();
+    if shared.ports.two_bands(link) {
         close_double(rt, shutters, low)
     } else {
         close_single(rt, shutters, low)
@@ -108,21 +108,21 @@ pub struct Controller<N: RunBrand> {
 
 impl<N: RunBrand> Controller<N> {
     /// Closes the link with an interface, and wakes its forwarder.
-    pub fn close<R: Wait>(&mut self, rt: &R, link: u16) -> Result<(), CloseFault>
+    pub fn close<R: Wait>(&mut self, rt: &R, interface: u16) -> Result<(), CloseFault>
         requires count { length self.old.shutters.items ≡ 2 * link_count (arc_value self.old.shared).config }
         requires used { (j : ℕ) (d : Shutting (Outgoing kinds)) → j < length self.old.shutters.items → (slice_index_or self.old.shutters.items j d).used ≡ are_used (arc_value self.old.shared).config j }
         requires unended { AreUnended self.old.shutters.items }
-        ensures closing { Closing (arc_value self.old.shared).config link result self.old.shutters.items self.new.shutters.items }
+        ensures closing { Closing (arc_value self.old.shared).config interface result self.old.shutters.items self.new.shutters.items }
         ensures stay { StayEnds self.old.shutters.items self.new.shutters.items }
         ensures shared { self.new.shared ≡ self.old.shared }
     {
-        let number = self.shared.ports.number(link);
-        if usize::from(number) >= self.shared.ports.count() {
+        let link = self.shared.ports.index(Interface::of(interface));
+        if link.place() >= self.shared.ports.count() {
             return Err(CloseFault::Unknown);
         }
-        let closed = close_both(rt, &self.shared, &mut self.shutters, number);
+        let closed = close_both(rt, &self.shared, &mut self.shutters, link);
         // The forwarder may sleep before its empty pipes.
-        notify_one(self.forwarder_events.as_slice(), usize::from(number));
+        notify_one(self.forwarder_events.as_slice(), link.place());
         closed
     }
 }

@@ -6,7 +6,7 @@ ghost use Rattle.run_ends.specs.Shutting.{AreNew, AreUnended, AreShutters};
 ghost use Rattle.ruled_pipe.specs.Pipe.{Shape};
 ghost use Rattle.worker_parts.specs.Outlets.{are_used};
 
-use router_rules::Shared;
+use router_rules::{LinkIndex, Shared};
 use ruled_pipe::Producer;
 use run_ends::Shutter;
 use std::alloc::{AllocError, Global};
@@ -19,7 +19,8 @@ pub(crate) fn is_used(shared: &Shared, at: usize) -> bool
     if at % 2 == 0 {
         return true;
     }
-    shared.ports.two_bands((at / 2) as u16)
+    let link = LinkIndex::of((at / 2) as u16);
+    shared.ports.two_bands(link)
 }
 
 /// The controller's new ends. Of a link with one band the high band's pipe is not used.

@@ -5,6 +5,7 @@ ghost use Rattle.field_rows.specs.Place.{Puts};
 ghost use Rattle.sample_packets.specs.declared.datagram.TheConstants.{FIRST};
 ghost use Rattle.worker_laws.specs.Forwards.{AddsTo};
 ghost use Rattle.worker_parts.specs.Heard.{failures_of, fits, heard};
+ghost use Rattle.worker_parts.specs.Buffer.{buffer_len};
 
 use crate::cues::{Cue, Words};
 use process_packet::Underlay;
@@ -123,7 +124,7 @@ impl PlannedSource {
 
     // Gives a datagram.
     fn give(&mut self, datagram: &[u8; 92], buffer: &mut [u8]) -> NextLen
-        requires { length buffer.old ≡ 9217 }
+        requires { length buffer.old ≡ buffer_len }
         ensures same { length buffer.new ≡ length buffer.old }
         ensures fits { fits result }
         ensures failed { (failures_of result ≡ 0) × (self.new.failed ≡ self.old.failed) }

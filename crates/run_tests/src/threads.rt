@@ -15,8 +15,8 @@ use std::test::*;
 use std::thread;
 use std::thread::Threads;
 use std::time::{Clock, Duration};
-use worker_parts::{Event, Inlet, Outlet, Stage, Turn, Turns};
-use worker_threads::{HOLD, Started, Team, ThreadControl, give_up, join_all, start_each};
+use worker_parts::{Event, Inlet, Outlet, Signal, Stage, Turn, Turns};
+use worker_threads::{Started, Team, ThreadControl, give_up, join_all, start_each};
 
 // It counts a number of datagrams as received, one in a turn, is quiet for a number of turns, and has ended.
 #[derive(Drop)]
@@ -93,17 +93,17 @@ impl<N: RunBrand> Turns<Book<N>> for Countdown<N> {
     ghost post_keeps = { λ x y is. (tt, λ ended. is ∙ ended, tt) };
 }
 
-// Workers and their orders, with room for the handles of their threads.
+// Workers and their control, with room for the handles of their threads.
 fn team_of<N: RunBrand, W: Stage + Drop, R: Abort>(
     rt: &R,
     alloc: Global,
     workers: Vec<W>,
-    orders: Vec<ThreadControl<Book<N>>>,
+    control: Vec<ThreadControl<Book<N>>>,
 ) -> Team<Book<N>, W> {
     let room = Vec::with_capacity(alloc, workers.len()).expect(rt, "memory");
     Team {
         workers,
-        orders,
+        control,
         room,
     }
 }
@@ -127,33 +127,33 @@ fn countdowns<N: RunBrand, R: Abort>(
     workers
 }
 
-// The same orders for a number of threads.
+// The same control for a number of threads.
 fn copies<N: RunBrand, R: Abort>(
     rt: &R,
     alloc: Global,
-    orders: &ThreadControl<Book<N>>,
+    control: &ThreadControl<Book<N>>,
     count: usize,
 ) -> Vec<ThreadControl<Book<N>>> {
     let mut copies = Vec::new(alloc);
     for _ in 0..count {
-        let copy = orders.another().expect(rt, "memory");
+        let copy = control.another().expect(rt, "memory");
         copies.push(copy).expect(rt, "memory");
     }
     copies
 }
 
-// How many workers a team has, and orders for how many threads.
+// How many workers a team has, and control for how many threads.
 type Size = (usize, usize);
 
 fn team<N: RunBrand, R: Abort>(
     rt: &R,
     alloc: Global,
-    orders: &ThreadControl<Book<N>>,
+    control: &ThreadControl<Book<N>>,
     shares: &mut Vec<Share<N>>,
     size: Size,
 ) -> Team<Book<N>, Countdown<N>> {
     let workers = countdowns(rt, alloc, shares, size.0);
-    team_of(rt, alloc, workers, copies(rt, alloc, orders, size.1))
+    team_of(rt, alloc, workers, copies(rt, alloc, control, size.1))
 }
 
 // Whether a worker came to its end and posted all that it counted.
@@ -187,7 +187,7 @@ fn orders_for<N: RunBrand, R: Abort>(
     requires workers { (workers ≡ N.workers) × (workers ≤ 65536) }
 {
     let (book, shares) = Book::<N>::new(alloc, blank, workers).expect(rt, "memory");
-    let word = Arc::new(alloc, AtomicU64::new(HOLD)).expect(rt, "memory");
+    let word = Arc::new(alloc, AtomicU64::new(Signal::Hold.word())).expect(rt, "memory");
     let book = Arc::new(alloc, book).expect(rt, "memory");
     (ThreadControl::new(word, book), shares)
 }
@@ -200,18 +200,18 @@ where
     requires name { blank.table ≡ N.table }
     requires six { N.workers ≡ 6 }
 {
-    let (orders, mut shares) = orders_for::<N, R>(&rt, alloc, blank, 6);
+    let (control, mut shares) = orders_for::<N, R>(&rt, alloc, blank, 6);
     let [one, two, three, four] = sizes;
-    let one = team(&rt, alloc, &orders, &mut shares, one);
-    let two = team(&rt, alloc, &orders, &mut shares, two);
-    let three = team(&rt, alloc, &orders, &mut shares, three);
-    let four = team(&rt, alloc, &orders, &mut shares, four);
+    let one = team(&rt, alloc, &control, &mut shares, one);
+    let two = team(&rt, alloc, &control, &mut shares, two);
+    let three = team(&rt, alloc, &control, &mut shares, three);
+    let four = team(&rt, alloc, &control, &mut shares, four);
     let (one, are_all) = start_each(rt, one, true);
     let (two, are_all) = start_each(rt, two, are_all);
     let (three, are_all) = start_each(rt, three, are_all);
     let (four, are_all) = start_each(rt, four, are_all);
     if are_all {
-        orders.run();
+        control.run();
         return Some([
             joined(&rt, one),
             joined(&rt, two),
@@ -219,10 +219,10 @@ where
             joined(&rt, four),
         ]);
     }
-    give_up(&rt, &orders, one);
-    give_up(&rt, &orders, two);
-    give_up(&rt, &orders, three);
-    give_up(&rt, &orders, four);
+    give_up(&rt, &control, one);
+    give_up(&rt, &control, two);
+    give_up(&rt, &control, three);
+    give_up(&rt, &control, four);
     None
 }
 
@@ -233,7 +233,7 @@ fn workers_come_back(rt: HostRuntime) {
     assert!(rt; back == Some([3, 2, 1, 0]));
 }
 
-/// A team with orders for fewer threads than it has workers is refused, and no thread is left.
+/// A team with control for fewer threads than it has workers is refused, and no thread is left.
 #[test]
 fn a_refused_thread_ends_all(rt: HostRuntime) {
     let blank = Blank::new(rt.alloc()).expect(&rt, "memory");
@@ -314,12 +314,12 @@ fn alone<N: RunBrand, W: Stage + Drop, R: Abort>(
     rt: &R,
     alloc: Global,
     worker: W,
-    orders: ThreadControl<Book<N>>,
+    control: ThreadControl<Book<N>>,
 ) -> Team<Book<N>, W> {
     let mut workers = Vec::new(alloc);
     workers.push(worker).expect(rt, "memory");
     let mut each = Vec::new(alloc);
-    each.push(orders).expect(rt, "memory");
+    each.push(control).expect(rt, "memory");
     team_of(rt, alloc, workers, each)
 }
 
@@ -354,17 +354,17 @@ where
     requires name { blank.table ≡ N.table }
     requires none { N.workers ≡ 0 }
 {
-    let (orders, _) = orders_for::<N, R>(&rt, alloc, blank, 0);
+    let (control, _) = orders_for::<N, R>(&rt, alloc, blank, 0);
     let event = Arc::new(alloc, EventCount::new()).expect(&rt, "memory");
-    let woken = orders.another_with(&event).expect(&rt, "memory");
+    let woken = control.another_with(&event).expect(&rt, "memory");
     let (mut to, drain) = at_both_ends(&rt, alloc, event);
     let team = alone(&rt, alloc, drain, woken);
     let (started, is_there) = start_each(rt, team, true);
     if !is_there {
-        give_up(&rt, &orders, started);
+        give_up(&rt, &control, started);
         return 0;
     }
-    orders.run();
+    control.run();
     let is_fed = feed(&rt, &mut to);
     let mut back = join_all(&rt, started);
     let sum = back.pop().expect(&rt, "worker").sum;

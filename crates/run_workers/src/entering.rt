@@ -17,7 +17,7 @@ ghost use Rattle.run_pipes.specs.Rest.{IsRest};
 use crate::common::Common;
 use crate::over::Over;
 use packet_ledger::Share;
-use router_rules::{Shared, link_count};
+use router_rules::{LinkIndex, Shared, link_count};
 use router_stages::Receiver;
 use ruled_pipe::{Consumer, Producer};
 use run_ends::Line;
@@ -32,7 +32,7 @@ use worker_parts::{Buffer, Outlet, Packet, RunBrand, Source, all_three};
 pub struct Entering<N: RunBrand> {
     shared: Arc<Shared, Global>,
     stop: Arc<AtomicU64, Global>,
-    link: u16,
+    link: LinkIndex,
     first: Buffer,
     free: Consumer<Buffer>,
     processors: Vec<Outlet<Packet<N>>>,
@@ -54,7 +54,6 @@ impl<N: RunBrand> Model for Entering<N> {
     ghost invariant = { λ e. (N.config ≡ Some (arc_value e.shared).config) × (e.link < link_count (arc_value e.shared).config) × (length e.processors.items ≡ (arc_value e.shared).config.processors) × AreFresh e.processors.items × (e.free.looks ≡ []) × (e.share ≡ new_share) };
 }
 
-// Not derived: a derived drop is proved again in each crate that drops one.
 impl<N: RunBrand> Drop for Entering<N> {
     fn drop(self) {
         let Entering {
@@ -94,7 +93,7 @@ impl<N: RunBrand, S: Source> Over<S, Receiver<N, S>> for Entering<N> {
 fn entering_at<N: RunBrand>(
     alloc: Global,
     common: &Common,
-    link: u16,
+    link: LinkIndex,
     ends: Vec<Producer<Packet<N>>>,
     free: Consumer<Buffer>,
     share: Share<N>,
@@ -147,7 +146,14 @@ pub fn all_entering<N: RunBrand>(
         let ends = pipes.receiver_ends(alloc)?;
         let taker = free.next();
         let share = shares.next();
-        made.push_reserved(entering_at(alloc, common, link as u16, ends, taker, share)?);
+        made.push_reserved(entering_at(
+            alloc,
+            common,
+            LinkIndex::of(link as u16),
+            ends,
+            taker,
+            share,
+        )?);
     }
     Ok(made)
 }

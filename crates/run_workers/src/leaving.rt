@@ -16,7 +16,7 @@ ghost use Rattle.run_pipes.specs.Rest.{IsRest};
 use crate::common::Common;
 use crate::over::Over;
 use packet_ledger::Share;
-use router_rules::{Shared, link_count};
+use router_rules::{LinkIndex, Shared, link_count};
 use router_stages::{Band, Forwarder};
 use ruled_pipe::{Consumer, Producer};
 use run_ends::Line;
@@ -29,7 +29,7 @@ use worker_parts::{Buffer, EgressPacket, RunBrand, Sink};
 /// All that a forwarder is made of but its sink.
 pub struct Leaving<N: RunBrand> {
     shared: Arc<Shared, Global>,
-    link: u16,
+    link: LinkIndex,
     low: Band<N>,
     high: Band<N>,
     free: Vec<Producer<Buffer>>,
@@ -50,7 +50,6 @@ impl<N: RunBrand> Model for Leaving<N> {
     ghost invariant = { λ e. (N.config ≡ Some (arc_value e.shared).config) × (e.low.taker.taken ≡ []) × (e.low.shut ≡ false) × (e.high.taker.taken ≡ []) × (e.high.shut ≡ false) × (length e.free.items ≡ link_count (arc_value e.shared).config) × (e.share ≡ new_share) };
 }
 
-// Not derived: a derived drop is proved again in each crate that drops one.
 impl<N: RunBrand> Drop for Leaving<N> {
     fn drop(self) {
         let Leaving {
@@ -87,7 +86,7 @@ impl<N: RunBrand, K: Sink> Over<K, Forwarder<N, K>> for Leaving<N> {
 
 fn leaving_at<N: RunBrand>(
     shared: Arc<Shared, Global>,
-    link: u16,
+    link: LinkIndex,
     producers: usize,
     low: Consumer<EgressPacket<N>>,
     high: Consumer<EgressPacket<N>>,
@@ -139,7 +138,8 @@ pub fn all_leaving<N: RunBrand>(
         let low = takers.next();
         let high = takers.next();
         let share = shares.next();
-        made.push_reserved(leaving_at(own, link as u16, producers, low, high, free, share));
+        let link = LinkIndex::of(link as u16);
+        made.push_reserved(leaving_at(own, link, producers, low, high, free, share));
     }
     Ok(made)
 }

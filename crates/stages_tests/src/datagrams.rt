@@ -6,6 +6,7 @@ ghost use Rattle.sample_packets.specs.declared.datagram.TheConstants.{FIRST, IN_
 ghost use Rattle.stages_tests.specs.declared.neighbour.TheConstants.{NEAR};
 ghost use Rattle.worker_parts.specs.Heard.{failures_of, fits, heard};
 ghost use Rattle.worker_parts.specs.ListSource.{heard_of};
+ghost use Rattle.worker_parts.specs.Buffer.{buffer_len};
 
 use crate::neighbour::NEAR;
 use process_packet::Underlay;
@@ -15,7 +16,7 @@ use worker_parts::{Next, NextLen};
 
 /// A datagram from an underlay address, at a moment.
 pub fn datagram(alloc: Global, bytes: &[u8], from: Underlay, now: u64) -> Result<Next, AllocError>
-    ensures { IfOk result (λ n. heard_of n ≡ Gave from now (take 9217 bytes.now)) }
+    ensures { IfOk result (λ n. heard_of n ≡ Gave from now (take buffer_len bytes.now)) }
 {
     let bytes = Vec::from_slice(alloc, bytes)?;
     Ok(Next::Datagram { bytes, from, now })
@@ -34,7 +35,7 @@ pub fn firsts(alloc: Global, count: usize) -> Result<Vec<Next>, AllocError>
 
 /// Writes a datagram to the front of a buffer.
 pub fn give(datagram: &[u8; 92], buffer: &mut [u8]) -> NextLen
-    requires { length buffer.old ≡ 9217 }
+    requires { length buffer.old ≡ buffer_len }
     ensures same { length buffer.new ≡ length buffer.old }
     ensures gave { heard buffer.new result ≡ Gave NEAR IN_TIME datagram.now }
     ensures failed { failures_of result ≡ 0 }

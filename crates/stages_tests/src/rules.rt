@@ -4,8 +4,8 @@ use crate::sample_router::{at, link};
 use cmac_core::Cmac;
 use process_packet::{Bands, Cause, Config, LONGEST_DATAGRAM};
 use router_rules::{
-    Ports, Shared, has_two_bands, inspect, interface_at, is_urgent, link_count, link_index,
-    processor_or_fault,
+    Interface, LinkIndex, Ports, Shared, has_two_bands, inspect, interface_at, is_urgent,
+    link_count, link_index, processor_or_fault,
 };
 use segment_switch::LinkKind;
 use std::alloc::{AllocError, Global};
@@ -85,7 +85,10 @@ fn tells_links_of_two_bands(rt: HostRuntime) {
 
 /// Whether the tables tell this place, interface and bands of one link.
 fn is_told(ports: &Ports, index: u16, id: u16, two_bands: bool) -> bool {
-    ports.number(id) == index && ports.interface(index) == id && ports.two_bands(index) == two_bands
+    let link = LinkIndex::of(index);
+    ports.index(Interface::of(id)).place() == usize::from(index)
+        && ports.interface(link).id() == id
+        && ports.two_bands(link) == two_bands
 }
 
 /// Whether the tables tell the links, and nothing of links that there are not.
@@ -97,10 +100,9 @@ fn are_told(ports: &Ports) -> bool {
         && is_told(ports, 3, 300, false)
         && [1, 3, 299, 301, u16::MAX]
             .iter()
-            .all(|id| ports.number(*id) == 4)
-        && (ports.interface(4), ports.interface(u16::MAX)) == (0, 0)
-        && !ports.two_bands(4)
-        && !ports.two_bands(u16::MAX)
+            .all(|id| ports.index(Interface::of(*id)).place() == 4)
+        && [4, u16::MAX].iter().all(|index| ports.interface(LinkIndex::of(*index)).id() == 0
+            && !ports.two_bands(LinkIndex::of(*index)))
 }
 
 #[test]

@@ -14,7 +14,7 @@ use crate::open_gate::Open;
 use crate::run::{Sizes, Workers};
 use crate::seats::{Seat, new_returns, new_seat};
 use packet_ledger::Share;
-use router_rules::Shared;
+use router_rules::{LinkIndex, Shared};
 use router_stages::{Band, Forwarder, Processor, Receiver, SlowPath};
 use ruled_pipe::{Consumer, Producer};
 use std::alloc::Global;
@@ -55,7 +55,16 @@ fn receiver<N: RunBrand, S: Source + Drop, R: Abort>(
     let stop = Arc::new(alloc, AtomicU64::new(0)).expect(rt, "memory");
     let first = Buffer::new(alloc).expect(rt, "memory");
     let processors = Vec::from_array(alloc, [processor]).expect(rt, "memory");
-    Receiver::new(shared, stop, 1, source, first, free, processors, share)
+    Receiver::new(
+        shared,
+        stop,
+        LinkIndex::of(1),
+        source,
+        first,
+        free,
+        processors,
+        share,
+    )
 }
 
 fn processor<N: RunBrand, R: Abort>(
@@ -111,7 +120,7 @@ fn forwarder<N: RunBrand, K: Sink + Drop, R: Abort>(
 {
     let shared = share_of(rt, shared);
     let free = new_returns(rt, alloc, one);
-    Forwarder::new(shared, link, low, high, sink, free, share)
+    Forwarder::new(shared, LinkIndex::of(link), low, high, sink, free, share)
 }
 
 fn fill<R: Abort + Wait>(rt: &R, alloc: Global, stock: Producer<Buffer>, buffers: usize) {

@@ -3,6 +3,7 @@
 ghost use Rattle.std.specs.Prelude.{◌≡◌, ◌+◌, ◌-◌, ◌^◌, ◌<◌, ℕ, List, Option, None, length};
 ghost use Rattle.worker_laws.specs.Forwards.{AddsTo};
 ghost use Rattle.worker_parts.specs.Heard.{failures_of, fits, heard};
+ghost use Rattle.worker_parts.specs.Buffer.{buffer_len};
 
 use crate::address::underlay_of;
 use crate::readiness::wait_for_datagram;
@@ -30,7 +31,6 @@ impl<R: Clock + Drop> Model for UdpSource<R> {
     ghost view = { λ s. record { local = s.local; failed = s.failed } };
 }
 
-// Not derived: a derived drop is proved again in each crate that drops one.
 impl<R: Clock + Drop> Drop for UdpSource<R> {
     fn drop(self) {
         let UdpSource {
@@ -66,7 +66,7 @@ fn arrived<R: Clock>(clock: &R, len: usize, from: SocketAddr) -> NextLen
 
 /// What the socket gives at the moment.
 fn read_one<R: Clock>(clock: &R, socket: &UdpSocket, buffer: &mut [u8]) -> NextLen
-    requires { length buffer.old ≡ 9217 }
+    requires { length buffer.old ≡ buffer_len }
     ensures same { length buffer.new ≡ length buffer.old }
     ensures fits { fits result }
 {

@@ -21,6 +21,8 @@ use Rattle.worker_laws.specs.Counting.{Dropped, handed_count}
 use Rattle.worker_laws.specs.Ends.{load_in}
 use Rattle.worker_parts.specs.Told.{Told, told_of}
 use Rattle.worker_parts.proofs.Marks.{ends_more}
+use Rattle.worker_forwarder.specs.declared.band.Taken.{Taken}
+use Rattle.worker_forwarder.specs.declared.band.Taken.TheVariants as taken
 use Rattle.worker_forwarder.specs.Forwarding.{Band, Delivery, Delivered, KeepsForwarding, Met, PassedMet, after_look, after_egress_packet, closes, end_mark, handed, looks_first, with_share}
 
 -- the end marks that were taken, up to the most
@@ -58,13 +60,13 @@ module _ {K : Type 0} (told : K → Option (List Told)) (failed : K → ℕ) (is
       let as_shut = subst (λ (b : Bool). IsForwarding told_of low.taker (took high.taker e) low.shut b (told new.sink) began (failed new.sink) (raise (handed_count h) side.share)) (sym shut) went in
       subst (λ (n : Delivery K). KeepsForwarding told failed low (after_egress_packet from o high) began n) (sym d.4) as_shut
 
-  pub took_high : (met : Option (Outgoing kinds)) (after : Band) → Met (Some met) high after → PassedMet told failed is_same after.shut met side new → KeepsForwarding told failed low after began new
-  took_high None after m p =
+  pub took_high : (met : Taken (Outgoing kinds)) (after : Band) → Met (Some met) high after → PassedMet told failed is_same after.shut met side new → KeepsForwarding told failed low after began new
+  took_high taken.Mark after m p =
       let e = entry m.0 (Marked m.1) in
       let marked = mark_high told_of low.taker high.taker low.shut high.shut began (failed side.sink) side.share e (told side.sink) (no_payload m.1) k in
       let as_closed = subst (λ (b : Bool). IsForwarding told_of low.taker (took high.taker e) low.shut (high.shut || b) (told side.sink) began (failed side.sink) side.share) (marks_close m.1) marked in
       subst (λ (n : Delivery K). KeepsForwarding told failed low after began n) (sym p) (subst (λ (b : Band). KeepsForwarding told failed low b began side) (sym m.2) as_closed)
-  took_high (Some o) after m p =
+  took_high (taken.Packet o) after m p =
       let same : after.shut ≡ high.shut = ap (λ (b : Band). b.shut) m.1 in
       subst (λ (b : Band). KeepsForwarding told failed low b began new) (sym m.1) (handed_high m.0 o high.shut refl (subst (λ (b : Bool). Delivered told failed is_same b o side new) same p))
 
@@ -82,13 +84,13 @@ module _ {K : Type 0} (told : K → Option (List Told)) (failed : K → ℕ) (is
       let as_shut = subst (λ (b : Bool). IsForwarding told_of (took low.taker e) high.taker b high.shut (told new.sink) began (failed new.sink) (raise (handed_count h) side.share)) (sym shut) went in
       subst (λ (n : Delivery K). KeepsForwarding told failed (after_egress_packet from o low) high began n) (sym d.4) as_shut
 
-  pub took_low : (met : Option (Outgoing kinds)) (after : Band) → Met (Some met) low after → PassedMet told failed is_same after.shut met side new → KeepsForwarding told failed after high began new
-  took_low None after m p =
+  pub took_low : (met : Taken (Outgoing kinds)) (after : Band) → Met (Some met) low after → PassedMet told failed is_same after.shut met side new → KeepsForwarding told failed after high began new
+  took_low taken.Mark after m p =
       let e = entry m.0 (Marked m.1) in
       let marked = mark_low told_of low.taker high.taker low.shut high.shut began (failed side.sink) side.share e (told side.sink) (no_payload m.1) k in
       let as_closed = subst (λ (b : Bool). IsForwarding told_of (took low.taker e) high.taker (low.shut || b) high.shut (told side.sink) began (failed side.sink) side.share) (marks_close m.1) marked in
       subst (λ (n : Delivery K). KeepsForwarding told failed after high began n) (sym p) (subst (λ (b : Band). KeepsForwarding told failed b high began side) (sym m.2) as_closed)
-  took_low (Some o) after m p =
+  took_low (taken.Packet o) after m p =
       let same : after.shut ≡ low.shut = ap (λ (b : Band). b.shut) m.1 in
       subst (λ (b : Band). KeepsForwarding told failed b high began new) (sym m.1) (handed_low m.0 o low.shut refl (subst (λ (b : Bool). Delivered told failed is_same b o side new) same p))
 

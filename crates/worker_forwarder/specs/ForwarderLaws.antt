@@ -4,6 +4,8 @@ use Rattle.order_laws.specs.Item.{Outgoing}
 use Rattle.router_rules.specs.Rules.{kinds}
 use Rattle.ruled_pipe.specs.Consumer.{Taker}
 use Rattle.worker_parts.specs.Told.{Told}
+use Rattle.worker_forwarder.specs.declared.band.Taken.{Taken}
+use Rattle.worker_forwarder.specs.declared.band.Taken.TheVariants as taken
 use Rattle.worker_forwarder.specs.Forwarding.{Band, Delivered, Delivery, ForwarderEnded, Forwarded, Forwarding, Forwards, Met, PassedMet, TookOf, is_two, looks_first, posted}
 use Rattle.worker_parts.specs.declared.turn.Turn.{Turn}
 use Rattle.worker_parts.specs.declared.turn.Turn.TheVariants.{Did, Quiet, Ended}
@@ -18,9 +20,9 @@ unlooked : (two : Bool) (b : Band) → two ≡ false → looks_first two b ≡ b
 unlooked true b e = absurd cc
 unlooked false b e = refl
 
-met_same : (met : Option (Outgoing kinds)) (b b' : Band) → Met (Some met) b b' → IsSameTaker b.taker b'.taker
-met_same None b b' is = subst (λ (t : Taker (Outgoing kinds)). IsSameTaker b.taker t) (sym (ap (λ (x : Band). x.taker) is.2)) (refl, refl, refl)
-met_same (Some o) b b' is = subst (λ (t : Taker (Outgoing kinds)). IsSameTaker b.taker t) (sym (ap (λ (x : Band). x.taker) is.1)) (refl, refl, refl)
+met_same : (met : Taken (Outgoing kinds)) (b b' : Band) → Met (Some met) b b' → IsSameTaker b.taker b'.taker
+met_same taken.Mark b b' is = subst (λ (t : Taker (Outgoing kinds)). IsSameTaker b.taker t) (sym (ap (λ (x : Band). x.taker) is.2)) (refl, refl, refl)
+met_same (taken.Packet o) b b' is = subst (λ (t : Taker (Outgoing kinds)). IsSameTaker b.taker t) (sym (ap (λ (x : Band). x.taker) is.1)) (refl, refl, refl)
 
 module _ {K : Type 0} (same : K → K → Type 0) (itself : (k : K) → same k k) where
   pub forwarder_as : (old new : Forwarding K) → new ≡ old → IsSameForwarder same old new
@@ -34,9 +36,9 @@ module _ {K : Type 0} (same : K → K → Type 0) (itself : (k : K) → same k k
     delivered_same true o d d' is = (ap (λ (x : Delivery K). x.config) is.1, kept d d' (ap (λ (x : Delivery K). x.sink) is.1))
     delivered_same false o d d' is = (ap (λ (x : Delivery K). x.config) is.4, is.5)
 
-    passed_same : (shut : Bool) (met : Option (Outgoing kinds)) (d d' : Delivery K) → PassedMet told failed same shut met d d' → (d'.config ≡ d.config) × same d.sink d'.sink
-    passed_same shut None d d' is = (ap (λ (x : Delivery K). x.config) is, kept d d' (ap (λ (x : Delivery K). x.sink) is))
-    passed_same shut (Some o) d d' is = delivered_same shut o d d' is
+    passed_same : (shut : Bool) (met : Taken (Outgoing kinds)) (d d' : Delivery K) → PassedMet told failed same shut met d d' → (d'.config ≡ d.config) × same d.sink d'.sink
+    passed_same shut taken.Mark d d' is = (ap (λ (x : Delivery K). x.config) is, kept d d' (ap (λ (x : Delivery K). x.sink) is))
+    passed_same shut (taken.Packet o) d d' is = delivered_same shut o d d' is
 
     took_same : (b b' : Band) (d d' : Delivery K) → TookOf told failed same b b' d d' → IsSameTaker b.taker b'.taker × (d'.config ≡ d.config) × same d.sink d'.sink
     took_same b b' d d' is = let p = passed_same b'.shut is.0 d d' is.2 in (met_same is.0 b b' is.1, p.0, p.1)

@@ -16,6 +16,8 @@ use Rattle.router_rules.specs.Links.{has_two_bands}
 use Rattle.router_rules.specs.Rules.{kinds}
 use Rattle.worker_laws.specs.Counting.{Count, Sent, Replied, Dropped, handed_count}
 use Rattle.worker_laws.specs.Forwards.{AddsTo, Handed}
+use Rattle.worker_forwarder.specs.declared.band.Taken.{Taken}
+use Rattle.worker_forwarder.specs.declared.band.Taken.TheVariants as taken
 use Rattle.worker_parts.specs.Told.{Told, told_of}
 use Rattle.worker_parts.specs.GivingBack.{GaveBack}
 use Rattle.worker_parts.specs.declared.turn.Turn.{Turn}
@@ -57,13 +59,13 @@ abbrev pub IsOver : Band → Type 0
 IsOver b = b.taker.producers ≤ ends_in b.taker.taken
 
 -- what a take from a pipe met
-abbrev pub Met : Option (Option (Outgoing kinds)) → Band → Band → Type 0
+abbrev pub Met : Option (Taken (Outgoing kinds)) → Band → Band → Type 0
 Met None old new = new ≡ after_look old
-Met (Some None) old new = (from : ℕ) × (m : Mark) × (new ≡ after_mark from m old)
-Met (Some (Some o)) old new = (from : ℕ) × (new ≡ after_egress_packet from o old)
+Met (Some taken.Mark) old new = (from : ℕ) × (m : Mark) × (new ≡ after_mark from m old)
+Met (Some (taken.Packet o)) old new = (from : ℕ) × (new ≡ after_egress_packet from o old)
 
 -- a take that is made only where there are two bands
-abbrev pub MetIf : Bool → Option (Option (Outgoing kinds)) → Band → Band → Type 0
+abbrev pub MetIf : Bool → Option (Taken (Outgoing kinds)) → Band → Band → Type 0
 MetIf two None old new = new ≡ looks_first two old
 MetIf two (Some met) old new = (two ≡ true) × Met (Some met) old new
 
@@ -100,13 +102,13 @@ module _ {K : Type 0} where
     Delivered false o old new = HandedOn told failed same o old new
 
     -- what was met is passed on
-    abbrev pub PassedMet : Bool → Option (Outgoing kinds) → Delivery K → Delivery K → Type 0
-    PassedMet shut None old new = new ≡ old
-    PassedMet shut (Some o) old new = Delivered shut o old new
+    abbrev pub PassedMet : Bool → Taken (Outgoing kinds) → Delivery K → Delivery K → Type 0
+    PassedMet shut taken.Mark old new = new ≡ old
+    PassedMet shut (taken.Packet o) old new = Delivered shut o old new
 
     -- a mark or a packet was taken from a pipe
     abbrev pub TookOf : Band → Band → Delivery K → Delivery K → Type 0
-    TookOf b b' old new = (met : Option (Outgoing kinds)) × Met (Some met) b b' × PassedMet b'.shut met old new
+    TookOf b b' old new = (met : Taken (Outgoing kinds)) × Met (Some met) b b' × PassedMet b'.shut met old new
 
 -- its link, its pipes, how often its sink had failed when it began, and its sink, buffers and counts
 pub record Forwarding (K : Type 0) : Type 0 where

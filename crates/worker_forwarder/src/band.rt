@@ -7,7 +7,14 @@ ghost use Rattle.worker_forwarder.specs.Forwarding.{IsOver, Met, MetIf, band, cl
 use ruled_pipe::{Consumer, Entry, Load, Mark};
 use std::marker::Model;
 use std::sync::Wait;
-use worker_parts::{EgressPacket, RunBrand};
+use worker_parts::{EgressPacket, RunBrand, is_either};
+
+/// What was taken from a pipe.
+#[derive(Drop)]
+pub enum Taken<T> {
+    Mark,
+    Packet(T),
+}
 
 /// A consumer that counts the end marks that it took, and keeps whether a closing mark was taken.
 pub struct Band<N: RunBrand> {
@@ -30,7 +37,6 @@ impl<N: RunBrand> Model for Band<N> {
     ghost invariant = { λ b. (b.producers ≡ b.consumer.producers) × (b.ends ≡ min (ends_in b.consumer.taken) b.producers) };
 }
 
-// Not derived: a derived drop is proved again in each crate that drops one.
 impl<N: RunBrand> Drop for Band<N> {
     fn drop(self) {
         let Band {
@@ -49,12 +55,6 @@ fn closes(mark: Mark) -> bool
         Mark::Close => true,
         Mark::End => false,
     }
-}
-
-fn either(a: bool, b: bool) -> bool
-    ensures { result ≡ (a || b) }
-{
-    a || b
 }
 
 // One more where it is an end mark, up to the most.
@@ -98,22 +98,22 @@ impl<N: RunBrand> Band<N> {
     }
 
     /// Takes the entry at the front: none, a mark, or a packet.
-    pub fn take<R: Wait>(&mut self, rt: &R) -> Option<Option<EgressPacket<N>>>
+    pub fn take<R: Wait>(&mut self, rt: &R) -> Option<Taken<EgressPacket<N>>>
         ensures { Met result self.old self.new }
     {
         let Entry { from: _, load } = self.consumer.take(rt)?;
         match load {
-            Load::Payload(egress_packet) => Some(Some(egress_packet)),
+            Load::Payload(egress_packet) => Some(Taken::Packet(egress_packet)),
             Load::Marked(mark) => {
                 self.ends = counted(mark, self.ends, self.producers);
-                self.shut = either(self.shut, closes(mark));
-                Some(None)
+                self.shut = is_either(self.shut, closes(mark));
+                Some(Taken::Mark)
             }
         }
     }
 
     /// The same where the pipe is used; else nothing is done.
-    pub fn take_if<R: Wait>(&mut self, rt: &R, used: bool) -> Option<Option<EgressPacket<N>>>
+    pub fn take_if<R: Wait>(&mut self, rt: &R, used: bool) -> Option<Taken<EgressPacket<N>>>
         ensures { MetIf used result self.old self.new }
     {
         if used { self.take(rt) } else { None }

@@ -6,9 +6,10 @@ ghost use Rattle.worker_order.specs.Shares.{raise};
 ghost use Rattle.router_rules.specs.Links.{has_two_bands};
 ghost use Rattle.worker_forwarder.specs.Forwarding.{Delivered, HandedOn, PassedMet, Swept, count_of, with_share};
 
+use crate::band::Taken;
 use packet_ledger::{Book, Share};
 use process_packet::Cause;
-use router_rules::Shared;
+use router_rules::{LinkIndex, Shared};
 use ruled_pipe::Producer;
 use std::alloc::Global;
 use std::marker::Model;
@@ -36,7 +37,6 @@ impl<N: RunBrand, K: Sink> Model for Delivery<N, K> {
     ghost invariant = { λ d. (N.config ≡ Some (arc_value d.shared).config) × (length d.free.items ≡ link_count (arc_value d.shared).config) };
 }
 
-// Not derived: a derived drop is proved again in each crate that drops one.
 impl<N: RunBrand, K: Sink + Drop> Drop for Delivery<N, K> {
     fn drop(self) {
         let Delivery {
@@ -90,8 +90,8 @@ impl<N: RunBrand, K: Sink> Delivery<N, K> {
         self.sink.failures()
     }
 
-    /// Whether the link of a number has two bands.
-    pub fn has_two_bands(&self, link: u16) -> bool
+    /// Whether a link has two bands.
+    pub fn has_two_bands(&self, link: LinkIndex) -> bool
         ensures { result ≡ has_two_bands self.now.config link }
     {
         self.shared.ports.two_bands(link)
@@ -111,13 +111,14 @@ impl<N: RunBrand, K: Sink> Delivery<N, K> {
     }
 
     /// Passes on what was met in a pipe that is shut, or not.
-    pub fn pass<R: Wait>(&mut self, rt: &R, shut: bool, met: Option<EgressPacket<N>>)
+    pub fn pass<R: Wait>(&mut self, rt: &R, shut: bool, met: Taken<EgressPacket<N>>)
         requires sink { K.failed self.old.sink < 2 ^ 64 - 1 }
         requires room { MayRaise self.old.share.counts }
         ensures { PassedMet K.told K.failed K.same shut met self.old self.new }
     {
-        if let Some(egress_packet) = met {
-            self.deliver(rt, shut, egress_packet);
+        match met {
+            Taken::Mark => {}
+            Taken::Packet(egress_packet) => self.deliver(rt, shut, egress_packet),
         }
     }
 

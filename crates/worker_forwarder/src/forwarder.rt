@@ -12,7 +12,7 @@ ghost use Rattle.worker_parts.specs.Told.{told_of};
 use crate::band::Band;
 use crate::delivery::Delivery;
 use packet_ledger::{Book, Share};
-use router_rules::Shared;
+use router_rules::{LinkIndex, Shared};
 use ruled_pipe::{Consumer, Producer};
 use std::alloc::Global;
 use std::marker::Model;
@@ -22,7 +22,7 @@ use worker_parts::{Buffer, EgressPacket, RunBrand, Sink, Stage, Turn, Turns};
 /// Takes what leaves from the pipes of its link, the high band's first, and hands it to the link's sink.
 /// What comes after a closing mark in a pipe is swept.
 pub struct Forwarder<N: RunBrand, K: Sink> {
-    link: u16,
+    link: LinkIndex,
     low: Band<N>,
     high: Band<N>,
     // How often the sink had failed before.
@@ -40,7 +40,6 @@ impl<N: RunBrand, K: Sink> Model for Forwarder<N, K> {
     ghost invariant = { λ f. KeepsForwarding K.told K.failed f.low f.high f.began f.delivery };
 }
 
-// Not derived: a derived drop is proved again in each crate that drops one.
 impl<N: RunBrand, K: Sink + Drop> Drop for Forwarder<N, K> {
     fn drop(self) {
         let Forwarder {
@@ -54,11 +53,11 @@ impl<N: RunBrand, K: Sink + Drop> Drop for Forwarder<N, K> {
 }
 
 impl<N: RunBrand, K: Sink> Forwarder<N, K> {
-    /// The forwarder of the link with a number, over a sink that was handed nothing yet. Buffers go back
+    /// The forwarder of a link, over a sink that was handed nothing yet. Buffers go back
     /// by one pipe a link. Of a link with one band the high band's pipe isn't used.
     pub fn new(
         shared: Arc<Shared, Global>,
-        link: u16,
+        link: LinkIndex,
         low: Band<N>,
         high: Band<N>,
         sink: K,

@@ -1,6 +1,7 @@
 -- What a source tells.
 use Rattle.std.specs.Prelude.{◌≤◌, ℕ, List, take}
 use Rattle.worker_order.specs.Heard.{Heard, Gave, WasQuiet, HadFailed, WasAtEnd}
+use Rattle.worker_parts.specs.Buffer.{buffer_len}
 use Rattle.worker_parts.specs.declared.source.NextLen.{NextLen}
 use Rattle.worker_parts.specs.declared.source.NextLen.TheVariants as next
 
@@ -12,7 +13,7 @@ heard buffer next.Failed = HadFailed
 heard buffer next.End = WasAtEnd
 
 abbrev pub fits : NextLen → Type 0
-fits (next.Datagram len from now) = len ≤ 9217
+fits (next.Datagram len from now) = len ≤ buffer_len
 fits next.Quiet = Unit {0}
 fits next.Failed = Unit {0}
 fits next.End = Unit {0}

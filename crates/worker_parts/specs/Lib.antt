@@ -1,3 +1,4 @@
+pub mod Buffer
 pub mod Outlet
 pub mod Heard
 pub mod ListSource
@@ -8,5 +9,6 @@ pub mod Replying
 pub mod Outlets
 pub mod GivingBack
 pub mod Turn
+pub mod Signal
 pub mod Same
 pub mod Back

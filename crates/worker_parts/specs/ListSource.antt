@@ -1,6 +1,7 @@
 -- What contracts see of a source over a list.
 use Rattle.std.specs.Prelude.{◌≡◌, ◌==◌, ◌-◌, ◌^◌, ℕ, List, [], ◌∷◌, ◌++◌, map, take, drop, replicate, Option, Some, None, if◌then◌else◌}
 use Rattle.worker_order.specs.Heard.{Heard, Gave, WasQuiet, HadFailed, WasAtEnd}
+use Rattle.worker_parts.specs.Buffer.{buffer_len}
 use Rattle.worker_parts.specs.declared.list_source.Next.{Next}
 use Rattle.worker_parts.specs.declared.list_source.Next.TheVariants as next
 
@@ -11,7 +12,7 @@ pub record Listed : Type 0 where
   pub failed : ℕ
 
 abbrev pub heard_of : Next → Heard
-heard_of (next.Datagram bytes from now) = Gave from now (take 9217 bytes.items)
+heard_of (next.Datagram bytes from now) = Gave from now (take buffer_len bytes.items)
 heard_of next.Quiet = WasQuiet
 heard_of next.Failed = HadFailed
 heard_of next.End = WasAtEnd

@@ -1,8 +1,10 @@
 //! Memory for one datagram.
 
 ghost use Rattle.std.specs.Prelude.{◌≡◌, IfOk, length};
+ghost use Rattle.worker_parts.specs.Buffer.{buffer_len};
 
 use process_packet::{Ip, Underlay};
+use router_rules::{Interface, LinkIndex};
 use std::alloc::{AllocError, Global};
 use std::marker::Model;
 
@@ -15,19 +17,18 @@ pub const BUFFER_LEN: usize = 9217;
 pub(crate) struct Storage {
     pub(crate) bytes: Vec<u8>,
     pub(crate) len: usize,
-    // of the datagram's arrival: the link's number and interface, and its number among the link's
-    pub(crate) link: u16,
-    pub(crate) interface: u16,
+    // of the datagram's arrival: its link, and its number among the link's
+    pub(crate) link: LinkIndex,
+    pub(crate) interface: Interface,
     pub(crate) number: u64,
     pub(crate) source: Underlay,
     pub(crate) moment: u64,
     // of what leaves
     pub(crate) answer: bool,
-    pub(crate) egress: u16,
+    pub(crate) egress: LinkIndex,
     pub(crate) to: Option<Underlay>,
 }
 
-// Not derived: a derived drop is proved again in each crate that drops one.
 impl Drop for Storage {
     fn drop(self) {
         let Storage {
@@ -53,25 +54,26 @@ pub struct Buffer {
 
 impl Model for Buffer {
     ghost use Rattle.std.specs.Prelude.{◌≡◌, ℕ, List, length};
+    ghost use Rattle.worker_parts.specs.Buffer.{buffer_len};
 
     ghost Value = { List ℕ };
 
     ghost view = { λ b. b.storage.value.bytes.items };
 
-    ghost invariant = { λ b. length b.storage.value.bytes.items ≡ 9217 };
+    ghost invariant = { λ b. length b.storage.value.bytes.items ≡ buffer_len };
 }
 
 impl Buffer {
     /// A buffer in memory of its own. `Err` where no memory is left.
     pub fn new(alloc: Global) -> Result<Buffer, AllocError>
-        ensures { IfOk result (λ b. length b ≡ 9217) }
+        ensures { IfOk result (λ b. length b ≡ buffer_len) }
     {
         let bytes = vec![in alloc; 0; BUFFER_LEN]?;
         let storage = Storage {
             bytes,
             len: 0,
-            link: 0,
-            interface: 0,
+            link: LinkIndex::of(0),
+            interface: Interface::of(0),
             number: 0,
             source: Underlay {
                 ip: Ip::V4([0; 4]),
@@ -79,7 +81,7 @@ impl Buffer {
             },
             moment: 0,
             answer: false,
-            egress: 0,
+            egress: LinkIndex::of(0),
             to: None,
         };
         let storage = Box::new(alloc, storage)?;

@@ -7,7 +7,7 @@ ghost use Rattle.worker_parts.specs.Told.{named};
 
 use crate::buffer::{Buffer, Storage};
 use packet_ledger::RunBrand;
-use router_rules::{Outgoing, is_urgent};
+use router_rules::{LinkIndex, Outgoing, is_urgent};
 use std::marker::{Model, PhantomData};
 
 /// A packet that leaves, or the answer to one, in the buffer of the packet that arrived.
@@ -21,15 +21,15 @@ impl<N: RunBrand> Model for EgressPacket<N> {
     ghost use Rattle.order_laws.specs.Item.{Outgoing};
     ghost use Rattle.router_rules.specs.Rules.{kinds};
     ghost use Rattle.worker_parts.specs.Items.{StandsIn};
+    ghost use Rattle.worker_parts.specs.Buffer.{buffer_len};
 
     ghost Value = { Outgoing kinds };
 
     ghost view = { λ o. record { arrived = o.storage.value.link; number = o.storage.value.number; answer = o.storage.value.answer; link = o.storage.value.egress; parcel = record { came_by = o.storage.value.interface; to = o.storage.value.to; bytes = take o.storage.value.len o.storage.value.bytes.items } } };
 
-    ghost invariant = { λ o. (length o.storage.value.bytes.items ≡ 9217) × (o.storage.value.len ≤ 9217) × StandsIn N.config o.storage.value.link o.storage.value.interface };
+    ghost invariant = { λ o. (length o.storage.value.bytes.items ≡ buffer_len) × (o.storage.value.len ≤ buffer_len) × StandsIn N.config o.storage.value.link o.storage.value.interface };
 }
 
-// Not derived: a derived drop is proved again in each crate that drops one.
 impl<N: RunBrand> Drop for EgressPacket<N> {
     fn drop(self) {
         let EgressPacket { storage: _, of: _ } = self;
@@ -37,16 +37,16 @@ impl<N: RunBrand> Drop for EgressPacket<N> {
 }
 
 impl<N: RunBrand> EgressPacket<N> {
-    /// The number of the link by which its packet came, whose buffer it has.
-    pub fn arrived(&self) -> u16
+    /// The link by which its packet came, whose buffer it has.
+    pub fn arrived(&self) -> LinkIndex
         ensures arrived { result ≡ self.now.arrived }
         ensures stands { StandsIn N.config self.now.arrived self.now.parcel.came_by }
     {
         self.storage.link
     }
 
-    /// The number of the link by which it leaves.
-    pub fn link(&self) -> u16
+    /// The link by which it leaves.
+    pub fn link(&self) -> LinkIndex
         ensures { result ≡ self.now.link }
     {
         self.storage.egress
@@ -72,7 +72,7 @@ impl<N: RunBrand> EgressPacket<N> {
     {
         let storage = &*self.storage;
         Outgoing {
-            arrived: storage.interface,
+            arrived: storage.interface.id(),
             number: storage.number,
             answer: storage.answer,
             to: storage.to,

@@ -2,6 +2,7 @@
 //! the edge, devices over lists for tests, and what a thread asks of a worker.
 #![tactic(auto)]
 
+mod booleans;
 mod buffer;
 mod egress_packet;
 mod event;
@@ -16,12 +17,13 @@ mod packet;
 mod read_buffer;
 mod request;
 mod results;
+mod signal;
 mod sink;
 mod source;
 mod stage;
-mod stop;
 mod turn;
 
+pub use booleans::{are_both, is_either};
 pub use buffer::{BUFFER_LEN, Buffer};
 pub use egress_packet::EgressPacket;
 pub use event::Event;
@@ -37,8 +39,8 @@ pub use packet_ledger::RunBrand;
 pub use read_buffer::ReadBuffer;
 pub use request::{SlowPathRequest, Withheld};
 pub use results::{all_three, both};
+pub use signal::Signal;
 pub use sink::{Sink, SinkFault};
 pub use source::{NextLen, Source};
 pub use stage::{Stage, Turns};
-pub use stop::STOP;
 pub use turn::Turn;

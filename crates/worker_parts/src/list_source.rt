@@ -4,6 +4,7 @@ ghost use Rattle.std.specs.Prelude.{◌≡◌, ◌+◌, ◌-◌, ◌^◌, ◌<�
 ghost use Rattle.worker_laws.specs.Forwards.{AddsTo};
 ghost use Rattle.worker_parts.specs.Heard.{failures_of, fits, heard};
 ghost use Rattle.worker_parts.specs.ListSource.{Gives, heard_of};
+ghost use Rattle.worker_parts.specs.Buffer.{buffer_len};
 
 use crate::source::{NextLen, Source};
 use process_packet::Underlay;
@@ -44,7 +45,6 @@ impl Model for ListSource {
     ghost invariant = { λ s. (s.given ≤ length s.answers.items) × (1 ≤ s.ends → s.given ≡ length s.answers.items) };
 }
 
-// Not derived: a derived drop is proved again in each crate that drops one.
 impl Drop for ListSource {
     fn drop(self) {
         let ListSource {
@@ -58,7 +58,7 @@ impl Drop for ListSource {
 
 // Gives an answer, with its bytes at the front of the buffer.
 fn give(answer: &Next, buffer: &mut [u8]) -> NextLen
-    requires { length buffer.old ≡ 9217 }
+    requires { length buffer.old ≡ buffer_len }
     ensures given { heard buffer.new result ≡ heard_of answer.now }
     ensures same { length buffer.new ≡ length buffer.old }
     ensures fits { fits result }
@@ -121,7 +121,7 @@ impl Source for ListSource {
 
     fn next_into(&mut self, buffer: &mut [u8]) -> NextLen
         requires failures { self.old.failed < 2 ^ 64 - 1 }
-        requires room { length buffer.old ≡ 9217 }
+        requires room { length buffer.old ≡ buffer_len }
         ensures same { length buffer.new ≡ length buffer.old }
         ensures fits { fits result }
         ensures failed { self.new.failed ≡ self.old.failed + failures_of result }

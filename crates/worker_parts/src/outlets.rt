@@ -3,6 +3,7 @@
 ghost use Rattle.std.specs.Prelude.{◌≡◌, ◌<◌, MatchResult, length, true, ◌&&◌};
 ghost use Rattle.worker_parts.specs.Outlets.{AreUnended, GaveAt, KeptAt, TriedAt, Trying};
 
+use crate::booleans::are_both;
 use crate::outlet::Outlet;
 use ruled_pipe::Full;
 use std::sync::Wait;
@@ -32,12 +33,6 @@ pub fn end_at<T: Drop, R: Wait>(rt: &R, ends: &mut Vec<Outlet<T>>, at: usize) ->
     ends[at].end(rt)
 }
 
-fn both(a: bool, b: bool) -> bool
-    ensures { result ≡ (a && b) }
-{
-    a && b
-}
-
 /// Tries each end mark that is owed, and says whether all are there.
 pub fn end_all<T: Drop, R: Wait>(rt: &R, ends: &mut Vec<Outlet<T>>) -> bool
     ensures { Trying (λ j. true) ends.old.items ends.new.items result }
@@ -45,7 +40,7 @@ pub fn end_all<T: Drop, R: Wait>(rt: &R, ends: &mut Vec<Outlet<T>>) -> bool
     let mut all = true;
     for at in 0..ends.len() {
         let there = end_at(rt, ends, at);
-        all = both(all, there);
+        all = are_both(all, there);
     }
     all
 }

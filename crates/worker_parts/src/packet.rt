@@ -8,6 +8,7 @@ ghost use Rattle.process_packet.specs.declared.decision.Problem.{Problem as Told
 ghost use Rattle.router_rules.specs.Rules.{by_decision, decided};
 ghost use Rattle.worker_order.specs.Heard.{arrival};
 ghost use Rattle.worker_parts.specs.Items.{StandsIn, asking, leaving, with_bytes};
+ghost use Rattle.worker_parts.specs.Buffer.{buffer_len};
 
 use crate::buffer::{Buffer, Storage};
 use crate::egress_packet::EgressPacket;
@@ -15,6 +16,7 @@ use crate::read_buffer::ReadBuffer;
 use crate::request::SlowPathRequest;
 use packet_ledger::RunBrand;
 use process_packet::{Config, Decision, Problem, Underlay, answers_are_sound, route_in_place};
+use router_rules::{Interface, LinkIndex};
 use std::marker::{Model, PhantomData};
 
 /// A datagram as it arrived, in the buffer into which it was read.
@@ -30,45 +32,46 @@ impl<N: RunBrand> Model for Packet<N> {
     ghost use Rattle.router_rules.specs.Rules.{kinds};
     ghost use Rattle.worker_order.specs.Heard.{arrival};
     ghost use Rattle.worker_parts.specs.Items.{StandsIn};
+    ghost use Rattle.worker_parts.specs.Buffer.{buffer_len};
 
     ghost Value = { Arrival kinds };
 
     ghost view = { λ p. arrival p.storage.value.link p.storage.value.interface p.storage.value.number p.storage.value.source p.storage.value.moment (take p.storage.value.len p.storage.value.bytes.items) };
 
-    ghost invariant = { λ p. (length p.storage.value.bytes.items ≡ 9217) × (p.storage.value.len ≤ 9217) × StandsIn N.config p.storage.value.link p.storage.value.interface };
+    ghost invariant = { λ p. (length p.storage.value.bytes.items ≡ buffer_len) × (p.storage.value.len ≤ buffer_len) × StandsIn N.config p.storage.value.link p.storage.value.interface };
 }
 
 // Decides on the datagram at the front of a buffer, where it lies.
 fn decide_at_front(
     config: &Config,
-    link: u16,
+    interface: Interface,
     source: Underlay,
     now: u64,
     bytes: &mut Vec<u8>,
     len: usize,
 ) -> Decision
     requires { len ≤ length bytes.old.items }
-    ensures decision { result ≡ decide (network config.now) link source now (take len bytes.old.items) }
-    ensures bytes { take len bytes.new.items ≡ moved (network config.now) link source now (take len bytes.old.items) }
+    ensures decision { result ≡ decide (network config.now) interface source now (take len bytes.old.items) }
+    ensures bytes { take len bytes.new.items ≡ moved (network config.now) interface source now (take len bytes.old.items) }
     ensures same { length bytes.new.items ≡ length bytes.old.items }
 {
     let (front, _) = bytes.split_at_mut(len);
-    route_in_place(config, link, source, now, front)
+    route_in_place(config, interface.id(), source, now, front)
 }
 
 impl<N: RunBrand> Packet<N> {
-    /// The datagram of the first `len` bytes of what was read, which came by the link of this number and
-    /// interface.
+    /// The datagram of the first `len` bytes of what was read, which came by a link, with its number among
+    /// the datagrams of that link.
     pub fn new(
-        link: u16,
-        interface: u16,
+        link: LinkIndex,
+        interface: Interface,
         number: u64,
         source: Underlay,
         moment: u64,
         len: usize,
         read: ReadBuffer,
     ) -> Packet<N>
-        requires len { len ≤ 9217 }
+        requires len { len ≤ buffer_len }
         requires stands { StandsIn N.config link interface }
         ensures { result ≡ arrival link interface number source moment (take len read) }
     {
@@ -85,8 +88,8 @@ impl<N: RunBrand> Packet<N> {
         }
     }
 
-    /// The number of the link by which it came.
-    pub fn link(&self) -> u16
+    /// The link by which it came.
+    pub fn link(&self) -> LinkIndex
         ensures link { result ≡ self.now.link }
         ensures stands { StandsIn N.config self.now.link self.now.datagram.interface }
     {
@@ -101,7 +104,7 @@ impl<N: RunBrand> Packet<N> {
     }
 
     /// The interface of the link by which it came; 0 is the internal network.
-    pub fn interface(&self) -> u16
+    pub fn interface(&self) -> Interface
         ensures { result ≡ self.now.datagram.interface }
     {
         self.storage.interface
@@ -128,8 +131,8 @@ impl<N: RunBrand> Packet<N> {
         Buffer { storage }
     }
 
-    /// The packet on its way out by the link of a number, with its bytes as they are.
-    pub fn into_egress_packet(self, link: u16, to: Option<Underlay>) -> EgressPacket<N>
+    /// The packet on its way out by a link, with its bytes as they are.
+    pub fn into_egress_packet(self, link: LinkIndex, to: Option<Underlay>) -> EgressPacket<N>
         ensures { result ≡ leaving self link to }
     {
         let Packet { mut storage, of } = self;

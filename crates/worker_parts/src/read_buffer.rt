@@ -3,6 +3,7 @@
 ghost use Rattle.std.specs.Prelude.{◌≡◌, ◌+◌, ◌-◌, ◌^◌, ◌<◌, ◌≤◌, length, take};
 ghost use Rattle.worker_laws.specs.Forwards.{AddsTo};
 ghost use Rattle.worker_parts.specs.Heard.{failures_of, fits, heard};
+ghost use Rattle.worker_parts.specs.Buffer.{buffer_len};
 
 use crate::buffer::{Buffer, Storage};
 use crate::source::{NextLen, Source};
@@ -16,19 +17,20 @@ pub struct ReadBuffer {
 
 impl Model for ReadBuffer {
     ghost use Rattle.std.specs.Prelude.{◌≡◌, ℕ, List, length};
+    ghost use Rattle.worker_parts.specs.Buffer.{buffer_len};
 
     ghost Value = { List ℕ };
 
     ghost view = { λ b. b.storage.value.bytes.items };
 
-    ghost invariant = { λ b. length b.storage.value.bytes.items ≡ 9217 };
+    ghost invariant = { λ b. length b.storage.value.bytes.items ≡ buffer_len };
 }
 
 impl ReadBuffer {
     /// A free buffer, to be read into.
     pub fn of(buffer: Buffer) -> ReadBuffer
         ensures same { result ≡ buffer }
-        ensures long { length result ≡ 9217 }
+        ensures long { length result ≡ buffer_len }
     {
         let Buffer { storage } = buffer;
         ReadBuffer { storage }
@@ -37,7 +39,7 @@ impl ReadBuffer {
     /// Reads the source's next answer.
     pub fn read<S: Source>(&mut self, source: &mut S) -> NextLen
         requires { S.failed source.old < 2 ^ 64 - 1 }
-        ensures long { length self.new ≡ 9217 }
+        ensures long { length self.new ≡ buffer_len }
         ensures fits { fits result }
         ensures failed { S.failed source.new ≡ S.failed source.old + failures_of result }
         ensures told { AddsTo (S.told source.old) (heard self.new result) (S.told source.new) }
@@ -48,7 +50,7 @@ impl ReadBuffer {
 
     /// The first bytes of what was read.
     pub fn front(&self, len: usize) -> &[u8]
-        requires { len ≤ 9217 }
+        requires { len ≤ buffer_len }
         ensures { result.now ≡ take len self.now }
     {
         &self.storage.bytes[..len]

@@ -6,6 +6,7 @@ ghost use Rattle.router_rules.specs.Rules.{replied};
 ghost use Rattle.scmp_answer.specs.Outcome.{outcome_in, used};
 ghost use Rattle.worker_parts.specs.Items.{StandsIn, answering};
 ghost use Rattle.worker_parts.specs.Replying.{reply_of};
+ghost use Rattle.worker_parts.specs.Buffer.{buffer_len};
 
 use crate::buffer::Buffer;
 use crate::egress_packet::EgressPacket;
@@ -13,7 +14,7 @@ use crate::packet::Packet;
 use packet_answer::{AnswerLen, LONGEST_ANSWER, answer_into};
 use packet_ledger::RunBrand;
 use process_packet::{Cause, Config, Problem, Underlay};
-use router_rules::Shared;
+use router_rules::{Interface, LinkIndex, Shared};
 use std::marker::Model;
 
 /// A packet without a fault, on its way to the slow path, and what it is answered.
@@ -35,7 +36,6 @@ impl<N: RunBrand> Model for SlowPathRequest<N> {
     ghost invariant = { λ q. IsAnswerable q.packet.datagram.bytes q.problem };
 }
 
-// Not derived: a derived drop is proved again in each crate that drops one.
 impl<N: RunBrand> Drop for SlowPathRequest<N> {
     fn drop(self) {
         let SlowPathRequest {
@@ -55,12 +55,12 @@ fn answer_over(
     bytes: &mut Vec<u8>,
     len: usize,
 ) -> AnswerLen
-    requires long { length bytes.old.items ≡ 9217 }
-    requires len { len ≤ 9217 }
+    requires long { length bytes.old.items ≡ buffer_len }
+    requires len { len ≤ buffer_len }
     requires sound { IsAnswerable (take len bytes.old.items) problem.now }
     ensures answer { outcome_in bytes.new.items result ≡ answered config.now link source now (take len bytes.old.items) problem.now }
     ensures fits { used result ≤ 1232 }
-    ensures same { length bytes.new.items ≡ 9217 }
+    ensures same { length bytes.new.items ≡ buffer_len }
 {
     let mut out = [0; LONGEST_ANSWER];
     let answer = answer_into(config, link, source, now, &bytes[..len], problem, &mut out);
@@ -77,8 +77,8 @@ pub struct Withheld {
 }
 
 impl<N: RunBrand> SlowPathRequest<N> {
-    /// The number of the link by which its packet came.
-    pub fn link(&self) -> u16
+    /// The link by which its packet came.
+    pub fn link(&self) -> LinkIndex
         ensures link { result ≡ self.now.arrival.link }
         ensures stands { StandsIn N.config self.now.arrival.link self.now.arrival.datagram.interface }
     {
@@ -119,7 +119,7 @@ fn answer_packet<N: RunBrand>(
     let len = storage.len;
     match answer_over(
         &shared.config,
-        interface,
+        interface.id(),
         source,
         now,
         problem,
@@ -128,7 +128,7 @@ fn answer_packet<N: RunBrand>(
     ) {
         AnswerLen::Send { link, to, len } => {
             storage.answer = true;
-            storage.egress = shared.ports.number(link);
+            storage.egress = shared.ports.index(Interface::of(link));
             storage.to = to;
             storage.len = len;
             Ok(EgressPacket { storage, of })

@@ -29,6 +29,7 @@ pub enum NextLen {
 pub trait Source {
     ghost use Rattle.std.specs.Prelude.{Bool, ℕ, List, Option};
     ghost use Rattle.worker_order.specs.Heard.{Heard};
+    ghost use Rattle.worker_parts.specs.Buffer.{buffer_len};
 
     /// All its answers so far, where it tells them.
     ghost told: { Self → Option (List Heard) };
@@ -49,7 +50,7 @@ pub trait Source {
     /// Reads a datagram into a buffer of 9,217 bytes.
     fn next_into(&mut self, buffer: &mut [u8]) -> NextLen
         requires failures { failed self.old < 2 ^ 64 - 1 }
-        requires room { length buffer.old ≡ 9217 }
+        requires room { length buffer.old ≡ buffer_len }
         ensures same { length buffer.new ≡ length buffer.old }
         ensures fits { fits result }
         ensures failed { failed self.new ≡ failed self.old + failures_of result }

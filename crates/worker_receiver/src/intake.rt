@@ -8,11 +8,12 @@ ghost use Rattle.worker_receiver.specs.Receiving.{with_processors, with_share};
 ghost use Rattle.worker_laws.specs.Forwards.{AddsTo};
 ghost use Rattle.worker_parts.specs.Heard.{failures_of, fits, heard};
 ghost use Rattle.worker_parts.specs.Outlets.{AreUnended, Trying};
+ghost use Rattle.worker_parts.specs.Buffer.{buffer_len};
 
 use crate::pool::Pool;
 use packet_ledger::{Book, Share};
 use process_packet::{Cause, Underlay};
-use router_rules::{Shared, processor_or_fault};
+use router_rules::{Interface, LinkIndex, Shared, processor_or_fault};
 use ruled_pipe::Consumer;
 use std::alloc::Global;
 use std::marker::Model;
@@ -22,8 +23,8 @@ use worker_parts::{Buffer, NextLen, Outlet, Packet, RunBrand, Source, end_all, o
 /// A receiver's side of its link: its buffers, its ends of the processors' pipes, and its counts.
 pub struct Intake<N: RunBrand> {
     pub(crate) shared: Arc<Shared, Global>,
-    pub(crate) link: u16,
-    pub(crate) interface: u16,
+    pub(crate) link: LinkIndex,
+    pub(crate) interface: Interface,
     pub(crate) pool: Pool,
     pub(crate) processors: Vec<Outlet<Packet<N>>>,
     pub(crate) share: Share<N>,
@@ -42,7 +43,6 @@ impl<N: RunBrand> Model for Intake<N> {
     ghost invariant = { λ i. (N.config ≡ Some (arc_value i.shared).config) × StandsIn N.config i.link i.interface × (length i.processors.items ≡ (arc_value i.shared).config.processors) };
 }
 
-// Not derived: a derived drop is proved again in each crate that drops one.
 impl<N: RunBrand> Drop for Intake<N> {
     fn drop(self) {
         let Intake {
@@ -74,7 +74,7 @@ impl<N: RunBrand> Intake<N> {
 
     /// Passes the first bytes of what was read on as the datagram of a number.
     pub fn pass_in<R: Wait>(&mut self, rt: &R, number: u64, from: Underlay, now: u64, len: usize)
-        requires len { len ≤ 9217 }
+        requires len { len ≤ buffer_len }
         requires room { MayRaise self.old.side.share.counts }
         requires unended { AreUnended self.old.side.processors }
         ensures some { 0 < length self.old.side.processors }
@@ -83,7 +83,7 @@ impl<N: RunBrand> Intake<N> {
         self.share.received(1);
         let at = match processor_or_fault(
             &self.shared.config,
-            self.interface,
+            self.interface.id(),
             self.pool.front(len),
         ) {
             Ok(at) => at,

@@ -4,6 +4,7 @@ ghost use Rattle.std.specs.Prelude.{◌≡◌, ◌+◌, ◌-◌, ◌^◌, ◌<�
 ghost use Rattle.worker_laws.specs.Forwards.{AddsTo};
 ghost use Rattle.worker_parts.specs.Heard.{failures_of, fits, heard};
 ghost use Rattle.worker_receiver.specs.Pool.{Another, Found, FoundNone, buffer_in, stock};
+ghost use Rattle.worker_parts.specs.Buffer.{buffer_len};
 
 use ruled_pipe::{Consumer, Entry, Load};
 use std::marker::Model;
@@ -26,7 +27,6 @@ impl Model for Pool {
     ghost view = { λ p. record { room = p.room; stock = stock p.spare p.free } };
 }
 
-// Not derived: a derived drop is proved again in each crate that drops one.
 impl Drop for Pool {
     fn drop(self) {
         let Pool {
@@ -100,7 +100,7 @@ impl Pool {
 
     /// The first bytes of what was read.
     pub fn front(&self, len: usize) -> &[u8]
-        requires { len ≤ 9217 }
+        requires { len ≤ buffer_len }
         ensures { result.now ≡ take len self.now.room }
     {
         self.room.front(len)

@@ -12,13 +12,13 @@ ghost use Rattle.worker_parts.specs.Outlets.{AreFresh, senders};
 use crate::intake::Intake;
 use crate::pool::Pool;
 use packet_ledger::{Book, Share};
-use router_rules::{Shared, links_stand_in_order};
+use router_rules::{LinkIndex, Shared, links_stand_in_order};
 use ruled_pipe::Consumer;
 use std::alloc::Global;
 use std::marker::Model;
 use std::sync::atomic::{AtomicU64, Ordering};
 use std::sync::{Arc, Wait};
-use worker_parts::{Buffer, NextLen, Outlet, Packet, RunBrand, STOP, Source, Stage, Turn, Turns};
+use worker_parts::{Buffer, NextLen, Outlet, Packet, RunBrand, Signal, Source, Stage, Turn, Turns};
 
 // It ends after this number, so that no queue ever accepts 2^62 pushes.
 const LAST_NUMBER: u64 = 1 << 56;
@@ -43,7 +43,6 @@ impl<N: RunBrand, S: Source> Model for Receiver<N, S> {
     ghost invariant = { λ r. KeepsReceiving (S.told r.source) r.number r.ended r.intake.side };
 }
 
-// Not derived: a derived drop is proved again in each crate that drops one.
 impl<N: RunBrand, S: Source + Drop> Drop for Receiver<N, S> {
     fn drop(self) {
         let Receiver {
@@ -57,12 +56,12 @@ impl<N: RunBrand, S: Source + Drop> Drop for Receiver<N, S> {
 }
 
 impl<N: RunBrand, S: Source> Receiver<N, S> {
-    /// The receiver of the link with a number, over a source that gave nothing yet. It reads into a first
+    /// The receiver of a link, over a source that gave nothing yet. It reads into a first
     /// buffer, takes others from the pipe of the link's free ones, and offers to one pipe a processor.
     pub fn new(
         shared: Arc<Shared, Global>,
         stop: Arc<AtomicU64, Global>,
-        link: u16,
+        link: LinkIndex,
         source: S,
         first: Buffer,
         free: Consumer<Buffer>,
@@ -162,7 +161,7 @@ impl<N: RunBrand, S: Source> Turns<Book<N>> for Receiver<N, S> {
         if self.source.failures() == u64::MAX {
             return Turn::Quiet;
         }
-        let stopping = self.stop.load(Ordering::SeqCst) == STOP;
+        let stopping = Signal::of(self.stop.load(Ordering::SeqCst)) == Signal::Stop;
         match self.intake.read(&mut self.source) {
             NextLen::Datagram { len, from, now } => {
                 self.number += 1;

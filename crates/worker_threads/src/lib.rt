@@ -11,4 +11,4 @@ mod thread_control;
 pub use joining::join_all;
 pub use starting::{Started, Team, give_up, start_each};
 pub use thread::{Handle, STACK, WillEnd, work_on};
-pub use thread_control::{GIVE_UP, HOLD, RUN, ThreadControl};
+pub use thread_control::ThreadControl;

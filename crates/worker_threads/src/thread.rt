@@ -4,13 +4,13 @@ ghost use Rattle.std.specs.Prelude.{◌≡◌, IfOk, IfSome, true};
 
 use crate::idle::{Idle, nap};
 use crate::pace::Pace;
-use crate::thread_control::{GIVE_UP, HOLD, ThreadControl};
+use crate::thread_control::ThreadControl;
 use std::snapshot::Snapshot;
 use std::sync::Wait;
 use std::sync::atomic::{AtomicU64, Ordering};
 use std::thread::{Builder, Promise, PromisedHandle, Threads};
 use std::time::Clock;
-use worker_parts::{Event, Stage, Turn, Turns};
+use worker_parts::{Event, Signal, Stage, Turn, Turns};
 
 /// The size of a thread's stack, in bytes.
 pub const STACK: usize = 512 * 1024;
@@ -157,14 +157,12 @@ pub fn work_on<B, W: Turns<B>, R: Wait + Clock>(rt: &R, control: &ThreadControl<
 fn may_begin<R: Wait + Clock>(rt: &R, word: &AtomicU64) -> bool {
     let mut idle = Idle::new();
     for _ in rt.forever() {
-        let now = word.load(Ordering::SeqCst);
-        if now == GIVE_UP {
-            return false;
+        match Signal::of(word.load(Ordering::SeqCst)) {
+            Signal::Hold => idle.rest(rt),
+            Signal::Run => return true,
+            Signal::Stop => return true,
+            Signal::GiveUp => return false,
         }
-        if now != HOLD {
-            return true;
-        }
-        idle.rest(rt);
     }
     unreachable!()
 }

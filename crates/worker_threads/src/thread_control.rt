@@ -6,15 +6,7 @@ ghost use Rattle.std.specs.Arc.{arc_value};
 use std::alloc::{AllocError, Global};
 use std::sync::Arc;
 use std::sync::atomic::{AtomicU64, Ordering};
-use worker_parts::{Event, STOP};
-
-/// Threads wait until they are told to run, or to give up. `STOP` is a word of the receivers', at which
-/// a thread runs too: it makes turns until its worker has ended.
-pub const HOLD: u64 = 0;
-
-pub const RUN: u64 = 2;
-
-pub const GIVE_UP: u64 = 3;
+use worker_parts::{Event, Signal};
 
 /// The word that tells the threads what to do, which the receivers also read, the book into which
 /// workers post, and for a thread the event that is notified of pushes into its worker's pipes.
@@ -24,7 +16,6 @@ pub struct ThreadControl<B> {
     pub event: Option<Event>,
 }
 
-// Not derived: a derived drop is proved again in each crate that drops one.
 impl<B: Drop> Drop for ThreadControl<B> {
     fn drop(self) {
         let ThreadControl {
@@ -36,7 +27,7 @@ impl<B: Drop> Drop for ThreadControl<B> {
 }
 
 impl<B> ThreadControl<B> {
-    /// By a word that says `HOLD`.
+    /// By a word that tells threads to hold.
     pub fn new(word: Arc<AtomicU64, Global>, book: Arc<B, Global>) -> ThreadControl<B>
         ensures given { (result.word ≡ word) × (result.book ≡ book) }
         ensures event { is_some result.event ≡ false }
@@ -50,17 +41,17 @@ impl<B> ThreadControl<B> {
 
     /// The threads begin their work.
     pub fn run(&self) {
-        self.word.store(RUN, Ordering::SeqCst);
+        self.word.store(Signal::Run.word(), Ordering::SeqCst);
     }
 
     /// The receivers come to their ends, and with them all workers.
     pub fn stop(&self) {
-        self.word.store(STOP, Ordering::SeqCst);
+        self.word.store(Signal::Stop.word(), Ordering::SeqCst);
     }
 
     /// The threads end without a turn.
     pub fn give_up(&self) {
-        self.word.store(GIVE_UP, Ordering::SeqCst);
+        self.word.store(Signal::GiveUp.word(), Ordering::SeqCst);
     }
 }
 

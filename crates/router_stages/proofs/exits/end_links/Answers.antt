@@ -1,4 +1,4 @@
-use Rattle.std.proofs.Common.{◌<◌, ◌+◌, ◌*◌, ◌&&◌, Bool, length, ap, sym, subst, arith}
+use Rattle.std.proofs.Common.{◌<◌, ◌+◌, ◌*◌, ◌∙◌, ◌&&◌, Bool, length, ap, sym, subst, arith}
 use Rattle.std.proofs.lemmas.Bool.{lt-ltb}
 use Rattle.router_rules.specs.Links.{has_two_bands}
 use Rattle.worker_parts.specs.Outlets.{Trying, is_used}
@@ -16,8 +16,8 @@ loop-link-preserved g c =
     let new = c.end_link-there.new.ends.items in
     let count = c.count-link-end.ensures h.config h.of in
     let here : 2 * l + 1 < length now = let t = c.loop-link-test.true in let r = c.requires in let long = c.loop-link.invariant.tried.0 in omega arith in
-    let next = link_more two l old now new c.loop-link.all c.end_link-there.result here c.two_bands.result (c.two_bands.ensures h.config h.of) c.end_link-there.ensures c.loop-link.invariant in
-    subst (λ (b : Bool). Trying (used_to two (l + 1)) old new b) (sym c.both-all.ensures) next
+    let next = link_more two l old now new c.loop-link.all c.end_link-there.result here c.two_bands.result (c.two_bands.ensures h.config h.of ∙ ap two c.of.ensures) c.end_link-there.ensures c.loop-link.invariant in
+    subst (λ (b : Bool). Trying (used_to two (l + 1)) old new b) (sym c.are_both-all.ensures) next
 
 pub returns : goal.returns
 returns g c =

@@ -16,4 +16,4 @@ returns c =
     let t = c.if-at-eq0.false in
     let two = has_two_bands c.args.shared.now.config in
     let e : c.args.at ≡ 2 * (c.args.at / 2) + 1 = omega arith in
-    c.two_bands.ensures c.args.shared.now.config c.args.shared.now.of ∙ sym (ap (λ (n : ℕ). is_used two n) e ∙ used_high two (c.args.at / 2))
+    c.two_bands.ensures c.args.shared.now.config c.args.shared.now.of ∙ ap two c.of-link.ensures ∙ sym (ap (λ (n : ℕ). is_used two n) e ∙ used_high two (c.args.at / 2))

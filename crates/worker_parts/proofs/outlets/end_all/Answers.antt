@@ -15,7 +15,7 @@ loop-at-preserved g c =
     let here : n < length mid = let t = c.loop-at-test.true in let b = c.len-at-end.ensures in let ok = c.args.ends.now.ok in let same = c.loop-at.invariant.tried.0 in omega arith in
     let next = trying_next (λ j. nat_lt j n) n old mid new c.loop-at.all c.end_at-there.result (lt_same n) here c.loop-at.invariant c.end_at-there.ensures in
     let onward = trying_as (λ j. nat_lt j n || eqb j n) (λ j. nat_lt j (n + 1)) old new (c.loop-at.all && c.end_at-there.result) (λ j lt. lt_next j n) next in
-    subst (λ (b : Bool). Trying (λ j. nat_lt j (n + 1)) old new b) (sym c.both-all.ensures) onward
+    subst (λ (b : Bool). Trying (λ j. nat_lt j (n + 1)) old new b) (sym c.are_both-all.ensures) onward
 
 pub returns : goal.returns
 returns g c =

@@ -43,7 +43,7 @@ send-requires-clause-link g c =
     let sends = decided_as c.deref.result.now h r x c.decide.result _ b c.deref.ensures same c.decide.ensures.decided c.in-Send.is in
     let there : link_index r c.in-Send.link < link_count r =
     (c.rules_are_lawful.ensures r).sends x (link_index r c.in-Send.link) (record { came_by = x.datagram.interface; to = c.in-Send.to; bytes = b }) (stands_as _ r x (c.self.invariant.0 ∙ ap Some same) c.link-link.ensures.stands) sends in
-    let n = number_as c.deref-in-Send.result.now h r c.number-link.result c.in-Send.link c.deref-in-Send.ensures same (c.number-link.ensures c.deref-in-Send.result.now.config c.deref-in-Send.result.now.of) in
+    let n = number_as c.deref-in-Send.result.now h r c.index-link.result c.in-Send.link c.deref-in-Send.ensures same (c.index-link.ensures c.deref-in-Send.result.now.config c.deref-in-Send.result.now.of ∙ ap (link_index c.deref-in-Send.result.now.config) c.of.ensures) in
     subst (λ (k : ℕ). k < link_count r) (sym (ap (λ (o : Outgoing kinds). o.link) c.into_egress_packet.ensures ∙ n)) there
 
 pub returns-in-Send-clause-passed : goal.returns-in-Send-clause-passed
@@ -56,7 +56,7 @@ returns-in-Send-clause-passed g c =
     let l = link_index r c.in-Send.link in
     let y : Parcel = record { came_by = x.datagram.interface; to = c.in-Send.to; bytes = b } in
     let sends = decided_as c.deref.result.now h r x c.decide.result _ b c.deref.ensures same c.decide.ensures.decided c.in-Send.is in
-    let n = number_as c.deref-in-Send.result.now h r c.number-link.result c.in-Send.link c.deref-in-Send.ensures same (c.number-link.ensures c.deref-in-Send.result.now.config c.deref-in-Send.result.now.of) in
+    let n = number_as c.deref-in-Send.result.now h r c.index-link.result c.in-Send.link c.deref-in-Send.ensures same (c.index-link.ensures c.deref-in-Send.result.now.config c.deref-in-Send.result.now.of ∙ ap (link_index c.deref-in-Send.result.now.config) c.of.ensures) in
     let is : c.into_egress_packet.result ≡ out x l y = c.into_egress_packet.ensures ∙ ap₂ (λ (p : Arrival kinds) (k : ℕ). leaving p k c.in-Send.to) c.decide.ensures.kept n in
     passed_as x c.args.self.now c.send.new.self c.args.slow.now c.args.slow.now (Sends l y) sends (subst (λ (o : Outgoing kinds). SentAs o c.args.self.now c.send.new.self) is c.send.ensures, refl)
 

@@ -39,5 +39,5 @@ returns-in-Marked g c =
     let e = c.in_ok-load.field-0 in
     let m = c.in-Marked.mark in
     let step : c.take.new.self ≡ took s.consumer (entry e.from (Marked m)) = c.in_ok-load.ensures.step ∙ ap (λ (l : Load (Outgoing kinds)). took s.consumer (entry e.from l)) c.in-Marked.is in
-    let shut : c.either-self-inside.result ≡ (s.shut || closes m) = c.either-self-inside.ensures ∙ ap (λ (b : Bool). s.shut || b) c.closes.ensures in
+    let shut : c.is_either-self-inside.result ≡ (s.shut || closes m) = c.is_either-self-inside.ensures ∙ ap (λ (b : Bool). s.shut || b) c.closes.ensures in
     (e.from, m, ap₂ band step shut ∙ ap (λ (b : Band). after_mark e.from m b) c.self.view_is)

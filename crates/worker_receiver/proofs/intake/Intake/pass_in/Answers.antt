@@ -25,7 +25,7 @@ returns-in-Err-clause-passed g c =
     let side : Intake = record { config = (arc_value s.shared).config; link = s.link; interface = s.interface; stock = s.pool.stock; processors = s.processors.items; share = s.share } in
     let x = arrival s.link s.interface c.args.number c.args.from c.args.now (take c.args.len s.pool.room) in
     let why = subst (λ (t : List ℕ). inspected (arc_value s.shared).config s.interface t ≡ Some c.in-Err.why) c.front.ensures
-    (subst (λ (h : Shared). inspected h.config s.interface c.front.result.now ≡ Some c.in-Err.why) c.deref.ensures c.in-Err.ensures.cause) in
+    (subst (λ (h : Shared). inspected h.config s.interface c.front.result.now ≡ Some c.in-Err.why) c.deref.ensures (subst (λ (l : ℕ). inspected c.deref.result.now.config l c.front.result.now ≡ Some c.in-Err.why) c.id.ensures c.in-Err.ensures.cause)) in
     seen_as (record { room = s.pool.room; side = side }) c.args.self.now c.self.view_is c.args.number c.args.from c.args.now c.args.len _
     (in_fault side x c.received.new.self c.received.ensures c.in-Err.why c.fate.new.self why c.fate.ensures)
 
@@ -39,7 +39,7 @@ returns-in_default-clause-passed g c =
     let side : Intake = record { config = (arc_value s.shared).config; link = s.link; interface = s.interface; stock = s.pool.stock; processors = s.processors.items; share = s.share } in
     let x = arrival s.link s.interface c.args.number c.args.from c.args.now (take c.args.len s.pool.room) in
     let clear = subst (λ (t : List ℕ). inspected (arc_value s.shared).config s.interface t ≡ None) c.front.ensures
-    (subst (λ (h : Shared). inspected h.config s.interface c.front.result.now ≡ None) c.deref.ensures c.in-Ok.ensures.clear) in
+    (subst (λ (h : Shared). inspected h.config s.interface c.front.result.now ≡ None) c.deref.ensures (subst (λ (l : ℕ). inspected c.deref.result.now.config l c.front.result.now ≡ None) c.id.ensures c.in-Ok.ensures.clear)) in
     seen_as (record { room = s.pool.room; side = side }) c.args.self.now c.self.view_is c.args.number c.args.from c.args.now c.args.len _
     (in_lack side x c.received.new.self c.received.ensures c.another.new.self.stock c.fate-in_default.new.self clear c.in_default.ensures.got c.fate-in_default.ensures)
 
@@ -67,7 +67,7 @@ returns-in-Err-offer_at-clause-passed g c =
     let F : List ℕ → Arrival kinds = λ room. arrival s.link s.interface c.args.number c.args.from c.args.now (take c.args.len room) in
     let x = F s.pool.room in
     let clear = subst (λ (t : List ℕ). inspected (arc_value s.shared).config s.interface t ≡ None) c.front.ensures
-    (subst (λ (h : Shared). inspected h.config s.interface c.front.result.now ≡ None) c.deref.ensures c.in-Ok.ensures.clear) in
+    (subst (λ (h : Shared). inspected h.config s.interface c.front.result.now ≡ None) c.deref.ensures (subst (λ (l : ℕ). inspected c.deref.result.now.config l c.front.result.now ≡ None) c.id.ensures c.in-Ok.ensures.clear)) in
     let here = subst (λ (t : List ℕ). c.in-Ok.at ≡ processor_of (flow_at false t) (arc_value s.shared).config.seed (arc_value s.shared).config.processors) c.front.ensures
     (subst (λ (h : Shared). c.in-Ok.at ≡ processor_of (flow_at false c.front.result.now) h.config.seed h.config.processors) c.deref.ensures c.in-Ok.ensures.place) in
     let is : c.new-packet.result ≡ x = c.new-packet.ensures ∙ ap F (c.exchange-read.ensures.bytes ∙ c.another.ensures.room) in
@@ -83,7 +83,7 @@ returns-in_default-offer_at-clause-passed g c =
     let F : List ℕ → Arrival kinds = λ room. arrival s.link s.interface c.args.number c.args.from c.args.now (take c.args.len room) in
     let x = F s.pool.room in
     let clear = subst (λ (t : List ℕ). inspected (arc_value s.shared).config s.interface t ≡ None) c.front.ensures
-    (subst (λ (h : Shared). inspected h.config s.interface c.front.result.now ≡ None) c.deref.ensures c.in-Ok.ensures.clear) in
+    (subst (λ (h : Shared). inspected h.config s.interface c.front.result.now ≡ None) c.deref.ensures (subst (λ (l : ℕ). inspected c.deref.result.now.config l c.front.result.now ≡ None) c.id.ensures c.in-Ok.ensures.clear)) in
     let here = subst (λ (t : List ℕ). c.in-Ok.at ≡ processor_of (flow_at false t) (arc_value s.shared).config.seed (arc_value s.shared).config.processors) c.front.ensures
     (subst (λ (h : Shared). c.in-Ok.at ≡ processor_of (flow_at false c.front.result.now) h.config.seed h.config.processors) c.deref.ensures c.in-Ok.ensures.place) in
     let is : c.new-packet.result ≡ x = c.new-packet.ensures ∙ ap F (c.exchange-read.ensures.bytes ∙ c.another.ensures.room) in

@@ -32,13 +32,13 @@ pub invariant_of-self-in-Quiet : goal.invariant_of-self-in-Quiet
 invariant_of-self-in-Quiet g c =
     let s = c.self.inside in
     let adds = subst (λ (n : NextLen). AddsTo (g.S.Source.told s.source) (heard c.read.new.self.room n) (g.S.Source.told c.read.new.source)) c.in-Quiet.is c.read.ensures.told in
-    keeps_answer (g.S.Source.told s.source) (g.S.Source.told c.read.new.source) s.number s.ended (nat_eq c.load-stopping.result 1) s.intake.side c.read.new.self.side WasQuiet (λ n. refl) refl c.if-self.false c.read.ensures.side adds c.self.invariant
+    keeps_answer (g.S.Source.told s.source) (g.S.Source.told c.read.new.source) s.number s.ended c.eq-stopping.result s.intake.side c.read.new.self.side WasQuiet (λ n. refl) refl c.if-self.false c.read.ensures.side adds c.self.invariant
 
 pub invariant_of-self-in-Failed : goal.invariant_of-self-in-Failed
 invariant_of-self-in-Failed g c =
     let s = c.self.inside in
     let adds = subst (λ (n : NextLen). AddsTo (g.S.Source.told s.source) (heard c.read.new.self.room n) (g.S.Source.told c.read.new.source)) c.in-Failed.is c.read.ensures.told in
-    keeps_answer (g.S.Source.told s.source) (g.S.Source.told c.read.new.source) s.number s.ended (nat_eq c.load-stopping.result 1) s.intake.side c.read.new.self.side HadFailed (λ n. refl) refl c.if-self.false c.read.ensures.side adds c.self.invariant
+    keeps_answer (g.S.Source.told s.source) (g.S.Source.told c.read.new.source) s.number s.ended c.eq-stopping.result s.intake.side c.read.new.self.side HadFailed (λ n. refl) refl c.if-self.false c.read.ensures.side adds c.self.invariant
 
 pub invariant_of-self-in-End : goal.invariant_of-self-in-End
 invariant_of-self-in-End g c =
