@@ -2,6 +2,7 @@
 #![tactic(auto)]
 
 mod laws;
+mod named;
 mod wires;
 mod words;
 
