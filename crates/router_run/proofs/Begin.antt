@@ -2,7 +2,7 @@
 use Rattle.std.proofs.Common.{◌≡◌, ℕ, suc, ◌+◌, ◌-◌, ◌*◌, List, [], ◌∷◌, map, length, Some, Result, Ok, Err, MatchResult, slice_get, refl, sym, ◌∙◌, ap, subst, arith}
 use Rattle.std.proofs.lemmas.List.{map-id}
 use Rattle.process_packet.specs.declared.config.Config.{Config}
-use Rattle.order_laws.specs.Item.{Arrival, Outgoing}
+use Rattle.order_laws.specs.Item.{Outgoing}
 use Rattle.ruled_pipe.specs.Pipe.{Shape, IsTakerOf}
 use Rattle.worker_order.specs.Returned.{AllAt}
 use Rattle.router_rules.specs.Links.{interface_at, link_count}
@@ -20,7 +20,8 @@ use Rattle.worker_parts.specs.Outlets.{are_used}
 use Rattle.run_ends.specs.Shutting.{AreNew, Shutting}
 use Rattle.router_run.specs.Wiring.{AreForwarding, AreWorking, IsCrew, IsReceivingAt}
 use Rattle.run_pipes.specs.Piping.{Piping}
-use Rattle.run_pipes.specs.Pipes.{Keepers, piping_of}
+use Rattle.run_pipes.specs.Pipes.{piping_of}
+use Rattle.run_pipes.specs.declared.pipes.Pipes.{Pipes}
 use Rattle.run_workers.specs.Kits.{Entry, Exit, IsEnteringAt, IsLeavingAt, IsWorkingAt, IsWorkingThere, forwarding_over, forwardings, paired, receiving_over, receivings}
 use Rattle.router_run.specs.BareWorkers.{AreBareWorkers}
 use Rattle.router_run.specs.Run.{Run}
@@ -105,22 +106,22 @@ module _ {G : Type 0} (c : Config) (p : Piping) where
         working_at (i + 1) ss ws all.1 (omega arith) (λ j x got. let e : i + suc j ≡ i + 1 + j = omega arith in subst (λ (k : ℕ). slice_get p.inner k ≡ Some x) e (at (suc j) x got)),
       )
 
-pub is_crew : {S G K : Type 0} (failed : K → ℕ) (c : Config) (k : Keepers) (es : List Entry) (ws : List (Working G)) (a : Answering) (xs : List Exit) (hs : List (Shutting (Outgoing kinds))) (gs : List (Sender (List ℕ))) (ss : List S) (ks : List K)
+pub is_crew : {N S G K : Type 0} (failed : K → ℕ) (c : Config) (k : Pipes N) (es : List Entry) (ws : List (Working G)) (a : Answering) (xs : List Exit) (hs : List (Shutting (Outgoing kinds))) (gs : List (Sender (List ℕ))) (ss : List S) (ks : List K)
     → AreBareWorkers c k es ws a xs hs gs → length ss ≡ link_count c → length ks ≡ link_count c → IsCrew c (piping_of k) (crew_of (receivings es ss) ws (a ∷ []) (forwardings failed xs ks) hs)
 is_crew failed c k es ws a xs hs gs ss ks m sources sinks =
     let p = piping_of k in
     let entries : length es ≡ link_count c = let q = m.entering.count in omega arith in
-    let exits : length xs ≡ link_count c = let q = m.leaving.count in omega arith in
-    let works : length ws ≡ c.processors = let q = m.working.count in omega arith in
+    let exits : length xs ≡ link_count c = let q = m.after.leaving.count in omega arith in
+    let works : length ws ≡ c.processors = let q = m.after.working.count in omega arith in
     record {
-      pipes = m.pipes_are;
+      pipes = m.made.piping;
       receivers = receivings_at c p 0 es ss m.entering.each (sources ∙ sym entries);
       receiver_count = paired_long receiving_over es ss (sources ∙ sym entries) ∙ entries;
-      processors = working_at c p 0 p.inner ws m.working.each (works ∙ sym m.pipes_are.processors) (λ j s got. let z : j ≡ 0 + j = omega arith in subst (λ (i : ℕ). slice_get p.inner i ≡ Some s) z got);
-      slow = m.answering;
-      forwarders = forwardings_at failed c p 0 p.outer xs ks m.leaving.each (let q = m.pipes_are.links in omega arith) (sinks ∙ sym exits) (λ j s got. let z : j ≡ 2 * 0 + j = omega arith in subst (λ (i : ℕ). slice_get p.outer i ≡ Some s) z got);
-      shutters = shutters_of_new (are_used c) (fresh_ends (c.processors + 1) p.outer) hs m.shutting (c.processors + 1) p.outer (fresh_are (Outgoing kinds) (c.processors + 1) p.outer);
-      unended = new_open (are_used c) 0 (fresh_ends (c.processors + 1) p.outer) hs m.shutting;
+      processors = working_at c p 0 p.inner ws m.after.working.each (works ∙ sym m.made.piping.processors) (λ j s got. let z : j ≡ 0 + j = omega arith in subst (λ (i : ℕ). slice_get p.inner i ≡ Some s) z got);
+      slow = m.after.answering;
+      forwarders = forwardings_at failed c p 0 p.outer xs ks m.after.leaving.each (let q = m.made.piping.links in omega arith) (sinks ∙ sym exits) (λ j s got. let z : j ≡ 2 * 0 + j = omega arith in subst (λ (i : ℕ). slice_get p.outer i ≡ Some s) z got);
+      shutters = shutters_of_new (are_used c) (fresh_ends (c.processors + 1) p.outer) hs m.after.shutting (c.processors + 1) p.outer (fresh_are (Outgoing kinds) (c.processors + 1) p.outer);
+      unended = new_open (are_used c) 0 (fresh_ends (c.processors + 1) p.outer) hs m.after.shutting;
     }
 
 -- the same crew, by other lists of the same workers
@@ -157,6 +158,6 @@ starts failed a b ss ks (Ok x) e one ran = subst (λ (c : Config). Begins failed
 starts {S = S} {K = K} failed a b ss ks (Err f) e one ran = subst (λ (x : StartFault S K). GivesBack (link_count b) x ss ks) (sym ran) one
 
 -- what stands ready, by another name of its configuration
-pub parts_as : {G : Type 0} (a b : Config) (k : Keepers) (es : List Entry) (ws : List (Working G)) (s : Answering) (xs : List Exit) (hs : List (Shutting (Outgoing kinds))) (gs : List (Sender (List ℕ)))
+pub parts_as : {N G : Type 0} (a b : Config) (k : Pipes N) (es : List Entry) (ws : List (Working G)) (s : Answering) (xs : List Exit) (hs : List (Shutting (Outgoing kinds))) (gs : List (Sender (List ℕ)))
     → a ≡ b → AreBareWorkers b k es ws s xs hs gs → AreBareWorkers a k es ws s xs hs gs
 parts_as a b k es ws s xs hs gs e are = subst (λ (c : Config). AreBareWorkers c k es ws s xs hs gs) (sym e) are

@@ -6,9 +6,7 @@ use Rattle.order_laws.specs.Item.{Arrival, Outgoing}
 use Rattle.order_laws.specs.Settled.{SlowPathRequest}
 use Rattle.process_packet.specs.declared.config.Config.{Config}
 use Rattle.process_packet.specs.declared.totals.Totals.{Totals}
-use Rattle.ruled_pipe.specs.Producer.{Sender}
 use Rattle.ruled_pipe.specs.Consumer.{Taker}
-use Rattle.ruled_pipe.specs.Pipe.{Shape, shape_of}
 use Rattle.worker_order.specs.Heard.{Heard}
 use Rattle.worker_order.specs.Returned.{ForwarderBack, ProcessorBack, ReceiverBack, RunsAsTold, shares_of}
 use Rattle.worker_order.specs.Totals.{totals_of}
@@ -22,16 +20,15 @@ use Rattle.worker_parts.specs.Back.{AreBack}
 use Rattle.order_laws.specs.Deeds.{Each}
 use Rattle.router_stages.specs.Working.{Working}
 use Rattle.worker_parts.specs.Told.{Told, told_of}
-use Rattle.run_ends.specs.Finished.{AreDone, AreReady, HaveFinished, IsReady}
+use Rattle.run_ends.specs.Finished.{HaveFinished}
 use Rattle.run_ends.specs.Settled.{AreSettled, IsDone, IsEnded}
-use Rattle.run_ends.proofs.TakenBackLemmas.{all_ready, settled_rows}
 use Rattle.run_report.specs.Parting.{HasEnds, HasKept, IsParted, shares_in}
 use Rattle.router_run.proofs.Devices.{any, without_devices}
 use Rattle.router_run.specs.Back.{HasSettled, back_of, forwarder_back, processor_back, receiver_back, IsBack}
-use Rattle.run_report.specs.Crew.{Crew, inner_rows, inner_takers, middle_row, middle_takers, outer_rows, takers_of}
+use Rattle.run_report.specs.Crew.{Crew, inner_rows, middle_row, outer_rows}
 use Rattle.router_run.specs.Wiring.{IsCrew}
 use Rattle.run_pipes.specs.Piping.{Piping}
-use Rattle.run_pipes.specs.Pipes.{HaveBack, Keepers}
+use Rattle.run_pipes.specs.declared.pipes.Pipes.{Pipes}
 use Rattle.run_report.specs.Room.{HaveSpace, Space}
 use Rattle.router_run.specs.Run.{RouterHasRun, Run}
 use Rattle.router_run.specs.BareWorkers.{AllMade}
@@ -57,32 +54,21 @@ the_slow p links processors w ends = one_of w.slow ends.slow.1
 
 module _ {S G K : Type 0} where
   -- the pipes can be settled, and then are
-  module _ (w : Crew S G K) (inner : List (Taker (Arrival kinds))) (middle : Taker (SlowPathRequest kinds)) (outer : List (Taker (Outgoing kinds))) (parted : IsParted w inner middle outer)
-      (p : Piping) (k : Keepers) (back : HaveBack (inner_rows w) (middle_row w) (outer_rows w) p k) where
-    pub inner_ready : PipesEnd p w → AreReady k.inner inner
-    inner_ready ends = all_ready (inner_rows w) k.inner inner
-        (subst (λ (ss : List Shape). HaveFinished ss (inner_rows w) inner) (sym (ap (λ (q : Piping). q.inner) back.piping)) (subst (λ (ts : List (Taker (Arrival kinds))). HaveFinished p.inner (inner_rows w) ts) (sym parted.inner_are) ends.inner))
-        back.inner back.inner_made
+  module _ (w : Crew S G K) (inner : List (Taker (Arrival kinds))) (middle : Taker (SlowPathRequest kinds)) (outer : List (Taker (Outgoing kinds))) (parted : IsParted w inner middle outer) (p : Piping) (a : Answering) (one : w.slow ≡ a ∷ []) where
+    pub ready : PipesEnd p w → HaveFinished p.inner (inner_rows w) inner × IsEnded true p.middle (middle_row w) middle × HaveFinished p.outer (outer_rows w) outer
+    ready ends = (
+      subst (λ (ts : List (Taker (Arrival kinds))). HaveFinished p.inner (inner_rows w) ts) (sym parted.inner_are) ends.inner,
+      ends.middle middle (ap (map (λ (x : Answering). x.taker)) one ∙ ap (λ (t : Taker (SlowPathRequest kinds)). t ∷ []) (sym (parted.middle_is a one))),
+      subst (λ (ts : List (Taker (Outgoing kinds))). HaveFinished p.outer (outer_rows w) ts) (sym parted.outer_are) ends.outer,
+    )
 
-    pub outer_ready : PipesEnd p w → AreReady k.outer outer
-    outer_ready ends = all_ready (outer_rows w) k.outer outer
-        (subst (λ (ss : List Shape). HaveFinished ss (outer_rows w) outer) (sym (ap (λ (q : Piping). q.outer) back.piping)) (subst (λ (ts : List (Taker (Outgoing kinds))). HaveFinished p.outer (outer_rows w) ts) (sym parted.outer_are) ends.outer))
-        back.outer back.outer_made
-
-    pub middle_ready : (a : Answering) → w.slow ≡ a ∷ [] → PipesEnd p w → IsReady k.middle middle
-    middle_ready a one ends =
-        let at : middle_takers w ≡ middle ∷ [] = ap (map (λ (x : Answering). x.taker)) one ∙ ap (λ (t : Taker (SlowPathRequest kinds)). t ∷ []) (sym (parted.middle_is a one)) in
-        (back.middle_made, (true, subst (λ (s : Shape). IsEnded true s k.middle.senders middle) (sym (ap (λ (q : Piping). q.middle) back.piping)) (subst (λ (row : List (Sender (SlowPathRequest kinds))). IsEnded true p.middle row middle) (sym back.middle) (ends.middle middle at))))
-
-    pub settled : (a : Answering) → w.slow ≡ a ∷ [] → AreDone k.inner inner → IsDone (shape_of k.middle) k.middle.senders middle → AreDone k.outer outer → HasSettled p w
-    settled a one si sm so = record {
-      inner = subst (λ (ts : List (Taker (Arrival kinds))). AreSettled 0 (inner_rows w) p.inner ts) parted.inner_are
-          (subst (λ (ss : List Shape). AreSettled 0 (inner_rows w) ss inner) (ap (λ (q : Piping). q.inner) back.piping) (settled_rows (inner_rows w) 0 k.inner inner back.inner si));
+    pub settled : AreSettled 0 (inner_rows w) p.inner inner × IsDone p.middle (middle_row w) middle × AreSettled 0 (outer_rows w) p.outer outer → HasSettled p w
+    settled done = record {
+      inner = subst (λ (ts : List (Taker (Arrival kinds))). AreSettled 0 (inner_rows w) p.inner ts) parted.inner_are done.0;
       middle = λ t at.
           let same : middle ≡ t = parted.middle_is a one ∙ (let e = ap (map (λ (x : Answering). x.taker)) (sym one) ∙ at in cc) in
-          subst (λ (u : Taker (SlowPathRequest kinds)). IsDone p.middle (middle_row w) u) same (subst (λ (row : List (Sender (SlowPathRequest kinds))). IsDone p.middle row middle) back.middle (subst (λ (s : Shape). IsDone s k.middle.senders middle) (ap (λ (q : Piping). q.middle) back.piping) sm));
-      outer = subst (λ (ts : List (Taker (Outgoing kinds))). AreSettled 0 (outer_rows w) p.outer ts) parted.outer_are
-          (subst (λ (ss : List Shape). AreSettled 0 (outer_rows w) ss outer) (ap (λ (q : Piping). q.outer) back.piping) (settled_rows (outer_rows w) 0 k.outer outer back.outer so));
+          subst (λ (u : Taker (SlowPathRequest kinds)). IsDone p.middle (middle_row w) u) same done.1;
+      outer = subst (λ (ts : List (Taker (Outgoing kinds))). AreSettled 0 (outer_rows w) p.outer ts) parted.outer_are done.2;
     }
 
   -- as many shares as workers
@@ -148,7 +134,7 @@ module _ {S G K : Type 0} (told : S → Option (List Heard)) (shown : K → Opti
 pub crew_as : {S G K : Type 0} (a b : Config) (p : Piping) (w : Crew S G K) → a ≡ b → IsCrew b p w → IsCrew a p w
 crew_as a b p w e is = subst (λ (c : Config). IsCrew c p w) (sym e) is
 
-pub all_made_as : (a b : Config) (p : Piping) (k : Keepers) → a ≡ b → AllMade b p k → AllMade a p k
+pub all_made_as : {N : Type 0} (a b : Config) (p : Piping) (k : Pipes N) → a ≡ b → AllMade b p k → AllMade a p k
 all_made_as a b p k e made = subst (λ (c : Config). AllMade c p k) (sym e) made
 
 pub space_as : (a b : Config) (r : Space) → a ≡ b → HaveSpace (link_count b) b.processors r → HaveSpace (link_count a) a.processors r

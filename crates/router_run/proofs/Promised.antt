@@ -1,17 +1,12 @@
 -- What is promised of a run, by what its workers came back with.
-use Rattle.std.proofs.Common.{◌≡◌, ◌⊎◌, inl, inr, ℕ, zero, suc, Bool, List, [], ◌∷◌, map, Option, Some, slice_get, refl, sym, ◌∙◌, ap, subst}
+use Rattle.std.proofs.Common.{◌≡◌, ℕ, zero, suc, List, [], ◌∷◌, map, Option, slice_get, refl, sym, ◌∙◌, ap, subst}
 use Rattle.packet_ledger.specs.Share.{forwarded}
-use Rattle.order_laws.specs.Deeds.{Each}
-use Rattle.order_laws.specs.Cause.{Cause}
-use Rattle.order_laws.specs.Fate.{Fate}
-use Rattle.order_laws.proofs.Stages.{each_map}
 use Rattle.process_packet.specs.declared.config.Config.{Config}
 use Rattle.process_packet.specs.declared.totals.Totals.{Totals}
 use Rattle.worker_order.specs.Heard.{Heard, TellsOf}
 use Rattle.worker_order.specs.Returned as returned
 use Rattle.worker_order.specs.Totals.{totals_of}
 use Rattle.router_rules.specs.Links.{interface_at}
-use Rattle.router_rules.specs.Rules.{kinds}
 use Rattle.router_stages.specs.Answering.{Answering}
 use Rattle.router_stages.specs.Forwarding.{Forwarding}
 use Rattle.router_stages.specs.Receiving.{Receiving}

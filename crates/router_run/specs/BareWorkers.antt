@@ -7,26 +7,33 @@ use Rattle.router_stages.specs.Answering.{Answering}
 use Rattle.router_stages.specs.Working.{Working}
 use Rattle.ruled_pipe.specs.Producer.{Sender}
 use Rattle.run_ends.specs.Rows.{fresh_ends}
-use Rattle.run_ends.specs.Opened.{shapes_of}
 use Rattle.run_ends.specs.Shutting.{AreNew, Shutting}
 use Rattle.router_rules.specs.Links.{link_count}
 use Rattle.worker_parts.specs.Outlets.{are_used}
 use Rattle.run_workers.specs.Kits.{Entry, Exit, IsAnsweringAt, IsEnteringAt, IsLeavingAt, IsWorkingThere}
 use Rattle.run_pipes.specs.Filling.{AreFilled}
-use Rattle.run_pipes.specs.Piping.{IsPiping, Piping}
-use Rattle.run_pipes.specs.Pipes.{HaveMade, Keepers, piping_of}
+use Rattle.run_pipes.specs.Piping.{Piping}
+use Rattle.run_pipes.specs.Pipes.{HaveMade, piping_of}
+use Rattle.run_pipes.specs.declared.pipes.Pipes.{Pipes}
 use Rattle.run_pipes.specs.Rest.{IsRest}
 
 -- every worker, the controller and whoever fills the pipes of free buffers got their ends
-abbrev pub AllMade : Config → Piping → Keepers → Type 0
-AllMade c p k = HaveMade (link_count c) c.processors (c.processors + 2) (c.processors + 2 + link_count c) p k
+abbrev pub AllMade : {N : Type 0} → Config → Piping → Pipes N → Type 0
+AllMade c p k = HaveMade c (link_count c) c.processors (c.processors + 2) (c.processors + 2 + link_count c) p k
 
-pub record AreBareWorkers {G : Type 0} (c : Config) (k : Keepers) (receivers : List Entry) (processors : List (Working G)) (slow : Answering) (forwarders : List Exit) (shutters : List (Shutting (Outgoing kinds))) (fillers : List (Sender (List ℕ))) : Type 0 where
-  pub pipes_are : IsPiping c (piping_of k)
-  pub made : AllMade c (piping_of k) k
-  pub entering : IsRest (IsEnteringAt c (piping_of k)) 0 (link_count c) receivers
-  pub working : IsRest (IsWorkingThere c (piping_of k)) 0 c.processors processors
-  pub answering : IsAnsweringAt c (piping_of k) slow
-  pub leaving : IsRest (IsLeavingAt c (piping_of k)) 0 (link_count c) forwarders
-  pub shutting : AreNew (are_used c) 0 (fresh_ends (c.processors + 1) (shapes_of k.outer)) shutters
-  pub filled : AreFilled (c.processors + 1 + link_count c) (c.buffers - 1) (shapes_of k.free) fillers
+-- the workers after the receivers, and the controller's ends
+pub record AreAfterReceivers {G : Type 0} (c : Config) (p : Piping) (processors : List (Working G)) (slow : Answering) (forwarders : List Exit) (shutters : List (Shutting (Outgoing kinds))) : Type 0 where
+  pub working : IsRest (IsWorkingThere c p) 0 c.processors processors
+  pub answering : IsAnsweringAt c p slow
+  pub leaving : IsRest (IsLeavingAt c p) 0 (link_count c) forwarders
+  pub shutting : AreNew (are_used c) 0 (fresh_ends (c.processors + 1) p.outer) shutters
+
+-- all over these pipes
+pub record AreOver {N G : Type 0} (p : Piping) (c : Config) (k : Pipes N) (receivers : List Entry) (processors : List (Working G)) (slow : Answering) (forwarders : List Exit) (shutters : List (Shutting (Outgoing kinds))) (fillers : List (Sender (List ℕ))) : Type 0 where
+  pub made : AllMade c p k
+  pub entering : IsRest (IsEnteringAt c p) 0 (link_count c) receivers
+  pub after : AreAfterReceivers c p processors slow forwarders shutters
+  pub filled : AreFilled (c.processors + 1 + link_count c) (c.buffers - 1) p.free fillers
+
+abbrev pub AreBareWorkers : {N G : Type 0} → Config → Pipes N → List Entry → List (Working G) → Answering → List Exit → List (Shutting (Outgoing kinds)) → List (Sender (List ℕ)) → Type 0
+AreBareWorkers c k receivers processors slow forwarders shutters fillers = AreOver (piping_of k) c k receivers processors slow forwarders shutters fillers

@@ -1,19 +1,13 @@
 //! The pipes, and all workers but for their devices.
 
-ghost use Rattle.std.specs.Prelude.{◌≡◌, ◌+◌, ◌*◌, IfOk, Some, [], length};
+ghost use Rattle.std.specs.Prelude.{◌≡◌, ◌+◌, ◌*◌, IfOk, Some};
 ghost use Rattle.std.specs.Arc.{arc_value};
-ghost use Rattle.ruled_pipe.specs.Pipe.{IsTakerOf, shape_of};
-ghost use Rattle.run_ends.specs.Rows.{fresh_ends, new_takers};
-ghost use Rattle.run_ends.specs.Opened.{shapes_of};
-ghost use Rattle.run_ends.specs.Shutting.{AreNew};
+ghost use Rattle.run_ends.specs.Rows.{new_takers, taker_of};
 ghost use Rattle.router_rules.specs.Links.{link_count};
-ghost use Rattle.worker_parts.specs.Outlets.{are_used};
-ghost use Rattle.run_workers.specs.Kits.{IsAnsweringAt, IsLeavingAt, IsWorkingThere};
 ghost use Rattle.run_workers.specs.Shares.{AreNewShares};
-ghost use Rattle.run_pipes.specs.Piping.{IsPiping};
-ghost use Rattle.run_pipes.specs.Pipes.{HaveMade, piping_of};
-ghost use Rattle.run_pipes.specs.Rest.{IsRest};
-ghost use Rattle.router_run.specs.BareWorkers.{AreBareWorkers};
+ghost use Rattle.run_pipes.specs.Piping.{Piping};
+ghost use Rattle.run_pipes.specs.Pipes.{HaveForwarders, HaveProcessors};
+ghost use Rattle.router_run.specs.BareWorkers.{AreAfterReceivers, AreBareWorkers};
 
 use packet_ledger::Share;
 use router_rules::link_count;
@@ -26,7 +20,7 @@ use run_workers::{
 };
 use std::alloc::{AllocError, Global};
 use std::sync::{Arc, Wait};
-use worker_parts::{Buffer, EgressPacket, Gate, Packet, RunBrand, SlowPathRequest, both};
+use worker_parts::{Buffer, EgressPacket, Gate, Packet, RunBrand, SlowPathRequest};
 
 /// The pipes, what the workers are made of, before any device is taken, and the ends that filled the pipes of
 /// free buffers.
@@ -61,27 +55,17 @@ fn after_receivers<N: RunBrand, G: Gate + Drop>(
     shares: &mut Line<Share<N>>,
 ) -> Result<AfterReceivers<N, G>, AllocError>
     requires config { N.config ≡ Some (arc_value common.now.shared).config }
-    requires piping { IsPiping (arc_value common.now.shared).config (piping_of pipes.old) }
-    requires made { HaveMade (link_count (arc_value common.now.shared).config) 0 0 0 (piping_of pipes.old) pipes.old }
-    requires packets { packets.items ≡ new_takers (shapes_of pipes.old.inner) }
-    requires requests { IsTakerOf (shape_of pipes.old.middle) requests × (requests.taken ≡ []) }
-    requires egress_packets { egress_packets.items ≡ new_takers (shapes_of pipes.old.outer) }
+    requires pipes { (p : Piping) × HaveProcessors (arc_value common.now.shared).config 0 p pipes.old × (packets.items ≡ new_takers p.inner) × (requests ≡ taker_of p.middle) × (egress_packets.items ≡ new_takers p.outer) }
     requires shares { AreNewShares ((arc_value common.now.shared).config.processors + 1 + link_count (arc_value common.now.shared).config) shares.old }
-    ensures pipes { IfOk result (λ _. HaveMade (link_count (arc_value common.now.shared).config) (arc_value common.now.shared).config.processors ((arc_value common.now.shared).config.processors + 2) ((arc_value common.now.shared).config.processors + 1 + link_count (arc_value common.now.shared).config) (piping_of pipes.old) pipes.new) }
-    ensures working { IfOk result (λ a. IsRest (IsWorkingThere (arc_value common.now.shared).config (piping_of pipes.old)) 0 (arc_value common.now.shared).config.processors a.processors.items) }
-    ensures answering { IfOk result (λ a. IsAnsweringAt (arc_value common.now.shared).config (piping_of pipes.old) a.slow) }
-    ensures leaving { IfOk result (λ a. IsRest (IsLeavingAt (arc_value common.now.shared).config (piping_of pipes.old)) 0 (link_count (arc_value common.now.shared).config) a.forwarders.items) }
-    ensures shutting { IfOk result (λ a. AreNew (are_used (arc_value common.now.shared).config) 0 (fresh_ends ((arc_value common.now.shared).config.processors + 1) (shapes_of pipes.old.outer)) a.shutters.items) }
+    ensures { let c = (arc_value common.now.shared).config in IfOk result (λ a. (p : Piping) → HaveProcessors c 0 p pipes.old → packets.items ≡ new_takers p.inner → requests ≡ taker_of p.middle → egress_packets.items ≡ new_takers p.outer → HaveForwarders c (link_count c) p pipes.new × AreAfterReceivers c p a.processors.items a.slow a.forwarders.items a.shutters.items) }
 {
     // At most 33, which bounds the controller's ends.
     let _ = link_count(&common.shared.config);
     let gate = Arc::new(alloc, gate)?;
     let processors = processors_of(alloc, common, &gate, pipes, packets, shares)?;
     let slow = slow_path_of(alloc, common, pipes, requests, shares.next())?;
-    let ends = pipes.link_ends(alloc)?;
-    let closing = shutters(alloc, &common.shared, ends);
-    let leaving = all_leaving(alloc, common, pipes, egress_packets, shares);
-    let (forwarders, shutters) = both(leaving, closing)?;
+    let shutters = shutters(alloc, &common.shared, &mut pipes.outer)?;
+    let forwarders = all_leaving(alloc, common, pipes, egress_packets, shares)?;
     Ok(AfterReceivers {
         processors,
         slow,
@@ -121,10 +105,9 @@ pub fn make_all<N: RunBrand, G: Gate + Drop, R: Wait>(
         egress_packets,
         &mut shares,
     )?;
-    let ends = pipes.free_ends(alloc)?;
     // A receiver begins with the one that is left.
     let buffers = common.shared.config.buffers as usize - 1;
-    let fillers = fill(rt, alloc, ends, buffers)?;
+    let fillers = fill(rt, alloc, &mut pipes.free, buffers)?;
     Ok(BareWorkers {
         receivers,
         processors: after.processors,

@@ -1,4 +1,3 @@
-pub mod Lists
 pub mod OpenedLemmas
 pub mod SettledLemmas
 pub mod ShuttingLemmas

@@ -1,62 +1,54 @@
 -- Pipes and their producers, one more at a time.
-use Rattle.std.proofs.Common.{◌≡◌, ℕ, zero, suc, ◌+◌, ◌<◌, List, [], ◌∷◌, ◌++◌, length, map, slice_get, slice_set, slice_index_or, Some, refl, sym, ap, subst, ◌∙◌, arith}
+use Rattle.std.proofs.Common.{◌≡◌, ℕ, zero, suc, ◌+◌, ◌<◌, List, [], ◌∷◌, ◌++◌, length, map, slice_get, slice_set, slice_index_or, Some, refl, sym, ap, subst, ◌∙◌, arith, length-append}
+use Rattle.std.proofs.lemmas.List.{map-append}
 use Rattle.ruled_pipe.specs.Producer.{Sender, new_sender}
 use Rattle.ruled_pipe.specs.Consumer.{Taker, new_taker}
 use Rattle.ruled_pipe.specs.Pipe.{Keeping, Shape, one_made, shape_of}
-use Rattle.run_ends.specs.Rows.{AreFor, AreWide, AreWideAs, fresh_ends, new_takers}
-use Rattle.run_ends.specs.Opened.{AreMade, AreNewPipes, HaveNext, IsNewPipe, minted, minted_ends, next_end, shapes_of}
+use Rattle.run_ends.specs.Rows.{AreFor, AreWideAs, fresh_ends, new_takers}
+use Rattle.run_ends.specs.Opened.{AreMadeOf, AreNewPipes, made_pipe, made_pipes, minted, minted_ends, next_end}
 
-pub ends_long : (T : Type 0) (os : List (Keeping T)) (k : ℕ) → k < length os + 1 → length (minted_ends {T = T} k os) ≡ k
-ends_long T os zero lt = refl
-ends_long T [] (suc k) lt = absurd (omega arith)
-ends_long T (o ∷ os) (suc k) lt = ap suc (ends_long T os k (omega arith))
+for_more : (n : ℕ) (ss : List Shape) (s : Shape) → AreFor n ss → s.producers ≡ n → AreFor n (ss ++ s ∷ [])
+for_more n [] s all is = (is, tt)
+for_more n (t ∷ ss) s all is = (all.0, for_more n ss s all.1 is)
 
--- all pipes hold as many
-pub wide : (capacity k : ℕ) (ss : List Shape) → AreWideAs (λ _. capacity) k ss → AreWide capacity ss
-wide capacity k [] w = tt
-wide capacity k (s ∷ ss) w = (w.0, wide capacity (suc k) ss w.1)
+wide_more : (f : ℕ → ℕ) (k : ℕ) (ss : List Shape) (s : Shape) → AreWideAs f k ss → s.capacity ≡ f (k + length ss) → AreWideAs f k (ss ++ s ∷ [])
+wide_more f k [] s all is = let z : k + 0 ≡ k = omega arith in (is ∙ ap f z, tt)
+wide_more f k (t ∷ ss) s all is = let z : k + suc (length ss) ≡ suc k + length ss = omega arith in (all.0, wide_more f (suc k) ss s all.1 (is ∙ ap f z))
+
+module _ {X Y : Type 0} (makes : ℕ → X → Y → Type 0) where
+  pub made_of_more : (k : ℕ) (xs : List X) (ys : List Y) (x : X) (y : Y) → AreMadeOf makes k xs ys → makes (k + length ys) x y → AreMadeOf makes k (xs ++ x ∷ []) (ys ++ y ∷ [])
+  made_of_more k [] [] x y all is = let z : k + 0 ≡ k = omega arith in (subst (λ (j : ℕ). makes j x y) z is, tt)
+  made_of_more k [] (b ∷ ys) x y all is = absurd all
+  made_of_more k (a ∷ xs) [] x y all is = absurd all
+  made_of_more k (a ∷ xs) (b ∷ ys) x y all is =
+      let z : k + suc (length ys) ≡ suc k + length ys = omega arith in (all.0, made_of_more (suc k) xs ys x y all.1 (subst (λ (j : ℕ). makes j x y) z is))
+
+pub same_ends : {X : Type 0} (k : ℕ) (xs ys : List X) → AreMadeOf (λ _ x y. y ≡ x) k xs ys → ys ≡ xs
+same_ends k [] [] all = refl
+same_ends k [] (y ∷ ys) all = absurd all
+same_ends k (x ∷ xs) [] all = absurd all
+same_ends {X = X} k (x ∷ xs) (y ∷ ys) all = ap (λ (z : X). z ∷ ys) all.0 ∙ ap (λ (zs : List X). x ∷ zs) (same_ends (suc k) xs ys all.1)
 
 module _ {T : Type 0} where
   -- ---- new pipes
 
-  pub open_more : (f : ℕ → ℕ) (n k c : ℕ) (os : List (Keeping T)) (ts : List (Taker T)) (o : Keeping T) (t : Taker T) → AreNewPipes f n k os ts → IsNewPipe n c o t → c ≡ f (k + length os) → AreNewPipes f n k (os ++ o ∷ []) (ts ++ t ∷ [])
-  open_more f n k c [] [] o t all is at =
-      let z : k + 0 ≡ k = omega arith in
-      let e : c ≡ f k = at ∙ ap f z in
-      (subst (λ (m : ℕ). IsNewPipe n m o t) e is, tt)
-  open_more f n k c [] (u ∷ ts) o t all is at = absurd all
-  open_more f n k c (p ∷ os) [] o t all is at = absurd all
-  open_more f n k c (p ∷ os) (u ∷ ts) o t all is at = let z : k + suc (length os) ≡ suc k + length os = omega arith in (all.0, open_more f n (suc k) c os ts o t all.1 is (at ∙ ap f z))
-
-  pub open_none : (f : ℕ → ℕ) (n : ℕ) (os : List (Keeping T)) (ts : List (Taker T)) → os ≡ [] → ts ≡ [] → AreNewPipes f n 0 os ts
-  open_none f n os ts a b = subst (λ (l : List (Keeping T)). AreNewPipes f n 0 l ts) (sym a) (subst (λ (l : List (Taker T)). AreNewPipes f n 0 [] l) (sym b) tt)
-
-  pub new_made : (f : ℕ → ℕ) (n k : ℕ) (os : List (Keeping T)) (ts : List (Taker T)) → AreNewPipes f n k os ts → AreMade 0 os
-  new_made f n k [] [] all = tt
-  new_made f n k [] (t ∷ ts) all = absurd all
-  new_made f n k (o ∷ os) [] all = absurd all
-  new_made f n k (o ∷ os) (t ∷ ts) all = ((all.0.0, all.0.1), new_made f n (suc k) os ts all.1)
-
-  pub new_for : (f : ℕ → ℕ) (n k : ℕ) (os : List (Keeping T)) (ts : List (Taker T)) → AreNewPipes f n k os ts → AreFor n (shapes_of os)
-  new_for f n k [] [] all = tt
-  new_for f n k [] (t ∷ ts) all = absurd all
-  new_for f n k (o ∷ os) [] all = absurd all
-  new_for f n k (o ∷ os) (t ∷ ts) all = (all.0.2, new_for f n (suc k) os ts all.1)
-
-  pub new_wide : (f : ℕ → ℕ) (n k : ℕ) (os : List (Keeping T)) (ts : List (Taker T)) → AreNewPipes f n k os ts → AreWideAs f k (shapes_of os)
-  new_wide f n k [] [] all = tt
-  new_wide f n k [] (t ∷ ts) all = absurd all
-  new_wide f n k (o ∷ os) [] all = absurd all
-  new_wide f n k (o ∷ os) (t ∷ ts) all = (all.0.3, new_wide f n (suc k) os ts all.1)
-
-  pub new_taken : (f : ℕ → ℕ) (n k : ℕ) (os : List (Keeping T)) (ts : List (Taker T)) → AreNewPipes f n k os ts → ts ≡ new_takers (shapes_of os)
-  new_taken f n k [] [] all = refl
-  new_taken f n k [] (t ∷ ts) all = absurd all
-  new_taken f n k (o ∷ os) [] all = absurd all
-  new_taken f n k (o ∷ os) (t ∷ ts) all =
-      let one : t ≡ new_taker o.pipe o.producers o.capacity =
-      all.0.4 ∙ (ap (λ (m : ℕ). new_taker o.pipe m (f k)) (sym all.0.2) ∙ ap (λ (c : ℕ). new_taker o.pipe o.producers c) (sym all.0.3)) in
-      ap (λ (u : Taker T). u ∷ ts) one ∙ ap (λ (us : List (Taker T)). new_taker o.pipe o.producers o.capacity ∷ us) (new_taken f n (suc k) os ts all.1)
+  pub open_more : (f : ℕ → ℕ) (n k c : ℕ) (os : List (Keeping T)) (ts : List (Taker T)) (o : Keeping T) (t : Taker T) → AreNewPipes f n k os ts
+      → o.made ≡ 0 → o.senders ≡ [] → o.producers ≡ n → o.capacity ≡ c → t ≡ new_taker o.pipe n c → c ≡ f k → AreNewPipes f n (k + 1) (os ++ o ∷ []) (ts ++ t ∷ [])
+  open_more f n k c os ts o t new made none for wide taker at =
+      let ss = new.shapes in
+      let s : Shape = shape_of o in
+      let pipe : o ≡ made_pipe 0 s =
+      ap (λ (m : ℕ). record { pipe = o.pipe; producers = o.producers; capacity = o.capacity; made = m; senders = o.senders }) made
+      ∙ ap (λ (l : List (Sender T)). record { pipe = o.pipe; producers = o.producers; capacity = o.capacity; made = 0; senders = l }) none in
+      let own : t ≡ new_taker o.pipe o.producers o.capacity = taker ∙ (ap (λ (m : ℕ). new_taker o.pipe m c) (sym for) ∙ ap (λ (m : ℕ). new_taker o.pipe o.producers m) (sym wide)) in
+      record {
+        shapes = ss ++ s ∷ [];
+        pipes = ap (λ (l : List (Keeping T)). l ++ o ∷ []) new.pipes ∙ (ap (λ (x : Keeping T). made_pipes 0 ss ++ x ∷ []) pipe ∙ sym (map-append (made_pipe 0) ss (s ∷ [])));
+        takers = ap (λ (l : List (Taker T)). l ++ t ∷ []) new.takers ∙ (ap (λ (x : Taker T). new_takers ss ++ x ∷ []) own ∙ sym (map-append (λ (x : Shape). new_taker x.pipe x.producers x.capacity) ss (s ∷ [])));
+        producers = for_more n ss s new.producers for;
+        wide = wide_more f 0 ss s new.wide (wide ∙ (at ∙ ap f (let l = new.counted in omega arith)));
+        counted = let l = new.counted in omega (arith, length-append ss (s ∷ []));
+      }
 
   -- ---- making
 
@@ -83,25 +75,30 @@ module _ {T : Type 0} where
   ends_next (o ∷ os) zero d lt = refl
   ends_next (o ∷ os) (suc k) d lt = ap (λ (l : List (Sender T)). next_end o ∷ l) (ends_next os k d (omega arith))
 
+  next_of : (k n : ℕ) (ss : List Shape) → AreFor n ss → k < n → (j : ℕ) (o : Keeping T) → slice_get (made_pipes k ss) j ≡ Some o → (o.made < o.producers) × (o.senders ≡ [])
+  next_of k n [] for lt j o at = cc
+  next_of k n (s ∷ ss) for lt zero o at =
+      let e : made_pipe k s ≡ o = cc in let b = for.0 in
+      let own : k < s.producers = omega arith in
+      subst (λ (x : Keeping T). (x.made < x.producers) × (x.senders ≡ [])) e (own, refl)
+  next_of k n (s ∷ ss) for lt (suc j) o at = next_of k n ss for.1 lt j o at
+
   -- each is to have one more
-  pub have_next : (k n : ℕ) (os : List (Keeping T)) → AreMade k os → AreFor n (shapes_of os) → k < n → HaveNext os
-  have_next k n [] made for lt j o at = cc
-  have_next k n (p ∷ os) made for lt zero o at =
-      let e : p ≡ o = cc in
-      let a = made.0.0 in let b = for.0 in
-      let own : p.made < p.producers = omega arith in
-      subst (λ (x : Keeping T). (x.made < x.producers) × (x.senders ≡ [])) e (own, made.0.1)
-  have_next k n (p ∷ os) made for lt (suc j) o at = have_next k n os made.1 for.1 lt j o at
+  pub have_next : (k n : ℕ) (ss : List Shape) (os : List (Keeping T)) → os ≡ made_pipes k ss → AreFor n ss → k < n → (j : ℕ) (o : Keeping T) → slice_get os j ≡ Some o → (o.made < o.producers) × (o.senders ≡ [])
+  have_next k n ss os is for lt j o at = next_of k n ss for lt j o (ap (λ (l : List (Keeping T)). slice_get l j) (sym is) ∙ at)
+
+  made_next : (k : ℕ) (ss : List Shape) → map one_made (made_pipes {T = T} k ss) ≡ made_pipes (k + 1) ss
+  made_next k [] = refl
+  made_next k (s ∷ ss) = ap (λ (l : List (Keeping T)). made_pipe (k + 1) s ∷ l) (made_next k ss)
+
+  fresh_next : (k : ℕ) (ss : List Shape) → map next_end (made_pipes {T = T} k ss) ≡ fresh_ends k ss
+  fresh_next k [] = refl
+  fresh_next k (s ∷ ss) = ap (λ (l : List (Sender T)). new_sender s.pipe k s.producers s.capacity ∷ l) (fresh_next k ss)
 
   -- once one more of each was made
-  pub row_made : (k : ℕ) (os : List (Keeping T)) → AreMade k os → AreMade (k + 1) (map one_made os)
-  row_made k [] made = tt
-  row_made k (o ∷ os) made = ((ap (λ (m : ℕ). m + 1) made.0.0, made.0.1), row_made k os made.1)
+  pub row_made : (k n : ℕ) (ss : List Shape) (os now : List (Keeping T)) → os ≡ made_pipes k ss → n ≡ length os → now ≡ minted n os → now ≡ made_pipes (k + 1) ss
+  row_made k n ss os now is all made = made ∙ (ap (λ (m : ℕ). minted m os) all ∙ (minted_all os ∙ (ap (map one_made) is ∙ made_next k ss)))
 
-  pub row_fresh : (k : ℕ) (os : List (Keeping T)) → AreMade k os → map next_end os ≡ fresh_ends k (shapes_of os)
-  row_fresh k [] made = refl
-  row_fresh k (o ∷ os) made = ap (λ (m : ℕ). new_sender o.pipe m o.producers o.capacity ∷ map next_end os) made.0.0 ∙ ap (λ (l : List (Sender T)). new_sender o.pipe k o.producers o.capacity ∷ l) (row_fresh k os made.1)
-
-  pub row_shapes : (os : List (Keeping T)) → shapes_of (map one_made os) ≡ shapes_of os
-  row_shapes [] = refl
-  row_shapes (o ∷ os) = ap (λ (l : List Shape). shape_of o ∷ l) (row_shapes os)
+  pub row_fresh : {Y : Type 0} (makes : ℕ → Sender T → Y → Type 0) (k n : ℕ) (ss : List Shape) (os : List (Keeping T)) (ys : List Y) → os ≡ made_pipes k ss → n ≡ length os → AreMadeOf makes 0 (minted_ends n os) ys → AreMadeOf makes 0 (fresh_ends k ss) ys
+  row_fresh makes k n ss os ys is all made =
+      subst (λ (es : List (Sender T)). AreMadeOf makes 0 es ys) (ap (λ (m : ℕ). minted_ends m os) all ∙ (ends_all os ∙ (ap (map next_end) is ∙ fresh_next k ss))) made

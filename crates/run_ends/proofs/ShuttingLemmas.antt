@@ -1,5 +1,5 @@
 -- The controller's ends.
-use Rattle.std.proofs.Common.{◌≡◌, ℕ, zero, suc, ◌+◌, ◌<◌, ◌≤◌, Bool, true, false, ◌||◌, List, [], ◌∷◌, ◌++◌, length, MatchBool, slice_get, slice_index_or, slice_set, refl, sym, ap, subst, ◌∙◌, arith, length-append}
+use Rattle.std.proofs.Common.{◌≡◌, ℕ, zero, suc, ◌+◌, ◌<◌, Bool, true, false, ◌||◌, List, [], ◌∷◌, ◌++◌, length, MatchBool, slice_get, slice_index_or, slice_set, refl, sym, ap, subst, ◌∙◌, arith}
 use Rattle.std.proofs.Math.Bool.{or-true}
 use Rattle.order_laws.specs.Deeds.{closes, has_mark, payload_of, payloads}
 use Rattle.ruled_pipe.specs.declared.entry.Entry.{Entry}
@@ -12,7 +12,7 @@ use Rattle.ruled_pipe.specs.Pipe.{Shape, IsEndOf}
 use Rattle.worker_laws.specs.Ends.{load_in, pushes}
 use Rattle.run_ends.specs.Rows.{AreEndsOf}
 use Rattle.run_ends.specs.Settled.{IsFinal, AreFinished}
-use Rattle.run_ends.specs.Shutting.{AreMarking, AreNew, AreUnended, AreShutters, Closes, ClosesAt, EachEnds, Ends, EndsUpTo, IsSameShutter, IsShutting, IsStill, PushMarks, Shutting, ShuttersFinish, closed_at, shutter_ends, shutting, tried}
+use Rattle.run_ends.specs.Shutting.{AreMarking, AreNew, AreUnended, AreShutters, Closes, ClosesAt, EachEnds, Ends, EndsUpTo, IsSameShutter, IsShutting, IsStill, PushMarks, Shutting, closed_at, shutter_ends, shutting, tried}
 
 module _ {X : Type 0} where
   index_set : (xs : List X) (at : ℕ) (d x : X) → at < length xs → slice_index_or (slice_set xs at x) at d ≡ x
@@ -123,26 +123,6 @@ module _ {T : Type 0} where
 
   -- ---- new ones
 
-  new_after : (uses : ℕ → Bool) (k : ℕ) (es : List (Sender T)) (hs : List (Shutting T)) (e : Sender T) (h : Shutting T) → AreNew uses k es hs → h ≡ shutting e (uses (k + length hs)) false false → AreNew uses k (es ++ e ∷ []) (hs ++ h ∷ [])
-  new_after uses k [] [] e h a is = let z : k + 0 ≡ k = omega arith in (is ∙ ap (λ (j : ℕ). shutting e (uses j) false false) z, tt)
-  new_after uses k [] (x ∷ hs) e h a is = absurd a
-  new_after uses k (x ∷ es) [] e h a is = absurd a
-  new_after uses k (x ∷ es) (y ∷ hs) e h a is =
-      let z : k + suc (length hs) ≡ suc k + length hs = omega arith in (a.0, new_after uses (suc k) es hs e h a.1 (is ∙ ap (λ (j : ℕ). shutting e (uses j) false false) z))
-
-  pub new_more : (uses : ℕ → Bool) (es : List (Sender T)) (hs : List (Shutting T)) (e : Sender T) (h : Shutting T) (used : Bool) → AreNew uses 0 es hs → used ≡ uses (length hs) → h ≡ shutting e used false false → AreNew uses 0 (es ++ e ∷ []) (hs ++ h ∷ [])
-  new_more uses es hs e h used a u is =
-      let z : length hs ≡ 0 + length hs = omega arith in new_after uses 0 es hs e h a (is ∙ ap (λ (b : Bool). shutting e b false false) (u ∙ ap uses z))
-
-  pub new_long : (uses : ℕ → Bool) (k : ℕ) (es : List (Sender T)) (hs : List (Shutting T)) → AreNew uses k es hs → length hs ≡ length es
-  new_long uses k [] [] a = refl
-  new_long uses k [] (h ∷ hs) a = absurd a
-  new_long uses k (e ∷ es) [] a = absurd a
-  new_long uses k (e ∷ es) (h ∷ hs) a = ap suc (new_long uses (suc k) es hs a.1)
-
-  pub new_none : (uses : ℕ → Bool) (hs : List (Shutting T)) → hs ≡ [] → AreNew uses 0 [] hs
-  new_none uses hs none = subst (λ (l : List (Shutting T)). AreNew uses 0 [] l) (sym none) tt
-
   pub new_open : (uses : ℕ → Bool) (k : ℕ) (es : List (Sender T)) (hs : List (Shutting T)) → AreNew uses k es hs → AreUnended hs
   new_open uses k [] [] a = tt
   new_open uses k [] (h ∷ hs) a = absurd a
@@ -223,10 +203,6 @@ module _ {T : Type 0} where
 
   -- ---- as they come back
 
-  pub marking_more : (hs : List (Shutting T)) (h : Shutting T) → AreMarking hs → IsShutting h → AreMarking (hs ++ h ∷ [])
-  marking_more [] h a is = (is, tt)
-  marking_more (x ∷ hs) h a is = (a.0, marking_more hs h a.1 is)
-
   pub push_marks : (hs : List (Shutting T)) → AreMarking hs → PushMarks hs
   push_marks [] a j s at = cc
   push_marks (x ∷ hs) a zero s at =
@@ -251,5 +227,6 @@ module _ {T : Type 0} where
         finished uses (suc k) p ss os ns a.1 e.1 m.1,
       )
 
-  pub shutters_finish : ShuttersFinish T
+  -- shutters that got their end marks have ended
+  pub shutters_finish : (uses : ℕ → Bool) (p : ℕ) (shapes : List Shape) (old new : List (Shutting T)) → AreShutters uses 0 p shapes old → EachEnds old new → AreMarking new → AreFinished uses 0 p shapes (shutter_ends new)
   shutters_finish uses p shapes old new a e m = finished uses 0 p shapes old new a e m

@@ -4,11 +4,12 @@ use Rattle.ruled_pipe.specs.Producer.{Sender}
 use Rattle.ruled_pipe.specs.Consumer.{Taker}
 use Rattle.ruled_pipe.specs.Pipe.{Keeping, Shape, IsEndOf, IsNext, shape_of, took_back}
 use Rattle.worker_laws.specs.Workers.{IsColumn}
+use Rattle.order_laws.specs.Deeds.{Each}
 use Rattle.run_ends.specs.Rows.{AreEndsOf, AreFor}
-use Rattle.run_ends.specs.Opened.{AreMade, shapes_of}
+use Rattle.run_ends.specs.Opened.{made_pipes}
 use Rattle.run_ends.specs.Settled.{IsFinal, AreFinished, AreOfPipe, AreTaken, AreSettled, IsDone}
 use Rattle.run_ends.specs.Finished.{AreRows, AreDone, AreReady, HaveFinished, IsReady}
-use Rattle.run_ends.specs.TakenBack.{AreAllMade, AreColumns, AreNext, after_row}
+use Rattle.run_ends.specs.TakenBack.{AreColumns, AreNext, HaveBack, after_row}
 
 -- ---- one more end, whatever holds it
 
@@ -58,15 +59,30 @@ module _ {X T : Type 0} (f : X → Sender T) where
       made ∙ (ap (λ (s : Sender T). took_back held s) own ∙ ap (λ (o : Keeping T). took_back o (f x)) (held_is xs os now at d held is here got)) in
       ap (λ (l : List (Keeping T)). slice_set l at new) is ∙ (ap (λ (k : ℕ). slice_set so k new) here ∙ (ap (λ (o : Keeping T). slice_set so (length xs) o) same ∙ after_next xs x os d lt))
 
+-- ---- before the first is back
+
+pub made_shapes : (T : Type 0) (n : ℕ) (ss : List Shape) → map shape_of (made_pipes {T = T} n ss) ≡ ss
+made_shapes T n [] = refl
+made_shapes T n (s ∷ ss) = ap (λ (l : List Shape). s ∷ l) (made_shapes T n ss)
+
+none_back : (T : Type 0) (n : ℕ) (ss : List Shape) → AreFor n ss → Each (λ (o : Keeping T). o.made ≡ o.producers) (made_pipes n ss) × ((j : ℕ) → AreColumns {T = T} j [] (made_pipes n ss))
+none_back T n [] for = (tt, λ j. tt)
+none_back T n (s ∷ ss) for =
+    let rest = none_back T n ss for.1 in
+    ((sym for.0, rest.0), λ j. (tt, rest.1 (suc j)))
+
 module _ {T : Type 0} where
   -- ---- one more row
 
-  pub after_shapes : (row : List (Sender T)) (os : List (Keeping T)) → AreNext row os → shapes_of (after_row row os) ≡ shapes_of os
+  after_shapes : (row : List (Sender T)) (os : List (Keeping T)) → AreNext row os → map shape_of (after_row row os) ≡ map shape_of os
   after_shapes [] os next = refl
   after_shapes (s ∷ row) [] next = absurd next
   after_shapes (s ∷ row) (o ∷ os) next = ap (λ (l : List Shape). shape_of o ∷ l) (after_shapes row os next.1)
 
-  pub after_made : (row : List (Sender T)) (os : List (Keeping T)) → AreAllMade os → AreAllMade (after_row row os)
+  abbrev AreMade : List (Keeping T) → Type 0
+  AreMade os = Each (λ (o : Keeping T). o.made ≡ o.producers) os
+
+  after_made : (row : List (Sender T)) (os : List (Keeping T)) → AreMade os → AreMade (after_row row os)
   after_made [] os made = made
   after_made (s ∷ row) [] made = tt
   after_made (s ∷ row) (o ∷ os) made = (made.0, after_made row os made.1)
@@ -88,8 +104,12 @@ module _ {T : Type 0} where
         columns_from (suc j) rows row ss os next.1 (λ i t got. let e : j + suc i ≡ suc j + i = omega arith in subst (λ (k : ℕ). slice_get row k ≡ Some t) e (at (suc i) t got)) are.1,
       )
 
-  pub columns_more : (rows : List (List (Sender T))) (row : List (Sender T)) (os : List (Keeping T)) → AreNext row os → AreColumns 0 rows os → AreColumns 0 (rows ++ row ∷ []) (after_row row os)
-  columns_more rows row os next are = columns_from 0 rows row row os next (λ i s got. let e : i ≡ 0 + i = omega arith in subst (λ (k : ℕ). slice_get row k ≡ Some s) e got) are
+  pub back_more : (rows : List (List (Sender T))) (ss : List Shape) (row : List (Sender T)) (os : List (Keeping T)) → AreNext row os → HaveBack rows ss os → HaveBack (rows ++ row ∷ []) ss (after_row row os)
+  back_more rows ss row os next back = record {
+    own = after_shapes row os next ∙ back.own;
+    made = after_made row os back.made;
+    columns = columns_from 0 rows row row os next (λ i s got. let e : i ≡ 0 + i = omega arith in subst (λ (k : ℕ). slice_get row k ≡ Some s) e got) back.columns;
+  }
 
   column_long : (j : ℕ) (rows : List (List (Sender T))) (column : List (Sender T)) → IsColumn j rows column → length column ≡ length rows
   column_long j [] [] is = refl
@@ -98,7 +118,7 @@ module _ {T : Type 0} where
   column_long j (r ∷ rs) (c ∷ cs) is = ap suc (column_long j rs cs is.1)
 
   -- worker p's ends are next, after those of the workers before it
-  next_from : (j p : ℕ) (rows : List (List (Sender T))) (row : List (Sender T)) (os : List (Keeping T)) → AreColumns j rows os → AreEndsOf p (shapes_of os) row → length rows ≡ p → AreNext row os
+  next_from : (j p : ℕ) (rows : List (List (Sender T))) (row : List (Sender T)) (os : List (Keeping T)) → AreColumns j rows os → AreEndsOf p (map shape_of os) row → length rows ≡ p → AreNext row os
   next_from j p rows [] [] are ends long = tt
   next_from j p rows (s ∷ row) [] are ends long = absurd ends
   next_from j p rows [] (o ∷ os) are ends long = absurd ends
@@ -106,18 +126,13 @@ module _ {T : Type 0} where
       let at = column_long j rows o.senders are.0 in
       ((ends.0.0, ends.0.1 ∙ (sym long ∙ sym at), ends.0.2, ends.0.3), next_from (suc j) p rows row os are.1 ends.1 long)
 
-  pub row_next : (p : ℕ) (rows : List (List (Sender T))) (row : List (Sender T)) (os : List (Keeping T)) → AreColumns 0 rows os → AreEndsOf p (shapes_of os) row → length rows ≡ p → AreNext row os
-  row_next p rows row os are ends long = next_from 0 p rows row os are ends long
+  pub row_next : (rows : List (List (Sender T))) (ss : List Shape) (row : List (Sender T)) (os : List (Keeping T)) → HaveBack rows ss os → AreEndsOf (length rows) ss row → AreNext row os
+  row_next rows ss row os back ends = next_from 0 (length rows) rows row os back.columns (subst (λ (l : List Shape). AreEndsOf (length rows) l row) (sym back.own) ends) refl
 
-  -- ---- before the first is back
-
-  pub none_back : (j k : ℕ) (os : List (Keeping T)) → AreMade k os → AreColumns j [] os
-  none_back j k [] made = tt
-  none_back j k (o ∷ os) made = (subst (λ (l : List (Sender T)). IsColumn j [] l) (sym made.0.1) tt, none_back (suc j) k os made.1)
-
-  pub all_made : (n : ℕ) (os : List (Keeping T)) → AreMade n os → AreFor n (shapes_of os) → AreAllMade os
-  all_made n [] made for = tt
-  all_made n (o ∷ os) made for = (made.0.0 ∙ sym for.0, all_made n os made.1 for.1)
+  pub none_are_back : (n : ℕ) (ss : List Shape) (os : List (Keeping T)) → os ≡ made_pipes n ss → AreFor n ss → HaveBack [] ss os
+  none_are_back n ss os is for =
+      let back = none_back T n ss for in
+      subst (λ (l : List (Keeping T)). HaveBack [] ss l) (sym is) (record { own = made_shapes T n ss; made = back.0; columns = back.1 0 })
 
   -- ---- once all are back
 
@@ -140,8 +155,8 @@ module _ {T : Type 0} where
       let z : 0 + j ≡ j = omega arith in
       (subst (λ (m : ℕ). IsEndOf s p c × IsFinal (uses m) c.offers) z (finished_at uses 0 p ss r j s c all.0 at is.0), of_pipe uses (suc p) ss rows j s cs all.1 at is.1)
 
-  ready_from : (uses : ℕ → Bool) (ss : List Shape) (rows : List (List (Sender T))) → AreRows uses 0 ss rows → (k : ℕ) (os : List (Keeping T)) (ts : List (Taker T)) → ((j : ℕ) (s : Shape) → slice_get (shapes_of os) j ≡ Some s → slice_get ss (k + j) ≡ Some s)
-      → AreTaken uses k (length rows) (shapes_of os) ts → AreColumns k rows os → AreAllMade os → AreReady os ts
+  ready_from : (uses : ℕ → Bool) (ss : List Shape) (rows : List (List (Sender T))) → AreRows uses 0 ss rows → (k : ℕ) (os : List (Keeping T)) (ts : List (Taker T)) → ((j : ℕ) (s : Shape) → slice_get (map shape_of os) j ≡ Some s → slice_get ss (k + j) ≡ Some s)
+      → AreTaken uses k (length rows) (map shape_of os) ts → AreColumns k rows os → AreMade os → AreReady os ts
   ready_from uses ss rows theirs k [] [] at taken are made = tt
   ready_from uses ss rows theirs k [] (t ∷ ts) at taken are made = absurd taken
   ready_from uses ss rows theirs k (o ∷ os) [] at taken are made = absurd taken
@@ -153,16 +168,20 @@ module _ {T : Type 0} where
       )
 
   -- pipes whose workers have all ended, and which took back all their ends, can be settled
-  pub all_ready : (rows : List (List (Sender T))) (os : List (Keeping T)) (ts : List (Taker T)) → HaveFinished (shapes_of os) rows ts → AreColumns 0 rows os → AreAllMade os → AreReady os ts
-  all_ready rows os ts ended are made =
-      ready_from ended.uses (shapes_of os) rows ended.theirs 0 os ts (λ j s got. let e : j ≡ 0 + j = omega arith in subst (λ (m : ℕ). slice_get (shapes_of os) m ≡ Some s) e got) ended.taken are made
+  pub all_ready : (rows : List (List (Sender T))) (ss : List Shape) (os : List (Keeping T)) (ts : List (Taker T)) → HaveBack rows ss os → HaveFinished ss rows ts → AreReady os ts
+  all_ready rows ss os ts back ended =
+      let at = subst (λ (l : List Shape). AreTaken ended.uses 0 (length rows) l ts) (sym back.own) ended.taken in
+      ready_from ended.uses ss rows ended.theirs 0 os ts (λ j s got. let e : j ≡ 0 + j = omega arith in subst (λ (m : ℕ). slice_get ss m ≡ Some s) e (subst (λ (l : List Shape). slice_get l j ≡ Some s) back.own got)) at back.columns back.made
 
   -- pipes that are settled, seen by the workers' rows
-  pub settled_rows : (rows : List (List (Sender T))) (k : ℕ) (os : List (Keeping T)) (ts : List (Taker T)) → AreColumns k rows os → AreDone os ts → AreSettled k rows (shapes_of os) ts
-  settled_rows rows k [] [] are done = tt
-  settled_rows rows k [] (t ∷ ts) are done = absurd done
-  settled_rows rows k (o ∷ os) [] are done = absurd done
-  settled_rows rows k (o ∷ os) (t ∷ ts) are done = (record { row = o.senders; column = are.0; done = done.0 }, settled_rows rows (suc k) os ts are.1 done.1)
+  settled_from : (rows : List (List (Sender T))) (k : ℕ) (os : List (Keeping T)) (ts : List (Taker T)) → AreColumns k rows os → AreDone os ts → AreSettled k rows (map shape_of os) ts
+  settled_from rows k [] [] are done = tt
+  settled_from rows k [] (t ∷ ts) are done = absurd done
+  settled_from rows k (o ∷ os) [] are done = absurd done
+  settled_from rows k (o ∷ os) (t ∷ ts) are done = (record { row = o.senders; column = are.0; done = done.0 }, settled_from rows (suc k) os ts are.1 done.1)
+
+  pub settled_rows : (rows : List (List (Sender T))) (ss : List Shape) (os : List (Keeping T)) (ts : List (Taker T)) → HaveBack rows ss os → AreDone os ts → AreSettled 0 rows ss ts
+  settled_rows rows ss os ts back done = subst (λ (l : List Shape). AreSettled 0 rows l ts) back.own (settled_from rows 0 os ts back.columns done)
 
   -- ---- one pipe after another is settled
 

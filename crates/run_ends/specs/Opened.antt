@@ -1,31 +1,33 @@
 -- Pipes of one kind, from which the workers get their producers one by one.
-use Rattle.std.specs.Prelude.{◌≡◌, ◌<◌, ℕ, zero, suc, List, [], ◌∷◌, map, slice_get, Some}
+use Rattle.std.specs.Prelude.{◌≡◌, ℕ, zero, suc, List, [], ◌∷◌, length, map}
 use Rattle.ruled_pipe.specs.Producer.{Sender, new_sender}
-use Rattle.ruled_pipe.specs.Consumer.{Taker, new_taker}
-use Rattle.ruled_pipe.specs.Pipe.{Keeping, Shape, one_made, shape_of}
+use Rattle.ruled_pipe.specs.Consumer.{Taker}
+use Rattle.ruled_pipe.specs.Pipe.{Keeping, Shape, one_made}
+use Rattle.run_ends.specs.Rows.{AreFor, AreWideAs, new_takers}
+
+module _ {X Y : Type 0} (makes : ℕ → X → Y → Type 0) where
+  -- these were made one of each, by its place, from place k on
+  abbrev pub AreMadeOf : ℕ → List X → List Y → Type 0
+  AreMadeOf k [] [] = Unit {0}
+  AreMadeOf k (x ∷ xs) (y ∷ ys) = makes k x y × AreMadeOf (suc k) xs ys
+  AreMadeOf k _ _ = ⊥
 
 module _ {T : Type 0} where
-  abbrev pub shapes_of : List (Keeping T) → List Shape
-  shapes_of os = map shape_of os
+  -- pipes of which k producers each were made, and none is back
+  abbrev pub made_pipe : ℕ → Shape → Keeping T
+  made_pipe k s = record { pipe = s.pipe; producers = s.producers; capacity = s.capacity; made = k; senders = [] }
 
-  -- of each k producers were made, and none is back
-  abbrev pub AreMade : ℕ → List (Keeping T) → Type 0
-  AreMade k [] = Unit {0}
-  AreMade k (o ∷ os) = ((o.made ≡ k) × (o.senders ≡ [])) × AreMade k os
+  abbrev pub made_pipes : ℕ → List Shape → List (Keeping T)
+  made_pipes k ss = map (made_pipe k) ss
 
-  -- a pipe for n producers, of which none is made yet, that holds this number of entries, and its consumer
-  abbrev pub IsNewPipe : (n capacity : ℕ) → Keeping T → Taker T → Type 0
-  IsNewPipe n capacity o t = (o.made ≡ 0) × (o.senders ≡ []) × (o.producers ≡ n) × (o.capacity ≡ capacity) × (t ≡ new_taker o.pipe n capacity)
-
-  -- such pipes, from place k on, each of the capacity of its place
-  abbrev pub AreNewPipes : (capacity : ℕ → ℕ) → (n k : ℕ) → List (Keeping T) → List (Taker T) → Type 0
-  AreNewPipes capacity n k [] [] = Unit {0}
-  AreNewPipes capacity n k (o ∷ os) (t ∷ ts) = IsNewPipe n (capacity k) o t × AreNewPipes capacity n (suc k) os ts
-  AreNewPipes capacity n k _ _ = ⊥
-
-  -- each is to have one more producer, and none is back
-  abbrev pub HaveNext : List (Keeping T) → Type 0
-  HaveNext os = (j : ℕ) (o : Keeping T) → slice_get os j ≡ Some o → (o.made < o.producers) × (o.senders ≡ [])
+  -- so many new pipes for n producers each, of the capacities of their places, and their consumers
+  pub record AreNewPipes (capacity : ℕ → ℕ) (n count : ℕ) (os : List (Keeping T)) (ts : List (Taker T)) : Type 0 where
+    pub shapes : List Shape
+    pub pipes : os ≡ made_pipes 0 shapes
+    pub takers : ts ≡ new_takers shapes
+    pub producers : AreFor n shapes
+    pub wide : AreWideAs capacity 0 shapes
+    pub counted : length shapes ≡ count
 
   -- the next producer of a pipe
   abbrev pub next_end : Keeping T → Sender T

@@ -1,5 +1,5 @@
 -- The pipes, once their workers have ended.
-use Rattle.std.specs.Prelude.{◌≡◌, ◌≤◌, ℕ, suc, Bool, true, false, List, [], ◌∷◌, length, slice_get, Some}
+use Rattle.std.specs.Prelude.{◌≡◌, ◌≤◌, ℕ, suc, Bool, true, false, List, [], ◌∷◌, length}
 use Rattle.ruled_pipe.specs.declared.entry.Entry.{Entry}
 use Rattle.ruled_pipe.specs.Producer.{Sender}
 use Rattle.ruled_pipe.specs.Consumer.{Taker}
@@ -62,9 +62,3 @@ module _ {T : Type 0} where
   AreSettled k rows [] [] = Unit {0}
   AreSettled k rows (s ∷ ss) (t ∷ ts) = IsSettledAt k rows s t × AreSettled (suc k) rows ss ts
   AreSettled k rows _ _ = ⊥
-
--- Of pipes that are settled, the one of a number: what its consumer took is what its column of producers had accepted
-abbrev pub ReadsColumns : Type 0 → Type 0
-ReadsColumns T =
-    (rows : List (List (Sender T))) (shapes : List Shape) (takers : List (Taker T)) → AreSettled 0 rows shapes takers → (j : ℕ) (t : Taker T) → slice_get takers j ≡ Some t
-    → (row : List (Sender T)) × IsColumn j rows row × TookAll row (pushes t.taken)

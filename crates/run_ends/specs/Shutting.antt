@@ -1,13 +1,13 @@
 -- Ends of pipes that push marks alone.
 use Rattle.std.specs.Prelude.{◌≡◌, ℕ, zero, suc, Bool, true, false, List, [], ◌∷◌, map, length, slice_get, Some, slice_index_or, MatchBool}
-use Rattle.order_laws.specs.Deeds.{has_mark, payloads}
+use Rattle.order_laws.specs.Deeds.{Each, has_mark, payloads}
 use Rattle.ruled_pipe.specs.declared.entry.Load.TheVariants.{Marked}
 use Rattle.ruled_pipe.specs.declared.entry.Mark.TheVariants.{Close}
 use Rattle.ruled_pipe.specs.Producer.{Sender, entry, offered, refused}
 use Rattle.ruled_pipe.specs.Pipe.{Shape, IsEndOf}
 use Rattle.ruled_pipe.specs.Gathered.{EndsWithMark, ends_in}
 use Rattle.worker_laws.specs.Ends.{pushes}
-use Rattle.run_ends.specs.Settled.{AreFinished}
+use Rattle.run_ends.specs.Opened.{AreMadeOf}
 
 -- its producer, whether its pipe is used, and whether its closing mark and its end mark are there
 pub record Shutting (T : Type 0) : Type 0 where
@@ -75,17 +75,14 @@ module _ {T : Type 0} where
 
   -- new ones of these ends, from number k on
   abbrev pub AreNew : (uses : ℕ → Bool) → ℕ → List (Sender T) → List (Shutting T) → Type 0
-  AreNew uses k [] [] = Unit {0}
-  AreNew uses k (e ∷ es) (h ∷ hs) = (h ≡ shutting e (uses k) false false) × AreNew uses (suc k) es hs
-  AreNew uses k _ _ = ⊥
+  AreNew uses k es hs = AreMadeOf (λ j e h. h ≡ shutting e (uses j) false false) k es hs
 
   abbrev pub shutter_ends : List (Shutting T) → List (Sender T)
   shutter_ends hs = map (λ (h : Shutting T). h.end) hs
 
   -- each pushed marks alone
   abbrev pub AreMarking : List (Shutting T) → Type 0
-  AreMarking [] = Unit {0}
-  AreMarking (h ∷ hs) = IsShutting h × AreMarking hs
+  AreMarking hs = Each (λ (h : Shutting T). IsShutting h) hs
 
   -- whether the closing mark of pipe j is there
   abbrev pub closed_at : List (Shutting T) → ℕ → Bool
@@ -105,8 +102,3 @@ module _ {T : Type 0} where
     pub others : (j : ℕ) → (j ≡ at → ⊥) → slice_get new j ≡ slice_get old j
     pub unended : AreUnended new
     pub same : (uses : ℕ → Bool) (k p : ℕ) (shapes : List Shape) → AreShutters uses k p shapes old → AreShutters uses k p shapes new
-
--- Shutters that got their end marks have ended.
-abbrev pub ShuttersFinish : Type 0 → Type 0
-ShuttersFinish T =
-    (uses : ℕ → Bool) (p : ℕ) (shapes : List Shape) (old new : List (Shutting T)) → AreShutters uses 0 p shapes old → EachEnds old new → AreMarking new → AreFinished uses 0 p shapes (shutter_ends new)

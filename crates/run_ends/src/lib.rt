@@ -4,18 +4,16 @@
 //! settling take no memory.
 #![tactic(auto)]
 
-mod laws;
 mod line;
+mod making;
 mod marking;
-mod minting;
 mod opening;
 mod settling;
 mod shutter;
 
-pub use laws::{reads_columns, shutters_finish};
 pub use line::Line;
-pub use marking::{close_at, mark_all, take_back_shutters};
-pub use minting::mint_row;
+pub use making::{EndMaker, next_ends, next_producers};
+pub use marking::{close_at, mark_all};
 pub use opening::{NewPipes, new_pipes};
 pub use settling::{settle, settle_all};
 pub use shutter::Shutter;

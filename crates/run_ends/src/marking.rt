@@ -1,11 +1,9 @@
 //! Ends that push marks alone, all of one worker.
 
 ghost use Rattle.std.specs.Prelude.{◌≡◌, ◌<◌, length, true, slice_index_or};
-ghost use Rattle.run_ends.specs.TakenBack.{AreNext, after_row};
-ghost use Rattle.run_ends.specs.Shutting.{AreMarking, AreUnended, ClosesAt, EachEnds, PushMarks, Shutting, shutter_ends};
+ghost use Rattle.run_ends.specs.Shutting.{AreUnended, ClosesAt, EachEnds, Shutting};
 
 use crate::shutter::Shutter;
-use ruled_pipe::Keeper;
 use std::sync::Wait;
 
 /// Tries the closing mark of the pipe at a place once, where it is not there yet. Whether it is there now.
@@ -25,20 +23,5 @@ pub fn mark_all<T: Drop, R: Wait>(rt: &R, shutters: &mut Vec<Shutter<T>>)
 {
     for k in 0..shutters.len() {
         shutters[k].end(rt);
-    }
-}
-
-/// The pipes take back these ends, one of each, in order. It takes no memory.
-pub fn take_back_shutters<T: Drop>(pipes: &mut Vec<Keeper<T>>, shutters: Vec<Shutter<T>>)
-    requires { AreNext (shutter_ends shutters.items) pipes.old.items }
-    ensures back { pipes.new.items ≡ after_row (shutter_ends shutters.items) pipes.old.items }
-    ensures marking { AreMarking shutters.items }
-    ensures marks { PushMarks shutters.items }
-{
-    let mut at = 0;
-    for shutter in shutters {
-        let end = shutter.into_producer();
-        pipes[at].absorb(end);
-        at += 1;
     }
 }

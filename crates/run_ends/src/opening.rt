@@ -1,6 +1,6 @@
 //! New pipes of one kind.
 
-ghost use Rattle.std.specs.Prelude.{◌≡◌, ◌<◌, ◌≤◌, ◌+◌, [], ℕ, IfOk, length};
+ghost use Rattle.std.specs.Prelude.{◌≡◌, ◌<◌, ◌≤◌, ◌+◌, [], ℕ, IfOk};
 ghost use Rattle.run_ends.specs.Opened.{AreNewPipes};
 
 use ruled_pipe::{Consumer, Keeper};
@@ -16,7 +16,7 @@ pub struct NewPipes<T> {
 impl<T: Drop> NewPipes<T> {
     /// None yet.
     pub fn none(alloc: Global) -> NewPipes<T>
-        ensures { (result.pipes.items ≡ []) × (result.takers.items ≡ []) }
+        ensures { (f : ℕ → ℕ) (n : ℕ) → AreNewPipes f n 0 result.pipes.items result.takers.items }
     {
         NewPipes {
             pipes: Vec::new(alloc),
@@ -33,8 +33,7 @@ impl<T: Drop> NewPipes<T> {
     ) -> Result<NewPipes<T>, AllocError>
         requires capacity { (0 < capacity) × (capacity ≤ 65536) }
         requires producers { (0 < producers) × (producers ≤ 64) }
-        ensures new { IfOk result (λ n. (f : ℕ → ℕ) → AreNewPipes f producers 0 self.pipes.items self.takers.items → capacity ≡ f (length self.pipes.items) → AreNewPipes f producers 0 n.pipes.items n.takers.items) }
-        ensures count { IfOk result (λ n. length n.pipes.items ≡ length self.pipes.items + 1) }
+        ensures { IfOk result (λ n. (f : ℕ → ℕ) (k : ℕ) → AreNewPipes f producers k self.pipes.items self.takers.items → capacity ≡ f k → AreNewPipes f producers (k + 1) n.pipes.items n.takers.items) }
     {
         let NewPipes {
             mut pipes,
@@ -56,8 +55,7 @@ pub fn new_pipes<T: Drop>(
 ) -> Result<NewPipes<T>, AllocError>
     requires capacity { (0 < capacity) × (capacity ≤ 65536) }
     requires producers { (0 < producers) × (producers ≤ 64) }
-    ensures new { IfOk result (λ n. AreNewPipes (λ _. capacity) producers 0 n.pipes.items n.takers.items) }
-    ensures count { IfOk result (λ n. length n.pipes.items ≡ count) }
+    ensures { IfOk result (λ n. AreNewPipes (λ _. capacity) producers count n.pipes.items n.takers.items) }
 {
     let mut opened = NewPipes::none(alloc);
     for k in 0..count {

@@ -1,15 +1,14 @@
 -- Closing marks, tried one by one.
-use Rattle.std.proofs.Common.{◌≡◌, ℕ, zero, suc, ◌+◌, ◌*◌, ◌<◌, ◌≤◌, Bool, true, false, List, [], ◌∷◌, Result, Ok, Err, length, slice_get, slice_index_or, refl, sym, ap, subst, ◌∙◌, arith}
+use Rattle.std.proofs.Common.{◌≡◌, ℕ, zero, suc, ◌+◌, ◌<◌, ◌≤◌, Bool, true, false, List, [], ◌∷◌, Ok, Err, length, slice_get, slice_index_or, refl, sym, ap, subst, ◌∙◌, arith}
 use Rattle.std.proofs.lemmas.Bool.{cond-false, false≢true}
 use Rattle.process_packet.specs.declared.config.Config.{Config}
 use Rattle.ruled_pipe.specs.Pipe.{Shape}
 use Rattle.process_packet.specs.Network.{has_link, network}
-use Rattle.router_rules.specs.Links.{has_two_bands, link_count, link_index}
+use Rattle.router_rules.specs.Links.{link_count, link_index}
 use Rattle.router_rules.proofs.LinkLemmas.{index_within}
-use Rattle.run_ends.specs.Shutting.{AreUnended, AreShutters, Closes, ClosesAt, Shutting, closed_at}
-use Rattle.run_pipes.specs.declared.closing.CloseFault.{CloseFault}
-use Rattle.run_pipes.specs.declared.closing.CloseFault.TheVariants.{Full, Unknown, AlreadyClosed}
-use Rattle.run_pipes.specs.Closing.{AreClosed, Closing, ClosesMarks, StayEnds, TriesAt, TriesMarks}
+use Rattle.run_ends.specs.Shutting.{AreShutters, Closes, ClosesAt, Shutting, closed_at}
+use Rattle.run_pipes.specs.declared.closing.CloseFault.TheVariants.{Full, AlreadyClosed}
+use Rattle.run_pipes.specs.Closing.{AreClosed, ClosesMarks, TriesAt, TriesMarks}
 
 module _ {X : Type 0} where
   index_got : (xs ys : List X) (j : ℕ) (d : X) → slice_get xs j ≡ slice_get ys j → slice_index_or xs j d ≡ slice_index_or ys j d

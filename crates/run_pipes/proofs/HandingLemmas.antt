@@ -1,6 +1,5 @@
 -- Ends in the workers' hands.
-use Rattle.std.proofs.Common.{◌≡◌, ℕ, zero, suc, ◌+◌, ◌<◌, ◌≤◌, Bool, true, false, List, [], ◌∷◌, ◌++◌, length, slice_get, Some, refl, sym, ap, subst, ◌∙◌, arith, length-append}
-use Rattle.std.proofs.lemmas.List.{map-append}
+use Rattle.std.proofs.Common.{◌≡◌, ℕ, zero, suc, ◌+◌, Bool, true, false, List, [], ◌∷◌, ◌++◌, length, slice_get, Some, refl, sym, ap, subst, ◌∙◌, arith, append_assoc, append-nil}
 use Rattle.order_laws.specs.Deeds.{closes, has_mark}
 use Rattle.ruled_pipe.specs.declared.entry.Entry.{Entry}
 use Rattle.ruled_pipe.specs.declared.entry.Load.{Load}
@@ -9,71 +8,28 @@ use Rattle.ruled_pipe.specs.declared.entry.Mark.TheVariants.{Close, End}
 use Rattle.ruled_pipe.specs.Producer.{Sender}
 use Rattle.ruled_pipe.specs.Pipe.{Shape}
 use Rattle.worker_laws.specs.Ends.{load_in, pushes}
-use Rattle.worker_parts.specs.Outlet.{Offering, IsMarked, NoClose, is_closing, offering}
-use Rattle.worker_parts.specs.Outlets.{AreFresh, senders}
-use Rattle.run_ends.specs.Rows.{AreEndsOf, IsBundle, fresh_ends}
+use Rattle.worker_parts.specs.Outlet.{Offering, IsMarked, NoClose, is_closing}
+use Rattle.worker_parts.specs.Outlets.{HaveEnded, senders}
+use Rattle.run_ends.specs.Rows.{AreEndsOf}
 use Rattle.run_ends.specs.Settled.{IsFinal, AreFinished}
-use Rattle.run_pipes.specs.Handing.{AreMarked, Finishes, HaveEvents, NeverClosed}
+use Rattle.run_pipes.specs.Handing.{AreMarked, AreSpared, NeverClosed}
 
-new_ends : (T : Type 0) (p : ℕ) (shapes : List Shape) → AreEndsOf {T = T} p shapes (fresh_ends {T = T} p shapes)
-new_ends T p [] = tt
-new_ends T p (s ∷ ss) = ((refl, refl, refl, refl), new_ends T p ss)
+-- ---- what is taken of a list, from the front
+
+module _ {X : Type 0} where
+  -- what is left begins with the next one
+  pub with_next : (xs old new all : List X) (x : X) → old ≡ x ∷ new → xs ++ old ≡ all → xs ++ x ∷ new ≡ all
+  with_next xs old new all x is split = ap (λ (l : List X). xs ++ l) (sym is) ∙ split
+
+  -- one more was taken, and all were
+  pub one_taken : (xs old new all : List X) (x : X) → old ≡ x ∷ new → xs ++ old ≡ all → (xs ++ x ∷ []) ++ new ≡ all
+  one_taken xs old new all x is split = append_assoc xs (x ∷ []) new ∙ with_next xs old new all x is split
+
+  pub all_taken : (xs old all : List X) (n : ℕ) → xs ++ old ≡ all → n ≡ length old → n ≡ 0 → xs ≡ all
+  all_taken xs [] all n split long none = sym (append-nil xs) ∙ split
+  all_taken xs (y ∷ old) all n split long none = absurd (omega arith)
 
 module _ {T : Type 0} where
-  fresh_mid : (p : ℕ) (shapes : List Shape) (xs rest : List (Sender T)) (e : Sender T) → xs ++ e ∷ rest ≡ fresh_ends p shapes → (e.offers ≡ []) × (e.refusals ≡ [])
-  fresh_mid p [] [] rest e same = cc
-  fresh_mid p [] (x ∷ xs) rest e same = cc
-  fresh_mid p (s ∷ ss) [] rest e same = (cc, cc)
-  fresh_mid p (s ∷ ss) (x ∷ xs) rest e same = let t : xs ++ e ∷ rest ≡ fresh_ends p ss = cc in fresh_mid p ss xs rest e t
-
-  -- one end of a bundle of new ones
-  pub fresh_one : (all xs rest : List (Sender T)) (e : Sender T) → IsBundle all → xs ++ e ∷ rest ≡ all → (e.offers ≡ []) × (e.refusals ≡ [])
-  fresh_one all xs rest e is same = fresh_mid is.0 is.1 xs rest e (same ∙ is.2)
-
-  -- new ends are of these pipes
-  pub ends_of_new : (es : List (Sender T)) (p : ℕ) (shapes : List Shape) → es ≡ fresh_ends p shapes → AreEndsOf p shapes es
-  ends_of_new es p shapes is = subst (λ (l : List (Sender T)). AreEndsOf p shapes l) (sym is) (new_ends T p shapes)
-
-  pub senders_more : (os : List (Offering T)) (o : Offering T) → senders (os ++ o ∷ []) ≡ senders os ++ o.sender ∷ []
-  senders_more os o = map-append (λ (x : Offering T). x.sender) os (o ∷ [])
-
-  pub fresh_more : (os : List (Offering T)) (o : Offering T) → AreFresh os → o.ended ≡ false → o.sender.offers ≡ [] → o.sender.refusals ≡ [] → AreFresh (os ++ o ∷ [])
-  fresh_more [] o f a b c = (a, b, c, tt)
-  fresh_more (x ∷ os) o f a b c = (f.0, f.1, f.2, fresh_more os o f.3 a b c)
-
-  events_more : (there : ℕ → Bool) (k n : ℕ) (os : List (Offering T)) (o : Offering T) → HaveEvents there k os → n ≡ k + length os → o.wakes ≡ there n → HaveEvents there k (os ++ o ∷ [])
-  events_more there k n [] o have at is = let same : n ≡ k = omega arith in (is ∙ ap there same, tt)
-  events_more there k n (x ∷ os) o have at is = (have.0, events_more there (suc k) n os o have.1 (omega arith) is)
-
-  -- one end more in a worker's hands, which is the one at place n
-  pub outlets_more : (there : ℕ → Bool) (n : ℕ) (wakes : Bool) (os new : List (Offering T)) (xs : List (Sender T)) (e : Sender T) (o : Offering T) → new ≡ os ++ o ∷ [] → n ≡ length os
-      → (senders os ≡ xs) × AreFresh os × HaveEvents there 0 os → o ≡ offering e false wakes → wakes ≡ there n → (e.offers ≡ []) × (e.refusals ≡ []) → (senders new ≡ xs ++ e ∷ []) × AreFresh new × HaveEvents there 0 new
-  outlets_more there n wakes os new xs e o more at were is event none =
-      let sender = ap (λ (x : Offering T). x.sender) is in
-      let P : List (Offering T) → Type 0 = λ l. (senders l ≡ xs ++ e ∷ []) × AreFresh l × HaveEvents there 0 l in subst
-      P
-      (sym more) (
-        senders_more os o ∙ (ap (λ (l : List (Sender T)). l ++ o.sender ∷ []) were.0 ∙ ap (λ (x : Sender T). xs ++ x ∷ []) sender),
-        fresh_more os o were.1 (ap (λ (x : Offering T). x.ended) is) (ap (λ (x : Sender T). x.offers) sender ∙ none.0) (ap (λ (x : Sender T). x.refusals) sender ∙ none.1),
-        events_more there 0 n os o were.2 (omega arith) (ap (λ (x : Offering T). x.wakes) is ∙ event),
-      )
-
-  pub marked_more : (os : List (Offering T)) (o : Offering T) → AreMarked os → IsMarked o.sender o.ended → AreMarked (os ++ o ∷ [])
-  marked_more [] o a is = (is, tt)
-  marked_more (x ∷ os) o a is = (a.0, marked_more os o a.1 is)
-
-  pub senders_long : (os : List (Offering T)) → length (senders os) ≡ length os
-  senders_long [] = refl
-  senders_long (o ∷ os) = ap suc (senders_long os)
-
-  pub outlets_none : (there : ℕ → Bool) (os : List (Offering T)) → os ≡ [] → (senders os ≡ []) × AreFresh os × HaveEvents there 0 os
-  outlets_none there os none = subst (λ (l : List (Offering T)). (senders l ≡ []) × AreFresh l × HaveEvents there 0 l) (sym none) (refl, tt, tt)
-
-  -- there is room for one more
-  pub one_fewer : (os : List (Offering T)) (xs old new all : List (Sender T)) (e : Sender T) → senders os ≡ xs → old ≡ e ∷ new → xs ++ old ≡ all → length os < length all
-  one_fewer os xs old new all e were is split =
-      let a = ap length were in let b = senders_long os in let c = ap length is in let d = ap length split in omega (arith, length-append xs old)
-
   closes_as : (l : Load T) → closes (load_in l) ≡ is_closing l
   closes_as (Payload x) = refl
   closes_as (Marked Close) = refl
@@ -106,6 +62,7 @@ module _ {T : Type 0} where
             (λ j x is e. let n : k + suc j ≡ suc k + j = omega arith in spared (suc j) x is (ap uses n ∙ e)),
       )
 
-  pub finishes : Finishes T
+  -- a worker's ends, of which those that are used got their end marks, have ended
+  pub finishes : (uses : ℕ → Bool) (p : ℕ) (ss : List Shape) (os : List (Offering T)) → AreEndsOf p ss (senders os) → AreMarked os → HaveEnded uses os → AreSpared uses (senders os) → AreFinished uses 0 p ss (senders os)
   finishes uses p ss os ends marked ended spared =
       finished uses 0 p ss os ends marked (λ j o is e. let n : j ≡ 0 + j = omega arith in ended j o is (ap uses n ∙ e)) (λ j s is e. let n : j ≡ 0 + j = omega arith in spared j s is (ap uses n ∙ e))

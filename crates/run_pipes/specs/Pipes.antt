@@ -1,33 +1,18 @@
 -- The router's pipes: the workers get their ends one by one, and the pipes take them back.
-use Rattle.std.specs.Prelude.{◌≡◌, ℕ, List, []}
+use Rattle.std.specs.Prelude.{◌≡◌, ◌+◌, ℕ, List, map}
 use Rattle.order_laws.specs.Item.{Arrival, Outgoing}
 use Rattle.order_laws.specs.Settled.{SlowPathRequest}
+use Rattle.process_packet.specs.declared.config.Config.{Config}
 use Rattle.ruled_pipe.specs.Producer.{Sender}
-use Rattle.ruled_pipe.specs.Pipe.{Keeping, shape_of}
+use Rattle.ruled_pipe.specs.Pipe.{shape_of}
+use Rattle.router_rules.specs.Links.{link_count}
 use Rattle.router_rules.specs.Rules.{kinds}
-use Rattle.run_ends.specs.Opened.{AreMade, shapes_of}
-use Rattle.run_ends.specs.TakenBack.{AreAllMade, AreColumns}
-use Rattle.run_pipes.specs.Piping.{Piping}
-
-pub record Keepers : Type 0 where
-  pub inner : List (Keeping (Arrival kinds))
-  pub middle : Keeping (SlowPathRequest kinds)
-  pub outer : List (Keeping (Outgoing kinds))
-  pub free : List (Keeping (List ℕ))
-
-abbrev pub keepers : List (Keeping (Arrival kinds)) → Keeping (SlowPathRequest kinds) → List (Keeping (Outgoing kinds)) → List (Keeping (List ℕ)) → Keepers
-keepers inner middle outer free = record { inner = inner; middle = middle; outer = outer; free = free }
-
-abbrev pub piping_of : Keepers → Piping
-piping_of k = record { inner = shapes_of k.inner; middle = shape_of k.middle; outer = shapes_of k.outer; free = shapes_of k.free }
-
--- Of each of these pipes so many producers were made, and none is back.
-pub record HaveMade (a m o f : ℕ) (p : Piping) (k : Keepers) : Type 0 where
-  pub piping : piping_of k ≡ p
-  pub inner : AreMade a k.inner
-  pub middle : (k.middle.made ≡ m) × (k.middle.senders ≡ [])
-  pub outer : AreMade o k.outer
-  pub free : AreMade f k.free
+use Rattle.run_ends.specs.Opened.{made_pipe, made_pipes}
+use Rattle.run_ends.specs.Rows.{new_takers, taker_of}
+use Rattle.run_ends.specs.TakenBack.{HaveBack, back_pipe}
+use Rattle.run_pipes.specs.Piping.{IsPiping, Piping}
+use Rattle.run_pipes.specs.declared.pipes.Pipes.{Pipes}
+use Rattle.run_pipes.specs.declared.pipes.Takers.{Takers}
 
 -- the ends that workers had, by workers: the receivers', the processors' of the slow path's pipe, and those of the links' pipes
 abbrev pub ReceiverRows : Type 0
@@ -39,12 +24,40 @@ RequestRow = List (Sender (SlowPathRequest kinds))
 abbrev pub LinkRows : Type 0
 LinkRows = List (List (Sender (Outgoing kinds)))
 
--- All producers were made, and these are back.
-pub record HaveBack (receiver_rows : ReceiverRows) (request_row : RequestRow) (link_rows : LinkRows) (p : Piping) (k : Keepers) : Type 0 where
-  pub piping : piping_of k ≡ p
-  pub inner_made : AreAllMade k.inner
-  pub middle_made : k.middle.made ≡ k.middle.producers
-  pub outer_made : AreAllMade k.outer
-  pub inner : AreColumns 0 receiver_rows k.inner
-  pub middle : k.middle.senders ≡ request_row
-  pub outer : AreColumns 0 link_rows k.outer
+module _ {N : Type 0} where
+  abbrev pub piping_of : Pipes N → Piping
+  piping_of k = record { inner = map shape_of k.inner.items; middle = shape_of k.middle; outer = map shape_of k.outer.items; free = map shape_of k.free.items }
+
+  -- Of each of these pipes, which are those that the configuration asks for, so many producers were made, and none is back.
+  pub record HaveMade (c : Config) (a m o f : ℕ) (p : Piping) (k : Pipes N) : Type 0 where
+    pub piping : IsPiping c p
+    pub inner : k.inner.items ≡ made_pipes a p.inner
+    pub middle : k.middle ≡ made_pipe m p.middle
+    pub outer : k.outer.items ≡ made_pipes o p.outer
+    pub free : k.free.items ≡ made_pipes f p.free
+
+  -- as many receivers have their ends; then all these and as many processors; the slow path too; the controller and as many forwarders
+  abbrev pub HaveReceivers : Config → ℕ → Piping → Pipes N → Type 0
+  HaveReceivers c a p k = HaveMade c a 0 0 0 p k
+
+  abbrev pub HaveProcessors : Config → ℕ → Piping → Pipes N → Type 0
+  HaveProcessors c i p k = HaveMade c (link_count c) i i i p k
+
+  abbrev pub HaveSlowPath : Config → Piping → Pipes N → Type 0
+  HaveSlowPath c p k = HaveMade c (link_count c) c.processors (c.processors + 1) (c.processors + 1) p k
+
+  abbrev pub HaveForwarders : Config → ℕ → Piping → Pipes N → Type 0
+  HaveForwarders c l p k = HaveMade c (link_count c) c.processors (c.processors + 2) (c.processors + 1 + l) p k
+
+  -- These are their consumers, which took nothing yet.
+  pub record AreTakersOf (p : Piping) (t : Takers N) : Type 0 where
+    pub packets : t.packets.items ≡ new_takers p.inner
+    pub requests : t.requests ≡ taker_of p.middle
+    pub egress_packets : t.egress_packets.items ≡ new_takers p.outer
+    pub free_buffers : t.free_buffers.items ≡ new_takers p.free
+
+  -- All producers were made, and these are back.
+  pub record HaveAllBack (receiver_rows : ReceiverRows) (request_row : RequestRow) (link_rows : LinkRows) (p : Piping) (k : Pipes N) : Type 0 where
+    pub inner : HaveBack receiver_rows p.inner k.inner.items
+    pub middle : k.middle ≡ back_pipe request_row p.middle
+    pub outer : HaveBack link_rows p.outer k.outer.items

@@ -1,11 +1,11 @@
 -- The pipes of a router.
 use Rattle.std.specs.Prelude.{◌≡◌, ◌+◌, ◌*◌, ℕ, List, Some, length, slice_get, if◌then◌else◌}
 use Rattle.process_packet.specs.declared.config.Config.{Config}
-use Rattle.ruled_pipe.specs.Consumer.{Taker, new_taker}
+use Rattle.ruled_pipe.specs.Consumer.{Taker}
 use Rattle.ruled_pipe.specs.Pipe.{Shape}
 use Rattle.router_rules.specs.Links.{link_count}
 use Rattle.worker_parts.specs.Outlets.{are_used}
-use Rattle.run_ends.specs.Rows.{AreFor, AreWide, AreWideAs}
+use Rattle.run_ends.specs.Rows.{AreFor, AreWide, AreWideAs, taker_of}
 
 -- one pipe a processor, the slow path's, two a link, and one of free buffers a link
 pub record Piping : Type 0 where
@@ -37,4 +37,4 @@ pub record IsPiping (c : Config) (p : Piping) : Type 0 where
 pub record IsTakerThere {T : Type 0} (pipes : List Shape) (i : ℕ) (t : Taker T) : Type 0 where
   pub own : Shape
   pub there : slice_get pipes i ≡ Some own
-  pub fresh : t ≡ new_taker own.pipe own.producers own.capacity
+  pub fresh : t ≡ taker_of own

@@ -1,34 +1,44 @@
 //! Pipes of free buffers, filled before a run.
 
-ghost use Rattle.std.specs.Prelude.{◌≡◌, ℕ, List, IfOk, [], length};
-ghost use Rattle.order_laws.specs.Deeds.{payloads};
-ghost use Rattle.worker_laws.specs.Ends.{pushes};
-ghost use Rattle.run_ends.specs.Rows.{IsBundle, fresh_ends};
+ghost use Rattle.std.specs.Prelude.{◌≡◌, ◌<◌, ◌+◌, ℕ, List, IfOk, []};
+ghost use Rattle.run_ends.specs.Opened.{made_pipes};
+ghost use Rattle.run_ends.specs.Rows.{AreFor};
 ghost use Rattle.ruled_pipe.specs.Pipe.{Shape};
-ghost use Rattle.run_pipes.specs.Filling.{AreFilled};
-ghost use Rattle.worker_parts.specs.Same.{IsSameEnd};
+ghost use Rattle.run_pipes.specs.Filling.{AreFilled, HasPut};
 
-use ruled_pipe::Producer;
+use ruled_pipe::{Keeper, Producer};
+use run_ends::{EndMaker, next_ends};
 use std::alloc::{AllocError, Global};
 use std::sync::Wait;
 use worker_parts::Buffer;
 
-/// Puts a number of buffers into each pipe, by these new ends.
-pub fn fill<R: Wait>(
-    rt: &R,
-    alloc: Global,
-    ends: Vec<Producer<Buffer>>,
+#[derive(Drop)]
+struct Filler<'a, R> {
+    rt: &'a R,
     buffers: usize,
-) -> Result<Vec<Producer<Buffer>>, AllocError>
-    requires { IsBundle ends.items }
-    ensures { IfOk result (λ f. (number : ℕ) (pipes : List Shape) → ends.items ≡ fresh_ends number pipes → AreFilled number buffers pipes f.items) }
-{
-    let mut fillers = Vec::with_capacity(alloc, ends.len())?;
-    for end in ends {
-        let filler = fill_one(rt, alloc, end, buffers)?;
-        fillers.push_reserved(filler);
+}
+
+impl<'a, R: Wait> EndMaker<Buffer, Producer<Buffer>> for Filler<'a, R> {
+    ghost use Rattle.run_pipes.specs.Filling.{HasPut};
+
+    ghost fits = { λ m at. Unit {0} };
+
+    ghost makes = { λ m at s f. HasPut m.buffers s f };
+
+    fn make(
+        &self,
+        alloc: Global,
+        at: usize,
+        producer: Producer<Buffer>,
+    ) -> Result<Producer<Buffer>, AllocError>
+        requires fits { Unit {0} }
+        requires new { (producer.offers ≡ []) × (producer.refusals ≡ []) }
+        ensures { IfOk result (λ f. HasPut self.now.buffers producer f) }
+    {
+        let _ = at;
+        let filled = fill_one(self.rt, alloc, producer, self.buffers)?;
+        Ok(filled)
     }
-    Ok(fillers)
 }
 
 fn fill_one<R: Wait>(
@@ -38,8 +48,7 @@ fn fill_one<R: Wait>(
     buffers: usize,
 ) -> Result<Producer<Buffer>, AllocError>
     requires { end.offers ≡ [] }
-    ensures same { IfOk result (λ f. IsSameEnd end f) }
-    ensures filled { IfOk result (λ f. length (payloads (pushes f.offers)) ≡ buffers) }
+    ensures { IfOk result (λ f. HasPut buffers end f) }
 {
     let mut end = end;
     for put in 0..buffers {
@@ -51,4 +60,19 @@ fn fill_one<R: Wait>(
         }
     }
     Ok(end)
+}
+
+/// Puts a number of buffers into each pipe, by its next end.
+pub fn fill<R: Wait>(
+    rt: &R,
+    alloc: Global,
+    pipes: &mut Vec<Keeper<Buffer>>,
+    buffers: usize,
+) -> Result<Vec<Producer<Buffer>>, AllocError>
+    requires { (k : ℕ) × (n : ℕ) × (ss : List Shape) × (pipes.old.items ≡ made_pipes k ss) × AreFor n ss × (k < n) }
+    ensures made { IfOk result (λ _. (k : ℕ) (ss : List Shape) → pipes.old.items ≡ made_pipes k ss → pipes.new.items ≡ made_pipes (k + 1) ss) }
+    ensures ends { IfOk result (λ f. (k : ℕ) (ss : List Shape) → pipes.old.items ≡ made_pipes k ss → AreFilled k buffers ss f.items) }
+{
+    let ends = next_ends(alloc, pipes, &Filler { rt, buffers })?;
+    Ok(ends)
 }

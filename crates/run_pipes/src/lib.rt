@@ -5,15 +5,11 @@
 mod closing;
 mod filling;
 mod handing;
-mod laws;
 mod pipes;
-mod shutting;
 mod waking;
 
 pub use closing::{CloseFault, Controller};
 pub use filling::fill;
-pub use handing::outlets;
-pub use laws::finishes;
+pub use handing::{End, outlets, shutters, take_back};
 pub use pipes::{Pipes, Takers, open_all};
-pub use shutting::shutters;
 pub use waking::{Events, events_for, notify_all, notify_one};

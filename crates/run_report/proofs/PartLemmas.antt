@@ -1,6 +1,9 @@
 -- Workers taken apart one by one: what was gathered grows at its end, what is left shrinks in front.
 use Rattle.std.proofs.Common.{◌≡◌, ℕ, ◌+◌, ◌≤◌, List, [], ◌∷◌, ◌++◌, map, length, sym, ◌∙◌, ap, subst, arith, length-append}
 use Rattle.order_laws.specs.Deeds.{Each}
+use Rattle.ruled_pipe.specs.Producer.{Sender}
+use Rattle.ruled_pipe.specs.Pipe.{Shape}
+use Rattle.run_ends.specs.Rows.{AreEndsOf}
 use Rattle.run_workers.proofs.RestLemmas.{moved}
 
 module _ {X : Type 0} where
@@ -35,3 +38,7 @@ module _ {X Y : Type 0} where
 
 pub fits_still : (k n m : ℕ) → m ≡ n → k ≤ n → k ≤ m
 fits_still k n m same fits = omega arith
+
+-- the next worker's ends, by how many rows are back
+pub ends_as_next : {T : Type 0} (rows : List (List (Sender T))) (k : ℕ) (ss : List Shape) (row own : List (Sender T)) → length rows ≡ k → row ≡ own → AreEndsOf k ss own → AreEndsOf (length rows) ss row
+ends_as_next {T = T} rows k ss row own long is ends = subst (λ (n : ℕ). AreEndsOf n ss row) (sym long) (subst (λ (es : List (Sender T)). AreEndsOf k ss es) (sym is) ends)

@@ -19,7 +19,8 @@ use Rattle.worker_parts.specs.Outlets.{senders}
 use Rattle.worker_parts.specs.Told.{Told, told_of}
 use Rattle.run_pipes.specs.Handing.{AreMarked, NeverClosed}
 use Rattle.run_pipes.specs.Piping.{Piping}
-use Rattle.run_pipes.specs.Pipes.{HaveBack, Keepers, LinkRows, ReceiverRows, RequestRow, piping_of}
+use Rattle.run_pipes.specs.Pipes.{HaveAllBack}
+use Rattle.run_pipes.specs.declared.pipes.Pipes.{Pipes}
 use Rattle.run_ends.specs.Rows.{AreEndsOf}
 use Rattle.run_ends.specs.Shutting.{AreMarking, PushMarks, shutter_ends}
 use Rattle.run_report.specs.Parting.{HasEnds, HasKept, HasMarked, IsParted, shares_in}
@@ -61,19 +62,11 @@ pub own_space : {S G K : Type 0} (p : Piping) (links processors : ℕ) (w : Crew
 own_space p links processors w r is have = subst (λ (n : ℕ). HaveSpace n (length w.processors) r) (sym is.receivers.1) (subst (λ (n : ℕ). HaveSpace links n r) (sym is.workers.1) have)
 
 -- the only slow path's ends are the next, and those of the controller come after them
-pub slow_next : (p q : Piping) (n m : ℕ) (xs : List Answering) (x : Answering) (row : List (Sender (Outgoing kinds))) → q ≡ p → m ≡ n → xs ≡ x ∷ [] → Each (λ (a : Answering). AreEndsOf n p.outer (senders a.side.links)) xs → AreEndsOf (n + 1) p.outer row
-    → AreEndsOf m q.outer (senders x.side.links) × AreEndsOf (m + 1) q.outer row
-slow_next p q n m xs x row same long one all last =
+pub slow_next : (p : Piping) (n m : ℕ) (xs : List Answering) (x : Answering) (row : List (Sender (Outgoing kinds))) → m ≡ n → xs ≡ x ∷ [] → Each (λ (a : Answering). AreEndsOf n p.outer (senders a.side.links)) xs → AreEndsOf (n + 1) p.outer row
+    → AreEndsOf m p.outer (senders x.side.links) × AreEndsOf (m + 1) p.outer row
+slow_next p n m xs x row long one all last =
     let first = (subst (λ (ys : List Answering). Each (λ (a : Answering). AreEndsOf n p.outer (senders a.side.links)) ys) one all).0 in
-    subst (λ (y : Piping). AreEndsOf m y.outer (senders x.side.links) × AreEndsOf (m + 1) y.outer row) (sym same)
-    (subst (λ (k : ℕ). AreEndsOf k p.outer (senders x.side.links) × AreEndsOf (k + 1) p.outer row) (sym long) (first, last))
-
--- the pipes, by their own piping, or by what it is the same as
-pub back_own : (rs : ReceiverRows) (ms : RequestRow) (ls : LinkRows) (p : Piping) (k : Keepers) → HaveBack rs ms ls p k → HaveBack rs ms ls (piping_of k) k
-back_own rs ms ls p k back = subst (λ (q : Piping). HaveBack rs ms ls q k) (sym back.piping) back
-
-pub back_as : (rs : ReceiverRows) (ms : RequestRow) (ls : LinkRows) (p q : Piping) (k : Keepers) → p ≡ q → HaveBack rs ms ls p k → HaveBack rs ms ls q k
-back_as rs ms ls p q k e back = subst (λ (x : Piping). HaveBack rs ms ls x k) e back
+    subst (λ (k : ℕ). AreEndsOf k p.outer (senders x.side.links) × AreEndsOf (k + 1) p.outer row) (sym long) (first, last)
 
 -- ---- all together
 
@@ -114,12 +107,12 @@ module _ {S G K : Type 0} where
       subst (λ (y : Crew S G K). IsParted y inner middle outer) seen parted
 
   -- all ends are back
-  pub has_back : (v w : Crew S G K) (x : Answering) (p : Piping) (k : Keepers) → v ≡ w → v.slow ≡ x ∷ []
-      → HaveBack (inner_rows v) (middle_row v) ((map (λ (q : Working G). senders q.side.links) v.processors ++ senders x.side.links ∷ []) ++ shutter_ends v.shutters ∷ []) p k
-      → HaveBack (inner_rows w) (middle_row w) (outer_rows w) p k
+  pub has_back : {N : Type 0} (v w : Crew S G K) (x : Answering) (p : Piping) (k : Pipes N) → v ≡ w → v.slow ≡ x ∷ []
+      → HaveAllBack (inner_rows v) (middle_row v) ((map (λ (q : Working G). senders q.side.links) v.processors ++ senders x.side.links ∷ []) ++ shutter_ends v.shutters ∷ []) p k
+      → HaveAllBack (inner_rows w) (middle_row w) (outer_rows w) p k
   has_back v w x p k seen one back =
-      subst (λ (ls : List (List (Sender (Outgoing kinds)))). HaveBack (inner_rows w) (middle_row w) ls p k) (rows_parted v w x seen one)
-      (subst (λ (y : Crew S G K). HaveBack (inner_rows y) (middle_row y) ((map (λ (q : Working G). senders q.side.links) v.processors ++ senders x.side.links ∷ []) ++ shutter_ends v.shutters ∷ []) p k) seen back)
+      subst (λ (ls : List (List (Sender (Outgoing kinds)))). HaveAllBack (inner_rows w) (middle_row w) ls p k) (rows_parted v w x seen one)
+      (subst (λ (y : Crew S G K). HaveAllBack (inner_rows y) (middle_row y) ((map (λ (q : Working G). senders q.side.links) v.processors ++ senders x.side.links ∷ []) ++ shutter_ends v.shutters ∷ []) p k) seen back)
 
   pub has_marked : (v w : Crew S G K) (x : Answering) → v ≡ w → v.slow ≡ x ∷ []
       → Each (λ (r : Receiving S). AreMarked r.side.processors) v.receivers → Each (λ (p : Working G). AreMarked p.side.links × IsMarked p.slow.sender p.slow.ended) v.processors

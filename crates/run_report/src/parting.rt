@@ -3,7 +3,7 @@
 ghost use Rattle.std.specs.Prelude.{◌≡◌, ◌≤◌, ◌<◌, ◌+◌, ◌*◌, ◌++◌, ◌∷◌, ℕ, List, [], length, map, true, vec_capacity};
 ghost use Rattle.packet_ledger.specs.Share.{forwarded};
 ghost use Rattle.order_laws.specs.Deeds.{Each};
-ghost use Rattle.ruled_pipe.specs.Pipe.{IsEndOf};
+ghost use Rattle.ruled_pipe.specs.Pipe.{IsEndOf, Shape};
 ghost use Rattle.worker_order.specs.Keeping.{IsAnswering, IsForwarding, IsReceiving, IsWorking};
 ghost use Rattle.worker_order.specs.Returned.{AllAt};
 ghost use Rattle.router_stages.specs.Receiving.{EndsQuietly};
@@ -11,16 +11,18 @@ ghost use Rattle.worker_parts.specs.Outlet.{IsMarked};
 ghost use Rattle.worker_parts.specs.Outlets.{senders};
 ghost use Rattle.worker_parts.specs.Told.{told_of};
 ghost use Rattle.run_pipes.specs.Handing.{AreMarked, NeverClosed};
-ghost use Rattle.run_pipes.specs.Pipes.{HaveBack, LinkRows, ReceiverRows, RequestRow, piping_of};
+ghost use Rattle.run_pipes.specs.Piping.{Piping};
+ghost use Rattle.run_pipes.specs.Pipes.{HaveAllBack, LinkRows, ReceiverRows};
 ghost use Rattle.run_ends.specs.Rows.{AreEndsOf};
-ghost use Rattle.run_ends.specs.Shutting.{AreMarking, PushMarks, shutter_ends};
+ghost use Rattle.run_ends.specs.Shutting.{AreMarking, shutter_ends};
+ghost use Rattle.run_ends.specs.TakenBack.{HaveBack};
 ghost use Rattle.run_report.specs.Crew.{takers_of};
 
 use packet_ledger::Share;
 use router_stages::{Forwarder, Processor, Receiver, SlowPath};
-use ruled_pipe::Consumer;
+use ruled_pipe::{Consumer, Keeper};
 use run_ends::{Line, Shutter};
-use run_pipes::Pipes;
+use run_pipes::{Pipes, take_back};
 use worker_parts::{EgressPacket, Gate, Packet, RunBrand, Sink, SlowPathRequest, Source};
 
 /// The receivers' sources, and the shares with theirs.
@@ -37,11 +39,10 @@ pub fn part_receivers<N: RunBrand, S: Source>(
     sources: Vec<S>,
     shares: Vec<Share<N>>,
 ) -> ReceiverParts<N, S>
-    requires back { HaveBack [] [] [] (piping_of pipes.old) pipes.old }
-    requires ends { AllAt (λ a r. AreEndsOf a (piping_of pipes.old).inner (senders r.side.processors)) 0 receivers.items }
+    requires ends { (p : Piping) × HaveAllBack [] [] [] p pipes.old × AllAt (λ a r. AreEndsOf a p.inner (senders r.side.processors)) 0 receivers.items }
     requires sources { (sources.items ≡ []) × (length receivers.items ≤ vec_capacity sources) }
     requires shares { length shares.items + length receivers.items ≤ vec_capacity shares }
-    ensures back { HaveBack (map (λ r. senders r.side.processors) receivers.items) [] [] (piping_of pipes.old) pipes.new }
+    ensures back { (p : Piping) → HaveAllBack [] [] [] p pipes.old → HaveAllBack (map (λ r. senders r.side.processors) receivers.items) [] [] p pipes.new }
     ensures sources { result.sources.items ≡ map (λ r. r.source) receivers.items }
     ensures shares { (result.shares.items ≡ shares.items ++ map (λ r. r.side.share) receivers.items) × (vec_capacity result.shares ≡ vec_capacity shares) }
     ensures laws { Each (λ r. IsReceiving r.side.config r.side.link r.side.interface r.number (S.told r.source) r.side.stock.free.looks (senders r.side.processors) r.side.share × NeverClosed (senders r.side.processors)) receivers.items }
@@ -55,7 +56,7 @@ pub fn part_receivers<N: RunBrand, S: Source>(
     for k in 0..count {
         let receiver = receivers.next();
         let (source, processors, _, share) = receiver.into_parts();
-        pipes.take_back_receiver_ends(processors);
+        take_back(&mut pipes.inner, processors);
         sources.push_reserved(source);
         shares.push_reserved(share);
     }
@@ -77,11 +78,10 @@ pub fn part_processors<N: RunBrand, G: Gate + Drop>(
     takers: Vec<Consumer<Packet<N>>>,
     shares: Vec<Share<N>>,
 ) -> ProcessorParts<N>
-    requires back { (rs : ReceiverRows) × HaveBack rs [] [] (piping_of pipes.old) pipes.old }
-    requires ends { AllAt (λ i w. AreEndsOf i (piping_of pipes.old).outer (senders w.side.links) × IsEndOf (piping_of pipes.old).middle i w.slow.sender) 0 processors.items }
+    requires ends { (rs : ReceiverRows) × (p : Piping) × HaveAllBack rs [] [] p pipes.old × AllAt (λ i w. AreEndsOf i p.outer (senders w.side.links) × IsEndOf p.middle i w.slow.sender) 0 processors.items }
     requires takers { (takers.items ≡ []) × (length processors.items ≤ vec_capacity takers) }
     requires shares { length shares.items + length processors.items ≤ vec_capacity shares }
-    ensures back { (rs : ReceiverRows) → HaveBack rs [] [] (piping_of pipes.old) pipes.old → HaveBack rs (map (λ w. w.slow.sender) processors.items) (map (λ w. senders w.side.links) processors.items) (piping_of pipes.old) pipes.new }
+    ensures back { (rs : ReceiverRows) (p : Piping) → HaveAllBack rs [] [] p pipes.old → HaveAllBack rs (map (λ w. w.slow.sender) processors.items) (map (λ w. senders w.side.links) processors.items) p pipes.new }
     ensures takers { result.takers.items ≡ map (λ w. w.taker) processors.items }
     ensures shares { (result.shares.items ≡ shares.items ++ map (λ w. w.side.share) processors.items) × (vec_capacity result.shares ≡ vec_capacity shares) }
     ensures laws { Each (λ w. IsWorking w.side.config w.taker w.hand (senders w.side.links) w.slow.sender w.side.share × NeverClosed (senders w.side.links)) processors.items }
@@ -95,8 +95,8 @@ pub fn part_processors<N: RunBrand, G: Gate + Drop>(
         let processor = processors.next();
         let (from, links, slow, _, share, _) = processor.into_parts();
         takers.push_reserved(from.into_consumer());
-        pipes.take_back_request_end(slow);
-        pipes.take_back_link_ends(links);
+        pipes.middle.absorb(slow.into_producer());
+        take_back(&mut pipes.outer, links);
         shares.push_reserved(share);
     }
     processors.destroy_empty();
@@ -110,27 +110,26 @@ pub struct SlowPathParts<N: RunBrand> {
     pub shares: Vec<Share<N>>,
 }
 
-/// Takes the slow path and the controller's ends apart.
+/// Takes the slow path and the controller's ends apart: the links' pipes take back both's.
 pub fn part_slow_path<N: RunBrand>(
     slow: SlowPath<N>,
     shutters: Vec<Shutter<EgressPacket<N>>>,
-    pipes: &mut Pipes<N>,
+    pipes: &mut Vec<Keeper<EgressPacket<N>>>,
     shares: Vec<Share<N>>,
 ) -> SlowPathParts<N>
-    requires back { (rs : ReceiverRows) × (ms : RequestRow) × (ls : LinkRows) × HaveBack rs ms ls (piping_of pipes.old) pipes.old × AreEndsOf (length ls) (piping_of pipes.old).outer (senders slow.side.links) × AreEndsOf (length ls + 1) (piping_of pipes.old).outer (shutter_ends shutters.items) }
+    requires back { (ls : LinkRows) × (ss : List Shape) × HaveBack ls ss pipes.old.items × AreEndsOf (length ls) ss (senders slow.side.links) × AreEndsOf (length ls + 1) ss (shutter_ends shutters.items) }
     requires shares { length shares.items < vec_capacity shares }
-    ensures back { (rs : ReceiverRows) (ms : RequestRow) (ls : LinkRows) → HaveBack rs ms ls (piping_of pipes.old) pipes.old → HaveBack rs ms ((ls ++ senders slow.side.links ∷ []) ++ shutter_ends shutters.items ∷ []) (piping_of pipes.old) pipes.new }
+    ensures back { (ls : LinkRows) (ss : List Shape) → HaveBack ls ss pipes.old.items → HaveBack ((ls ++ senders slow.side.links ∷ []) ++ shutter_ends shutters.items ∷ []) ss pipes.new.items }
     ensures taker { result.requests ≡ slow.taker }
     ensures shares { (result.shares.items ≡ shares.items ++ slow.side.share ∷ []) × (vec_capacity result.shares ≡ vec_capacity shares) }
     ensures laws { IsAnswering slow.side.config slow.taker (senders slow.side.links) slow.side.share × NeverClosed (senders slow.side.links) }
     ensures marks { AreMarked slow.side.links }
     ensures marking { AreMarking shutters.items }
-    ensures pushes { PushMarks shutters.items }
 {
     let mut shares = shares;
     let (from, links, _, share) = slow.into_parts();
-    pipes.take_back_link_ends(links);
-    pipes.take_back_shutters(shutters);
+    take_back(pipes, links);
+    take_back(pipes, shutters);
     shares.push_reserved(share);
     SlowPathParts {
         requests: from.into_consumer(),

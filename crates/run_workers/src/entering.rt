@@ -1,15 +1,13 @@
 //! What receivers are made of.
 
-ghost use Rattle.std.specs.Prelude.{◌≡◌, ◌<◌, ℕ, List, IfOk, [], Some, length};
+ghost use Rattle.std.specs.Prelude.{◌≡◌, ◌<◌, IfOk, [], Some, length};
 ghost use Rattle.std.specs.Arc.{arc_value};
 ghost use Rattle.packet_ledger.specs.Share.{new_share};
 ghost use Rattle.router_rules.specs.Links.{link_count};
-ghost use Rattle.ruled_pipe.specs.Pipe.{Shape};
-ghost use Rattle.worker_parts.specs.Outlets.{senders};
-ghost use Rattle.run_ends.specs.Rows.{AreEndsOf, IsBundle, fresh_ends, new_takers};
-ghost use Rattle.run_ends.specs.Opened.{shapes_of};
-ghost use Rattle.run_pipes.specs.Piping.{IsPiping};
-ghost use Rattle.run_pipes.specs.Pipes.{HaveMade, piping_of};
+ghost use Rattle.worker_parts.specs.Outlets.{AreFresh};
+ghost use Rattle.run_ends.specs.Rows.{new_takers};
+ghost use Rattle.run_pipes.specs.Piping.{Piping};
+ghost use Rattle.run_pipes.specs.Pipes.{HaveReceivers};
 ghost use Rattle.run_workers.specs.Kits.{IsEnteringAt};
 ghost use Rattle.run_workers.specs.Shares.{AreNewShares, HaveGone};
 ghost use Rattle.run_pipes.specs.Rest.{IsRest};
@@ -19,14 +17,14 @@ use crate::over::Over;
 use packet_ledger::Share;
 use router_rules::{LinkIndex, Shared, link_count};
 use router_stages::Receiver;
-use ruled_pipe::{Consumer, Producer};
+use ruled_pipe::Consumer;
 use run_ends::Line;
 use run_pipes::{Pipes, outlets};
 use std::alloc::{AllocError, Global};
 use std::marker::Model;
 use std::sync::Arc;
 use std::sync::atomic::AtomicU64;
-use worker_parts::{Buffer, Outlet, Packet, RunBrand, Source, all_three};
+use worker_parts::{Buffer, Outlet, Packet, RunBrand, Source, both};
 
 /// All that a receiver is made of but its source.
 pub struct Entering<N: RunBrand> {
@@ -94,23 +92,21 @@ fn entering_at<N: RunBrand>(
     alloc: Global,
     common: &Common,
     link: LinkIndex,
-    ends: Vec<Producer<Packet<N>>>,
+    processors: Vec<Outlet<Packet<N>>>,
     free: Consumer<Buffer>,
     share: Share<N>,
 ) -> Result<Entering<N>, AllocError>
     requires config { N.config ≡ Some (arc_value common.now.shared).config }
     requires link { link < link_count (arc_value common.now.shared).config }
-    requires ends { IsBundle ends.items × (length ends.items ≡ (arc_value common.now.shared).config.processors) }
+    requires processors { AreFresh processors.items × (length processors.items ≡ (arc_value common.now.shared).config.processors) }
     requires free { free.looks ≡ [] }
     requires share { share ≡ new_share }
     ensures config { IfOk result (λ e. (e.config ≡ (arc_value common.now.shared).config) × (e.link ≡ link)) }
-    ensures free { IfOk result (λ e. e.free ≡ free) }
-    ensures processors { IfOk result (λ e. (p : ℕ) (shapes : List Shape) → ends.items ≡ fresh_ends p shapes → AreEndsOf p shapes (senders e.processors)) }
+    ensures ends { IfOk result (λ e. (e.free ≡ free) × (e.processors ≡ processors.items)) }
 {
     let stop = Arc::try_clone(&common.stop)?;
-    let processors = outlets(alloc, ends, common.events.processors.as_slice(), 1);
     let shared = Arc::try_clone(&common.shared);
-    let (processors, shared, first) = all_three(processors, shared, Buffer::new(alloc))?;
+    let (shared, first) = both(shared, Buffer::new(alloc))?;
     Ok(Entering {
         shared,
         stop,
@@ -131,29 +127,21 @@ pub fn all_entering<N: RunBrand>(
     shares: &mut Line<Share<N>>,
 ) -> Result<Vec<Entering<N>>, AllocError>
     requires config { N.config ≡ Some (arc_value common.now.shared).config }
-    requires piping { IsPiping (arc_value common.now.shared).config (piping_of pipes.old) }
-    requires made { HaveMade 0 0 0 0 (piping_of pipes.old) pipes.old }
-    requires free { free.items ≡ new_takers (shapes_of pipes.old.free) }
+    requires pipes { (p : Piping) × HaveReceivers (arc_value common.now.shared).config 0 p pipes.old × (free.items ≡ new_takers p.free) }
     requires shares { AreNewShares (link_count (arc_value common.now.shared).config) shares.old }
-    ensures pipes { IfOk result (λ _. HaveMade (link_count (arc_value common.now.shared).config) 0 0 0 (piping_of pipes.old) pipes.new) }
     ensures shares { IfOk result (λ _. HaveGone (link_count (arc_value common.now.shared).config) shares.old shares.new) }
-    ensures made { IfOk result (λ v. IsRest (IsEnteringAt (arc_value common.now.shared).config (piping_of pipes.old)) 0 (link_count (arc_value common.now.shared).config) v.items) }
+    ensures made { let c = (arc_value common.now.shared).config in IfOk result (λ v. (p : Piping) → HaveReceivers c 0 p pipes.old → free.items ≡ new_takers p.free → HaveReceivers c (link_count c) p pipes.new × IsRest (IsEnteringAt c p) 0 (link_count c) v.items) }
 {
     let links = link_count(&common.shared.config);
     let mut made = Vec::with_capacity(alloc, links)?;
     let mut free = Line::of(free);
     for link in 0..links {
-        let ends = pipes.receiver_ends(alloc)?;
+        let events = common.events.processors.as_slice();
+        let processors = outlets(alloc, &mut pipes.inner, events, 1)?;
         let taker = free.next();
         let share = shares.next();
-        made.push_reserved(entering_at(
-            alloc,
-            common,
-            LinkIndex::of(link as u16),
-            ends,
-            taker,
-            share,
-        )?);
+        let link = LinkIndex::of(link as u16);
+        made.push_reserved(entering_at(alloc, common, link, processors, taker, share)?);
     }
     Ok(made)
 }

@@ -1,14 +1,13 @@
 //! What forwarders are made of.
 
-ghost use Rattle.std.specs.Prelude.{◌≡◌, ◌+◌, ◌*◌, IfOk, [], Some, length, false};
+ghost use Rattle.std.specs.Prelude.{◌≡◌, IfOk, [], Some, length, false};
 ghost use Rattle.std.specs.Arc.{arc_value};
 ghost use Rattle.packet_ledger.specs.Share.{new_share};
 ghost use Rattle.router_rules.specs.Links.{link_count};
 ghost use Rattle.router_stages.specs.Forwarding.{band};
 ghost use Rattle.run_ends.specs.Rows.{new_takers};
-ghost use Rattle.run_ends.specs.Opened.{shapes_of};
-ghost use Rattle.run_pipes.specs.Piping.{IsPiping, Piping};
-ghost use Rattle.run_pipes.specs.Pipes.{HaveMade, piping_of};
+ghost use Rattle.run_pipes.specs.Piping.{Piping};
+ghost use Rattle.run_pipes.specs.Pipes.{HaveForwarders};
 ghost use Rattle.run_workers.specs.Kits.{IsLeavingAt};
 ghost use Rattle.run_workers.specs.Shares.{AreNewShares};
 ghost use Rattle.run_pipes.specs.Rest.{IsRest};
@@ -19,7 +18,7 @@ use packet_ledger::Share;
 use router_rules::{LinkIndex, Shared, link_count};
 use router_stages::{Band, Forwarder};
 use ruled_pipe::{Consumer, Producer};
-use run_ends::Line;
+use run_ends::{Line, next_producers};
 use run_pipes::Pipes;
 use std::alloc::{AllocError, Global};
 use std::marker::Model;
@@ -121,12 +120,9 @@ pub fn all_leaving<N: RunBrand>(
     shares: &mut Line<Share<N>>,
 ) -> Result<Vec<Leaving<N>>, AllocError>
     requires config { N.config ≡ Some (arc_value common.now.shared).config }
-    requires piping { IsPiping (arc_value common.now.shared).config (piping_of pipes.old) }
-    requires made { HaveMade (link_count (arc_value common.now.shared).config) (arc_value common.now.shared).config.processors ((arc_value common.now.shared).config.processors + 2) ((arc_value common.now.shared).config.processors + 1) (piping_of pipes.old) pipes.old }
-    requires takers { takers.items ≡ new_takers (shapes_of pipes.old.outer) }
+    requires pipes { (p : Piping) × HaveForwarders (arc_value common.now.shared).config 0 p pipes.old × (takers.items ≡ new_takers p.outer) }
     requires shares { AreNewShares (link_count (arc_value common.now.shared).config) shares.old }
-    ensures pipes { IfOk result (λ _. HaveMade (link_count (arc_value common.now.shared).config) (arc_value common.now.shared).config.processors ((arc_value common.now.shared).config.processors + 2) ((arc_value common.now.shared).config.processors + 1 + link_count (arc_value common.now.shared).config) (piping_of pipes.old) pipes.new) }
-    ensures made { IfOk result (λ v. IsRest (IsLeavingAt (arc_value common.now.shared).config (piping_of pipes.old)) 0 (link_count (arc_value common.now.shared).config) v.items) }
+    ensures { let c = (arc_value common.now.shared).config in IfOk result (λ v. (p : Piping) → HaveForwarders c 0 p pipes.old → takers.items ≡ new_takers p.outer → HaveForwarders c (link_count c) p pipes.new × IsRest (IsLeavingAt c p) 0 (link_count c) v.items) }
 {
     let links = link_count(&common.shared.config);
     let producers = usize::from(common.shared.config.processors) + 2;
@@ -134,7 +130,7 @@ pub fn all_leaving<N: RunBrand>(
     let mut takers = Line::of(takers);
     for link in 0..links {
         let own = Arc::try_clone(&common.shared)?;
-        let free = pipes.free_ends(alloc)?;
+        let free = next_producers(alloc, &mut pipes.free)?;
         let low = takers.next();
         let high = takers.next();
         let share = shares.next();

@@ -1,5 +1,5 @@
 use Rattle.std.proofs.Common.{◌≡◌, length, ap, arith}
-use Rattle.run_ends.proofs.TakenBackLemmas.{done_as, done_next, done_none, ready_as, ready_long, ready_next}
+use Rattle.run_ends.proofs.TakenBackLemmas.{all_ready, done_as, done_next, done_none, ready_as, ready_long, ready_next, settled_rows}
 use Rattle.run_ends.proofs.settling.settle_all.Goals as goal
 
 pub loop-k-init : goal.loop-k-init
@@ -8,7 +8,7 @@ loop-k-init g c =
     let ts = c.of-takers.ensures in
     record {
       left = let l = ap length ps in omega arith;
-      ready = ready_as c.args.pipes.items _ c.args.takers.items _ ps ts c.requires;
+      ready = ready_as c.args.pipes.items _ c.args.takers.items _ ps ts (all_ready c.requires.0 c.requires.1 c.args.pipes.items c.args.takers.items c.requires.2 c.requires.3);
       done = λ done. done_as c.of-pipes.result _ c.of-takers.result _ ps ts done;
     }
 
@@ -34,7 +34,7 @@ loop-k-preserved g c =
     }
 
 pub returns : goal.returns
-returns g c =
+returns g c = λ rows ss back.
     let at = c.loop-k in
     let none : length at.pipes ≡ 0 = let a = at.auto.k-end in let f = c.loop-k-test.false in let n = c.len-count.ensures in let o = c.args.pipes.ok in let l = at.invariant.left in omega arith in
-    at.invariant.done (done_none at.pipes at.takers at.invariant.ready none)
+    settled_rows rows ss c.args.pipes.items c.args.takers.items back (at.invariant.done (done_none at.pipes at.takers at.invariant.ready none))

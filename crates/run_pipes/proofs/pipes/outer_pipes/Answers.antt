@@ -1,23 +1,20 @@
-use Rattle.std.proofs.Common.{◌≡◌, ◌+◌, ℕ, length, sym, subst, ap, ◌∙◌, arith}
+use Rattle.std.proofs.Common.{◌≡◌, ◌+◌, ◌*◌, ℕ, subst, arith}
+use Rattle.router_rules.specs.Links.{link_count}
 use Rattle.run_ends.specs.Opened.{AreNewPipes}
-use Rattle.run_ends.proofs.OpenedLemmas.{open_none}
 use Rattle.run_pipes.specs.Piping.{outer_capacity}
 use Rattle.run_pipes.proofs.pipes.outer_pipes.Goals as goal
 
 pub loop-at-init : goal.loop-at-init
-loop-at-init g c =
-    let none = c.none-opened.ensures in
-    (open_none (outer_capacity c.args.shared.now.config) _ _ _ none.0 none.1, ap length none.0)
+loop-at-init g c = c.none-opened.ensures (outer_capacity c.args.shared.now.config) _
 
 pub loop-at-preserved : goal.loop-at-preserved
-loop-at-preserved g c =
-    let at = c.loop-at in
-    let more = c.in_ok-opened.ensures in (
-      more.new (outer_capacity c.args.shared.now.config) at.invariant.0 (c.capacity_at.ensures.capacity ∙ ap (outer_capacity c.args.shared.now.config) (sym at.invariant.1)),
-      more.count ∙ ap (λ (n : ℕ). n + 1) at.invariant.1,
-    )
+loop-at-preserved g c = c.in_ok-opened.ensures (outer_capacity c.args.shared.now.config) c.loop-at.at c.loop-at.invariant c.capacity_at.ensures.capacity
 
-pub returns-clause-new : goal.returns-clause-new
-returns-clause-new g c =
+pub returns : goal.returns
+returns g c =
+    let config = c.args.shared.now.config in
+    let at = c.loop-at in
+    let all : at.at ≡ 2 * link_count config = let a = at.auto.at-end in let f = c.loop-at-test.false in let l = c.link_count-links.ensures.count in omega arith in
     let n = c.from-producers.ensures in
-    subst (λ (m : ℕ). AreNewPipes (outer_capacity c.args.shared.now.config) (m + 2) 0 c.loop-at.opened.pipes.items c.loop-at.opened.takers.items) n c.loop-at.invariant.0
+    subst (λ (m : ℕ). AreNewPipes (outer_capacity config) (m + 2) (2 * link_count config) at.opened.pipes.items at.opened.takers.items) n
+    (subst (λ (k : ℕ). AreNewPipes (outer_capacity config) (c.from-producers.result + 2) k at.opened.pipes.items at.opened.takers.items) all at.invariant)

@@ -10,17 +10,18 @@ use Rattle.router_rules.specs.Rules.{kinds}
 use Rattle.worker_parts.specs.Outlet.{IsMarked}
 use Rattle.worker_parts.specs.Outlets.{senders}
 use Rattle.run_pipes.specs.Handing.{AreMarked, NeverClosed}
-use Rattle.run_pipes.specs.Pipes.{HaveBack, piping_of}
+use Rattle.run_pipes.specs.Piping.{Piping}
+use Rattle.run_pipes.specs.Pipes.{HaveAllBack}
 use Rattle.run_ends.specs.Rows.{AreEndsOf}
 use Rattle.run_report.proofs.parting.part_processors.Given as goal
 
 abbrev pub invariant-loop-k : goal.invariant-loop-k
 invariant-loop-k g l = record {
   left : l.k + length l.processors ≡ length l.fn.processors.items;
-  ends : AllAt (λ i w. AreEndsOf i (piping_of l.initial.pipes).outer (senders w.side.links) × IsEndOf (piping_of l.initial.pipes).middle i w.slow.sender) l.k l.processors;
+  ends : (p : Piping) → AllAt (λ i w. AreEndsOf i p.outer (senders w.side.links) × IsEndOf p.middle i w.slow.sender) 0 l.fn.processors.items → AllAt (λ i w. AreEndsOf i p.outer (senders w.side.links) × IsEndOf p.middle i w.slow.sender) l.k l.processors;
   back : (ms : List (Sender (SlowPathRequest kinds))) × (length ms ≡ l.k) × (ms ++ map (λ w. w.slow.sender) l.processors ≡ map (λ w. w.slow.sender) l.fn.processors.items)
       × ((ls : List (List (Sender (Outgoing kinds)))) × (length ls ≡ l.k) × (ls ++ map (λ w. senders w.side.links) l.processors ≡ map (λ w. senders w.side.links) l.fn.processors.items)
-      × ((rs : List (List (Sender (Arrival kinds)))) → HaveBack rs [] [] (piping_of l.initial.pipes) l.initial.pipes → HaveBack rs ms ls (piping_of l.initial.pipes) l.pipes));
+      × ((rs : List (List (Sender (Arrival kinds)))) (p : Piping) → HaveAllBack rs [] [] p l.initial.pipes → HaveAllBack rs ms ls p l.pipes));
   takers : l.takers.items ++ map (λ w. w.taker) l.processors ≡ map (λ w. w.taker) l.fn.processors.items;
   taker_room : (length l.takers.items ≡ l.k) × (length l.fn.processors.items ≤ vec_capacity l.takers);
   shares : l.shares.items ++ map (λ w. w.side.share) l.processors ≡ l.fn.shares.items ++ map (λ w. w.side.share) l.fn.processors.items;

@@ -1,4 +1,4 @@
-use Rattle.std.proofs.Common.{[], ◌∷◌, ◌++◌, List, length, refl, sym, ◌∙◌, ap, subst, arith, vec_capacity}
+use Rattle.std.proofs.Common.{[], List, length, refl, sym, ◌∙◌, ap, subst, arith, vec_capacity}
 use Rattle.order_laws.specs.Item.{Arrival}
 use Rattle.ruled_pipe.specs.Producer.{Sender}
 use Rattle.router_rules.specs.Rules.{kinds}
@@ -6,10 +6,10 @@ use Rattle.router_stages.specs.Receiving.{Receiving}
 use Rattle.worker_parts.specs.Outlets.{senders}
 use Rattle.worker_order.specs.Returned.{AllAt}
 use Rattle.run_pipes.specs.Handing.{AreMarked, NeverClosed}
-use Rattle.run_pipes.specs.Pipes.{HaveBack, piping_of}
-use Rattle.run_pipes.proofs.PipesLemmas.{inner_row_next}
+use Rattle.run_pipes.specs.Pipes.{HaveAllBack}
+use Rattle.run_pipes.proofs.HandingLemmas.{never_closed}
 use Rattle.run_ends.specs.Rows.{AreEndsOf}
-use Rattle.run_report.proofs.PartLemmas.{each_same, each_none, longer, none_left, started, same_after, grown, room_kept, fits_still}
+use Rattle.run_report.proofs.PartLemmas.{each_same, each_none, ends_as_next, longer, none_left, started, same_after, grown, room_kept, fits_still}
 use Rattle.run_workers.proofs.RestLemmas.{all_done, all_next, each_back, shorter}
 use Rattle.run_report.proofs.parting.part_receivers.Goals as goal
 
@@ -18,8 +18,8 @@ loop-k-init g c =
     let e = c.of-receivers.ensures in
     record {
       left = let a = ap length e in omega arith;
-      ends = subst (λ (xs : List (Receiving _)). AllAt (λ a r. AreEndsOf a (piping_of c.args.pipes.now).inner (senders r.side.processors)) 0 xs) (sym e) c.requires.ends;
-      back = ([], refl, started _ _ _ _ refl e, c.requires.back);
+      ends = λ p all. subst (λ (xs : List (Receiving _)). AllAt (λ a r. AreEndsOf a p.inner (senders r.side.processors)) 0 xs) (sym e) all;
+      back = ([], refl, started _ _ _ _ refl e, λ p back. back);
       sources = started _ _ _ _ c.requires.sources.0 e;
       source_room = (ap length c.requires.sources.0, c.requires.sources.1);
       shares = same_after _ _ _ _ e;
@@ -32,13 +32,13 @@ loop-k-init g c =
 pub next-receiver-requires : goal.next-receiver-requires
 next-receiver-requires g c = let t = c.loop-k-test.true in let n = c.len-count.ensures in let o = c.args.receivers.ok in let l = c.loop-k.invariant.left in omega arith
 
-pub take_back_receiver_ends-requires : goal.take_back_receiver_ends-requires
-take_back_receiver_ends-requires g c =
+pub take_back-requires : goal.take_back-requires
+take_back-requires g c =
     let at = c.loop-k in
-    let p = piping_of c.args.pipes.now in
-    let ends = (all_next (λ a r. AreEndsOf a p.inner (senders r.side.processors)) at.k at.receivers c.next-receiver.new.self c.next-receiver.result c.next-receiver.ensures at.invariant.ends).0 in
+    let was = c.requires.ends in
+    let ends = (all_next (λ a r. AreEndsOf a was.0.inner (senders r.side.processors)) at.k at.receivers c.next-receiver.new.self c.next-receiver.result c.next-receiver.ensures (at.invariant.ends was.0 was.2)).0 in
     let back = at.invariant.back in
-    inner_row_next back.0 [] [] p at.pipes back.3 at.k _ (subst (λ (row : List (Sender (Arrival kinds))). AreEndsOf at.k p.inner row) (sym (ap senders c.into_parts-source.ensures.parts.1)) ends) back.1
+    (back.0, was.0.inner, (back.3 was.0 was.1).inner, ends_as_next back.0 at.k was.0.inner _ _ back.1 (ap senders c.into_parts-source.ensures.parts.1) ends)
 
 pub push_reserved-requires : goal.push_reserved-requires
 push_reserved-requires g c = let t = c.loop-k-test.true in let n = c.len-count.ensures in let o = c.args.receivers.ok in let l = c.loop-k.invariant.left in let r = c.loop-k.invariant.source_room in let a = r.0 in let b = r.1 in omega arith
@@ -50,26 +50,25 @@ pub loop-k-preserved : goal.loop-k-preserved
 loop-k-preserved g c =
     let at = c.loop-k in
     let inv = at.invariant in
-    let p = piping_of c.args.pipes.now in
     let is = c.next-receiver.ensures in
     let parts = c.into_parts-source.ensures.parts in
     let ends = ap senders parts.1 in
-    let taken = c.take_back_receiver_ends.ensures in
+    let taken = c.take_back.ensures in
     let read = c.push_reserved.ensures in
     let shared = c.push_reserved-in-loop-k.ensures in
     let sources = c.push_reserved.new.self in
     let shares = c.push_reserved-in-loop-k.new.self in
     record {
       left = shorter _ _ _ _ _ is inv.left;
-      ends = (all_next (λ a r. AreEndsOf a p.inner (senders r.side.processors)) at.k at.receivers c.next-receiver.new.self c.next-receiver.result is inv.ends).1;
-      back = (_, longer _ inv.back.0 _ _ refl inv.back.1, grown _ inv.back.0 _ _ _ _ _ _ is refl ends inv.back.2, taken.back inv.back.0 [] [] p inv.back.3);
+      ends = λ p all. (all_next (λ a r. AreEndsOf a p.inner (senders r.side.processors)) at.k at.receivers c.next-receiver.new.self c.next-receiver.result is (inv.ends p all)).1;
+      back = (_, longer _ inv.back.0 _ _ refl inv.back.1, grown _ inv.back.0 _ _ _ _ _ _ is refl ends inv.back.2, λ p back. let was = inv.back.3 p back in record { inner = taken.back inv.back.0 p.inner was.inner; middle = was.middle; outer = was.outer });
       sources = grown _ _ sources.items _ _ _ _ _ is read.items parts.0 inv.sources;
       source_room = (longer _ _ sources.items _ read.items inv.source_room.0, fits_still _ _ (vec_capacity sources) read.capacity inv.source_room.1);
       shares = grown _ _ shares.items _ _ _ _ _ is shared.items parts.3 inv.shares;
       share_room = (room_kept _ shares.items _ _ _ _ _ (vec_capacity shares) shared.items is shared.capacity inv.share_room.0, shared.capacity ∙ inv.share_room.1);
-      laws = each_back _ _ _ _ _ is inv.laws (c.into_parts-source.ensures.law, subst (λ xs. NeverClosed xs) ends taken.unclosed);
+      laws = each_back _ _ _ _ _ is inv.laws (c.into_parts-source.ensures.law, subst (λ xs. NeverClosed xs) ends (never_closed _ taken.told));
       quiet = each_back _ _ _ _ _ is inv.quiet c.into_parts-source.ensures.quiet;
-      marks = each_back _ _ _ _ _ is inv.marks (subst (λ xs. AreMarked xs) parts.1 taken.marks);
+      marks = each_back _ _ _ _ _ is inv.marks (subst (λ xs. AreMarked xs) parts.1 taken.told);
     }
 
 pub destroy_empty-requires : goal.destroy_empty-requires
@@ -80,7 +79,7 @@ returns-clause-back g c =
     let at = c.loop-k in
     let back = at.invariant.back in
     let all = all_done _ back.0 _ _ (none_left _ _ _ _ c.loop-k-test.false (c.len-count.ensures ∙ c.args.receivers.ok.0) at.invariant.left) back.2 in
-    subst (λ (rows : List (List (Sender (Arrival kinds)))). HaveBack rows [] [] (piping_of c.args.pipes.now) at.pipes) all back.3
+    λ p was. subst (λ (rows : List (List (Sender (Arrival kinds)))). HaveAllBack rows [] [] p at.pipes) all (back.3 p was)
 
 pub returns-clause-sources : goal.returns-clause-sources
 returns-clause-sources g c = all_done _ _ _ _ (none_left _ _ _ _ c.loop-k-test.false (c.len-count.ensures ∙ c.args.receivers.ok.0) c.loop-k.invariant.left) c.loop-k.invariant.sources

@@ -1,7 +1,7 @@
 use Rattle.std.proofs.Common.{length, sym, ◌∙◌, ap}
 use Rattle.worker_order.proofs.Returned.{runs_as_told}
-use Rattle.run_pipes.proofs.PipesLemmas.{none_are_back}
-use Rattle.router_run.proofs.Finish.{has_run, inner_ready, middle_ready, outer_ready, run_as, settled, shares_count, the_slow}
+use Rattle.run_pipes.proofs.PipesLemmas.{none_are_all_back}
+use Rattle.router_run.proofs.Finish.{has_run, ready, run_as, settled, shares_count, the_slow}
 use Rattle.run_report.proofs.PartedLemmas.{own_ends, own_space}
 use Rattle.router_run.proofs.Crews.{crews_end}
 use Rattle.router_run.proofs.Devices.{without_devices}
@@ -11,33 +11,21 @@ use Rattle.router_run.proofs.running.Running.finish.Goals as goal
 pub join_workers-joined-requires : goal.join_workers-joined-requires
 join_workers-joined-requires g c = record { unmarked = c.self.invariant.1.unended }
 
-pub part_all-takers-requires-clause-back : goal.part_all-takers-requires-clause-back
-part_all-takers-requires-clause-back g c = none_are_back _ _ _ _ c.self.invariant.1.pipes c.self.invariant.2
-
 pub part_all-takers-requires-clause-ends : goal.part_all-takers-requires-clause-ends
-part_all-takers-requires-clause-ends g c = own_ends _ _ _ _ (has_ends _ _ _ _ c.self.invariant.1 (without_devices g.S.Source.same g.K.Sink.same _ _ c.join_workers-joined.ensures))
+part_all-takers-requires-clause-ends g c =
+    let back = without_devices g.S.Source.same g.K.Sink.same _ _ c.join_workers-joined.ensures in
+    (_, none_are_all_back _ _ _ _ c.self.invariant.2, own_ends _ _ _ _ (has_ends _ _ _ _ c.self.invariant.1 back))
 
 pub part_all-takers-requires-clause-space : goal.part_all-takers-requires-clause-space
 part_all-takers-requires-clause-space g c = own_space _ _ _ _ _ (has_ends _ _ _ _ c.self.invariant.1 (without_devices g.S.Source.same g.K.Sink.same _ _ c.join_workers-joined.ensures)) c.self.invariant.3
 
-pub settle-requires-clause-inner : goal.settle-requires-clause-inner
-settle-requires-clause-inner g c =
-    let back = without_devices g.S.Source.same g.K.Sink.same _ _ c.join_workers-joined.ensures in
-    let parted = c.part_all-takers.ensures in
-    inner_ready _ _ _ _ parted.takers _ _ parted.back (crews_end _ _ _ _ c.self.invariant.1 back parted.marks)
-
-pub settle-requires-clause-middle : goal.settle-requires-clause-middle
-settle-requires-clause-middle g c =
+pub settle-requires : goal.settle-requires
+settle-requires g c =
     let back = without_devices g.S.Source.same g.K.Sink.same _ _ c.join_workers-joined.ensures in
     let slow = the_slow _ _ _ _ (has_ends _ _ _ _ c.self.invariant.1 back) in
     let parted = c.part_all-takers.ensures in
-    middle_ready _ _ _ _ parted.takers _ _ parted.back slow.0 slow.1 (crews_end _ _ _ _ c.self.invariant.1 back parted.marks)
-
-pub settle-requires-clause-outer : goal.settle-requires-clause-outer
-settle-requires-clause-outer g c =
-    let back = without_devices g.S.Source.same g.K.Sink.same _ _ c.join_workers-joined.ensures in
-    let parted = c.part_all-takers.ensures in
-    outer_ready _ _ _ _ parted.takers _ _ parted.back (crews_end _ _ _ _ c.self.invariant.1 back parted.marks)
+    let r = ready _ _ _ _ parted.takers _ slow.0 slow.1 (crews_end _ _ _ _ c.self.invariant.1 back parted.marks) in
+    (_, _, _, _, parted.back _ (none_are_all_back _ _ _ _ c.self.invariant.2), r.0, r.1, r.2)
 
 pub report_of-requires : goal.report_of-requires
 report_of-requires g c =
@@ -51,8 +39,7 @@ returns g c =
     let slow = the_slow _ _ _ _ (has_ends _ _ _ _ c.self.invariant.1 back) in
     let parted = c.part_all-takers.ensures in
     let report = c.report_of.ensures in
-    let done = c.settle.ensures in
-    let set = settled _ _ _ _ parted.takers _ _ parted.back slow.0 slow.1 done.inner done.middle done.outer in
+    let set = settled _ _ _ _ parted.takers _ slow.0 slow.1 (c.settle.ensures _ _ _ _ (parted.back _ (none_are_all_back _ _ _ _ c.self.invariant.2))) in
     run_as g.S.Source.told g.K.Sink.told g.K.Sink.failed g.S.Source.same g.K.Sink.same _ _ _ _ _ _ c.self.view_is
     (has_run g.S.Source.told g.K.Sink.told g.K.Sink.failed g.S.Source.same g.K.Sink.same (runs_as_told c.rules_are_lawful.ensures c.links_stand_in_order.ensures c.causes_are_apart.ensures)
     _ _ slow.0 _ _ _ _ _ c.self.invariant.1 came parted.kept set slow.1 parted.shares report.totals (report.sent ∙ parted.sent) (report.sources ∙ parted.sources) (report.sinks ∙ parted.sinks))

@@ -1,24 +1,23 @@
-use Rattle.std.proofs.Common.{sym, subst}
-use Rattle.ruled_pipe.specs.Pipe.{shape_of}
+use Rattle.std.proofs.Common.{true, refl, sym, subst}
+use Rattle.order_laws.specs.Settled.{SlowPathRequest}
+use Rattle.ruled_pipe.specs.Pipe.{Keeping, shape_of}
+use Rattle.router_rules.specs.Rules.{kinds}
+use Rattle.run_ends.specs.Finished.{IsReady}
 use Rattle.run_ends.specs.Settled.{IsDone}
-use Rattle.run_ends.specs.Finished.{AreDone, AreReady, IsReady}
-use Rattle.run_pipes.specs.Pipes.{Keepers}
 use Rattle.run_pipes.proofs.pipes.Pipes.settle.Goals as goal
 
 pub settle_all-requires : goal.settle_all-requires
-settle_all-requires g c = subst (λ (k : Keepers). AreReady k.inner c.args.packets.items) (sym c.self.view_is) c.requires.inner
+settle_all-requires g c = let was = c.requires in (was.0, was.3.inner, was.4.inner, was.5)
 
 pub settle-requires : goal.settle-requires
-settle-requires g c = subst (λ (k : Keepers). IsReady k.middle c.args.requests) (sym c.self.view_is) c.requires.middle
+settle-requires g c = let was = c.requires in subst (λ (o : Keeping (SlowPathRequest kinds)). IsReady o c.args.requests) (sym was.4.middle) (refl, (true, was.6))
 
 pub settle_all-requires-2 : goal.settle_all-requires-2
-settle_all-requires-2 g c = subst (λ (k : Keepers). AreReady k.outer c.args.egress_packets.items) (sym c.self.view_is) c.requires.outer
+settle_all-requires-2 g c = let was = c.requires in (was.2, was.3.outer, was.4.outer, was.7)
 
-pub returns-clause-inner : goal.returns-clause-inner
-returns-clause-inner g c = subst (λ (k : Keepers). AreDone k.inner c.args.packets.items) c.self.view_is c.settle_all.ensures
-
-pub returns-clause-middle : goal.returns-clause-middle
-returns-clause-middle g c = subst (λ (k : Keepers). IsDone (shape_of k.middle) k.middle.senders c.args.requests) c.self.view_is c.settle.ensures
-
-pub returns-clause-outer : goal.returns-clause-outer
-returns-clause-outer g c = subst (λ (k : Keepers). AreDone k.outer c.args.egress_packets.items) c.self.view_is c.settle_all-2.ensures
+pub returns : goal.returns
+returns g c = λ rs ms ls p back. (
+  c.settle_all.ensures rs p.inner back.inner,
+  subst (λ (o : Keeping (SlowPathRequest kinds)). IsDone (shape_of o) o.senders c.args.requests) back.middle c.settle.ensures,
+  c.settle_all-2.ensures ls p.outer back.outer,
+)
