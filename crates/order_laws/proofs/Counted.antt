@@ -164,8 +164,8 @@ module _ {K : Kinds} where
     worked_are i lt =
         let law = t.settled.workers i lt in
         sym (length_items (v.worked i)) ∙ ap length (sym law.took)
-        ∙ by_number N (v.taken i) (all_below N (v.taken i) (λ p ge. t.settled.inner_only i p lt ge))
-        ∙ sum_below N (λ p. length (payloads (of_producer p (v.taken i)))) (λ p. in_ p i) (λ p below. ap (λ (es : List (Pushed (Arrival K))). length (payloads es)) (t.settled.inner i p lt below))
+        ∙ by_number N (v.taken i) (all_below N (v.taken i) (λ p ge. t.settled.packet_only i p lt ge))
+        ∙ sum_below N (λ p. length (payloads (of_producer p (v.taken i)))) (λ p. in_ p i) (λ p below. ap (λ (es : List (Pushed (Arrival K))). length (payloads es)) (t.settled.packets i p lt below))
 
     abbrev gone_ : ℕ → ℕ
     gone_ i = sum_to L (λ l. length (v.leaving_full i (at l))) + length (v.asked_full i) + unsent (v.worked i)
@@ -183,8 +183,8 @@ module _ {K : Kinds} where
     slow_are : length w.worked ≡ sum_to P (λ i. length (payloads (v.asked i)))
     slow_are =
         sym (length_items w.worked) ∙ ap length (sym t.slow_took)
-        ∙ by_number P w.taken (all_below P w.taken t.middle_only)
-        ∙ sum_below P (λ i. length (payloads (of_producer i w.taken))) (λ i. length (payloads (v.asked i))) (λ i below. ap (λ (es : List (Pushed (SlowPathRequest K))). length (payloads es)) (t.middle i below))
+        ∙ by_number P w.taken (all_below P w.taken t.request_only)
+        ∙ sum_below P (λ i. length (payloads (of_producer i w.taken))) (λ i. length (payloads (v.asked i))) (λ i below. ap (λ (es : List (Pushed (SlowPathRequest K))). length (payloads es)) (t.requests i below))
 
     slow_split : length w.worked ≡ sum_to L (λ l. length (payloads (w.leaving (at l)))) + sum_to L (λ l. length (w.leaving_full (at l))) + unsent w.worked
     slow_split =
@@ -201,10 +201,10 @@ module _ {K : Kinds} where
         let es = v.forwarded (at l) in
         let whole : length (payloads (before_mark es)) + length (payloads (from_mark es)) ≡ length (payloads es) =
         sym (length-append (payloads (before_mark es)) (payloads (from_mark es))) ∙ ap length (sym (flat_map-append (λ (e : Pushed (Outgoing K)). payload_of e.load) (before_mark es) (from_mark es)) ∙ ap payloads (split_mark es)) in
-        let n = by_number (suc (suc P)) es (all_below (suc (suc P)) es (λ j ge. t.outer_none l j lt ge)) in
-        let a = sum_below P (λ i. length (payloads (of_producer i es))) (λ i. out_ i l) (λ i below. ap (λ (xs : List (Pushed (Outgoing K))). length (payloads xs)) (t.settled.outer (at l) i (omega arith, omega arith) below)) in
-        let b = ap (λ (xs : List (Pushed (Outgoing K))). length (payloads xs)) (t.outer_slow l lt) in
-        let c = ap length (t.outer_marks l lt) in
+        let n = by_number (suc (suc P)) es (all_below (suc (suc P)) es (λ j ge. t.egress_none l j lt ge)) in
+        let a = sum_below P (λ i. length (payloads (of_producer i es))) (λ i. out_ i l) (λ i below. ap (λ (xs : List (Pushed (Outgoing K))). length (payloads xs)) (t.settled.egress_packets (at l) i (omega arith, omega arith) below)) in
+        let b = ap (λ (xs : List (Pushed (Outgoing K))). length (payloads xs)) (t.egress_slow l lt) in
+        let c = ap length (t.egress_marks l lt) in
         let x = ap length law.sent in
         let y = ap length law.after in
         omega arith

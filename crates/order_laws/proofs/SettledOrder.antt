@@ -118,13 +118,13 @@ module _ {K : Kinds} where
     fed_by i p lt = go (cases_lt p R.links)
       where
         go : (p < R.links) ⊎ (R.links ≤ p) → Each (Fed i) (of_producer p (v.taken i))
-        go (inr ge) = subst (λ (es : List (Pushed (Arrival K))). Each (Fed i) es) (sym (s.inner_only i p lt ge)) tt
+        go (inr ge) = subst (λ (es : List (Pushed (Arrival K))). Each (Fed i) es) (sym (s.packet_only i p lt ge)) tt
         go (inl below) =
             let law = s.receivers p below in
             let mine : Each (IsFed R v i p) (flat_map (accepted (to_processor R i)) (v.received p)) =
             each_map (λ y h. (h.0, below, h.1, h.2)) (flat_map (accepted (to_processor R i)) (v.received p)) (own R i p 1 (v.received p) law.numbered) in
             let all : Each (IsFed R v i p) (payloads (of_producer p (v.taken i))) =
-            subst (λ (xs : List (Arrival K)). Each (IsFed R v i p) xs) (sym (ap payloads (s.inner i p lt below) ∙ (law.tells i lt).0)) mine in
+            subst (λ (xs : List (Arrival K)). Each (IsFed R v i p) xs) (sym (ap payloads (s.packets i p lt below) ∙ (law.tells i lt).0)) mine in
             let each = each_out (IsFed R v i p) (λ (e : Pushed (Arrival K)). payload_of e.load) (of_producer p (v.taken i)) all in
             each_map (λ e h. subst (λ (q : ℕ). Each (IsFed R v i q) (payload_of e.load)) (sym h.0) h.1) (of_producer p (v.taken i))
             (each_both (λ (e : Pushed (Arrival K)). e.from ≡ p) (λ (e : Pushed (Arrival K)). Each (IsFed R v i p) (payload_of e.load)) (of_producer p (v.taken i)) (named p (v.taken i)) each)
@@ -216,7 +216,7 @@ module _ {K : Kinds} where
           ap (λ (xs : List (Arrival K)). flat_map E xs) (sym law.took)
           ∙ (flat_flat E (λ (e : Pushed (Arrival K)). payload_of e.load) (v.taken h)
           ∙ (of_one g a (v.taken h) (each_map (λ e f. of_other e f) (v.taken h) (fed h h_in))
-          ∙ (ap (λ (es : List (Pushed (Arrival K))). flat_map g es) (s.inner h a h_in la)
+          ∙ (ap (λ (es : List (Pushed (Arrival K))). flat_map g es) (s.packets h a h_in la)
           ∙ (sym (flat_flat E (λ (e : Pushed (Arrival K)). payload_of e.load) (v.arrived a h))
           ∙ (ap (λ (xs : List (Arrival K)). flat_map E xs) (((s.receivers a la).tells h h_in).0)
           ∙ first)))))
@@ -277,7 +277,7 @@ module _ {K : Kinds} where
       another : (i : ℕ) → i < R.processors → (i ≡ h → ⊥) → flat_map S (payloads (of_producer i (v.forwarded Q))) ≡ []
       another i lt apart =
           let law = s.workers i lt in
-          ap (λ (xs : List (Outgoing K)). flat_map S xs) (ap payloads (s.outer Q i at_link lt) ∙ (law.tells Q at_link).0)
+          ap (λ (xs : List (Outgoing K)). flat_map S xs) (ap payloads (s.egress_packets Q i at_link lt) ∙ (law.tells Q at_link).0)
           ∙ (flat_flat S (accepted (to_link R Q)) (v.worked i)
           ∙ flat_nothing (λ d. flat_map S (accepted (to_link R Q) d)) (v.worked i)
           (each_map (λ d f. none_accepted d (seen_right i d.item f ∙ other_mine R a l mine d.item (not_mine i apart d.item f.2))) (v.worked i) (known i lt)))
@@ -295,13 +295,13 @@ module _ {K : Kinds} where
               each_map (λ e n f. n) (of_producer p (v.forwarded Q)) (each_nothing G (of_producer p (v.forwarded Q)) none)
           go (inr q) (inr ge) =
               each_map (λ e n f. flat_nothing S (payload_of e.load) (each_map (λ o m. no_answer o m) (payload_of e.load) n)) (of_producer p (v.forwarded Q))
-              (each_out (λ (o : Outgoing K). o.answer ≡ true) (λ (e : Pushed (Outgoing K)). payload_of e.load) (of_producer p (v.forwarded Q)) (s.outer_only Q p at_link ge))
+              (each_out (λ (o : Outgoing K). o.answer ≡ true) (λ (e : Pushed (Outgoing K)). payload_of e.load) (of_producer p (v.forwarded Q)) (s.egress_only Q p at_link ge))
 
       third_in : flat_map S (payloads (v.forwarded Q)) ≡ without second_drops (without first_drops (flat_map E (told v a)))
       third_in =
           flat_flat S (λ (e : Pushed (Outgoing K)). payload_of e.load) (v.forwarded Q)
           ∙ (of_one G h (v.forwarded Q) (by_producer (λ (e : Pushed (Outgoing K)). eqb e.from h ≡ false → G e ≡ []) (v.forwarded Q) others_none)
-          ∙ (ap (λ (es : List (Pushed (Outgoing K))). flat_map G es) (s.outer Q h at_link h_in)
+          ∙ (ap (λ (es : List (Pushed (Outgoing K))). flat_map G es) (s.egress_packets Q h at_link h_in)
           ∙ (sym (flat_flat S (λ (e : Pushed (Outgoing K)). payload_of e.load) (v.leaving h Q))
           ∙ (ap (λ (xs : List (Outgoing K)). flat_map S xs) (((s.workers h h_in).tells Q at_link).0)
           ∙ second))))
@@ -368,13 +368,13 @@ module _ {K : Kinds} where
               let law = s.workers p lt in
               let none : flat_map G (of_producer p (v.forwarded N)) ≡ [] =
               sym (flat_flat S (λ (e : Pushed (Outgoing K)). payload_of e.load) (of_producer p (v.forwarded N)))
-              ∙ (ap (λ (xs : List (Outgoing K)). flat_map S xs) (ap payloads (s.outer N p at_other lt) ∙ (law.tells N at_other).0)
+              ∙ (ap (λ (xs : List (Outgoing K)). flat_map S xs) (ap payloads (s.egress_packets N p at_other lt) ∙ (law.tells N at_other).0)
               ∙ (flat_flat S (accepted (to_link R N)) (v.worked p)
               ∙ flat_nothing (λ d. flat_map S (accepted (to_link R N) d)) (v.worked p) (each_map (λ d f. none_pushed d (seen_none p d.item f)) (v.worked p) (known p lt)))) in
               each_nothing G (of_producer p (v.forwarded N)) none
           go (inr ge) =
               each_map (λ e n. flat_nothing S (payload_of e.load) (each_map (λ o m. no_answer o m) (payload_of e.load) n)) (of_producer p (v.forwarded N))
-              (each_out (λ (o : Outgoing K). o.answer ≡ true) (λ (e : Pushed (Outgoing K)). payload_of e.load) (of_producer p (v.forwarded N)) (s.outer_only N p at_other ge))
+              (each_out (λ (o : Outgoing K). o.answer ≡ true) (λ (e : Pushed (Outgoing K)). payload_of e.load) (of_producer p (v.forwarded N)) (s.egress_only N p at_other ge))
 
       pub never_handed : flat_map S (v.handed N) ≡ []
       never_handed =

@@ -64,12 +64,12 @@ pub record Tallied {K : Kinds} (R : Rules K) (v : Views K) (w : SlowViews K) : T
   pub receiver_one : (p : ℕ) → p < R.links → Each (IsOne R.processors (to_processor R) (no_side {X = Arrival K} {Y = SlowPathRequest K})) (v.received p)
   pub worker_one : (i : ℕ) → i < R.processors → Each (IsOne (link_pipes R) (λ j. to_link R (place_of R j)) (to_slow R)) (v.worked i)
   pub slow_one : Each (IsOne (link_pipes R) (λ j. back (place_of R j)) (no_side {X = SlowPathRequest K} {Y = SlowPathRequest K})) w.worked
-  pub middle : (i : ℕ) → i < R.processors → of_producer i w.taken ≡ v.asked i
-  pub middle_only : (i : ℕ) → R.processors ≤ i → of_producer i w.taken ≡ []
+  pub requests : (i : ℕ) → i < R.processors → of_producer i w.taken ≡ v.asked i
+  pub request_only : (i : ℕ) → R.processors ≤ i → of_producer i w.taken ≡ []
   -- the slow path and the controller are the last producers of a link's pipe; the controller pushes only marks
-  pub outer_slow : (j : ℕ) → j < link_pipes R → of_producer R.processors (v.forwarded (place_of R j)) ≡ w.leaving (place_of R j)
-  pub outer_marks : (j : ℕ) → j < link_pipes R → payloads (of_producer (suc R.processors) (v.forwarded (place_of R j))) ≡ []
-  pub outer_none : (j p : ℕ) → j < link_pipes R → suc (suc R.processors) ≤ p → of_producer p (v.forwarded (place_of R j)) ≡ []
+  pub egress_slow : (j : ℕ) → j < link_pipes R → of_producer R.processors (v.forwarded (place_of R j)) ≡ w.leaving (place_of R j)
+  pub egress_marks : (j : ℕ) → j < link_pipes R → payloads (of_producer (suc R.processors) (v.forwarded (place_of R j))) ≡ []
+  pub egress_none : (j p : ℕ) → j < link_pipes R → suc (suc R.processors) ≤ p → of_producer p (v.forwarded (place_of R j)) ≡ []
 
 module _ {K : Kinds} where
   -- refused at processors' pipes, at the links' pipes, at the slow path's

@@ -110,11 +110,11 @@ pub record Settled {K : Kinds} (R : Rules K) (v : Views K) : Type 0 where
   pub workers : (i : ℕ) → i < R.processors → ProcessorLaw R (v.worked i) (v.taken i) (v.leaving i) (v.leaving_full i) (v.asked i) (v.asked_full i)
   pub forwarders : (q : ℕ) → IsLinkPipe R q → ForwarderLaw (v.forwarded q) (v.handed q) (v.swept q) (v.shut q)
   -- each producer's entries in what was taken are its accepted pushes, and there are no others
-  pub inner : (i p : ℕ) → i < R.processors → p < R.links → of_producer p (v.taken i) ≡ v.arrived p i
-  pub inner_only : (i p : ℕ) → i < R.processors → R.links ≤ p → of_producer p (v.taken i) ≡ []
-  pub outer : (q i : ℕ) → IsLinkPipe R q → i < R.processors → of_producer i (v.forwarded q) ≡ v.leaving i q
+  pub packets : (i p : ℕ) → i < R.processors → p < R.links → of_producer p (v.taken i) ≡ v.arrived p i
+  pub packet_only : (i p : ℕ) → i < R.processors → R.links ≤ p → of_producer p (v.taken i) ≡ []
+  pub egress_packets : (q i : ℕ) → IsLinkPipe R q → i < R.processors → of_producer i (v.forwarded q) ≡ v.leaving i q
   -- those beyond the processors push answers and marks
-  pub outer_only : (q j : ℕ) → IsLinkPipe R q → R.processors ≤ j → Each (λ (o : Outgoing K). o.answer ≡ true) (payloads (of_producer j (v.forwarded q)))
+  pub egress_only : (q j : ℕ) → IsLinkPipe R q → R.processors ≤ j → Each (λ (o : Outgoing K). o.answer ≡ true) (payloads (of_producer j (v.forwarded q)))
 
 module _ {K : Kinds} where
   abbrev pub numbers : List (Departure K) → List ℕ

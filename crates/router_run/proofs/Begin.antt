@@ -65,7 +65,7 @@ module _ {X Y Z : Type 0} (make : X → Y → Z) where
   paired_has {V = V} f g each (x ∷ xs) (y ∷ ys) same = ap (λ (v : V). v ∷ map f (paired make xs ys)) (each x y) ∙ ap (λ (vs : List V). g y ∷ vs) (paired_has f g each xs ys (omega arith))
 
 module _ {K : Type 0} (failed : K → ℕ) where
-  forwarding_at : (c : Config) (p : Piping) (l : ℕ) (s t : Shape) (e : Exit) (k : K) → IsLeavingAt c p l e → slice_get p.outer (2 * l) ≡ Some s → slice_get p.outer (2 * l + 1) ≡ Some t → AreForwarding c p l (s ∷ t ∷ []) (forwardings failed (e ∷ []) (k ∷ []))
+  forwarding_at : (c : Config) (p : Piping) (l : ℕ) (s t : Shape) (e : Exit) (k : K) → IsLeavingAt c p l e → slice_get p.egress_packets (2 * l) ≡ Some s → slice_get p.egress_packets (2 * l + 1) ≡ Some t → AreForwarding c p l (s ∷ t ∷ []) (forwardings failed (e ∷ []) (k ∷ []))
   forwarding_at c p l s t e k is first second =
       let a : is.first ≡ s = some_same is.first s (sym is.first_there ∙ first) in
       let b : is.second ≡ t = some_same is.second t (sym is.second_there ∙ second) in (
@@ -80,7 +80,7 @@ module _ {K : Type 0} (failed : K → ℕ) where
       )
 
   pub forwardings_at : (c : Config) (p : Piping) (l : ℕ) (ss : List Shape) (es : List Exit) (ks : List K) → AllAt (IsLeavingAt c p) l es → length ss ≡ 2 * length es → length ks ≡ length es
-      → ((j : ℕ) (s : Shape) → slice_get ss j ≡ Some s → slice_get p.outer (2 * l + j) ≡ Some s) → AreForwarding c p l ss (forwardings failed es ks)
+      → ((j : ℕ) (s : Shape) → slice_get ss j ≡ Some s → slice_get p.egress_packets (2 * l + j) ≡ Some s) → AreForwarding c p l ss (forwardings failed es ks)
   forwardings_at c p l [] [] ks all long same at = tt
   forwardings_at c p l (s ∷ ss) [] ks all long same at = absurd (omega arith)
   forwardings_at c p l [] (e ∷ es) ks all long same at = absurd (omega arith)
@@ -88,22 +88,22 @@ module _ {K : Type 0} (failed : K → ℕ) where
   forwardings_at c p l (s ∷ t ∷ ss) (e ∷ es) [] all long same at = absurd (omega arith)
   forwardings_at c p l (s ∷ t ∷ ss) (e ∷ es) (k ∷ ks) all long same at =
       let first : 2 * l + 0 ≡ 2 * l = omega arith in (
-        (forwarding_at c p l s t e k all.0 (subst (λ (j : ℕ). slice_get p.outer j ≡ Some s) first (at 0 s refl)) (at 1 t refl)).0,
+        (forwarding_at c p l s t e k all.0 (subst (λ (j : ℕ). slice_get p.egress_packets j ≡ Some s) first (at 0 s refl)) (at 1 t refl)).0,
         forwardings_at c p (l + 1) ss es ks all.1 (omega arith) (omega arith)
-            (λ j x got. let e : 2 * l + suc (suc j) ≡ 2 * (l + 1) + j = omega arith in subst (λ (i : ℕ). slice_get p.outer i ≡ Some x) e (at (suc (suc j)) x got)),
+            (λ j x got. let e : 2 * l + suc (suc j) ≡ 2 * (l + 1) + j = omega arith in subst (λ (i : ℕ). slice_get p.egress_packets i ≡ Some x) e (at (suc (suc j)) x got)),
       )
 
 module _ {G : Type 0} (c : Config) (p : Piping) where
-  pub working_at : (i : ℕ) (ss : List Shape) (ws : List (Working G)) → AllAt (IsWorkingThere c p) i ws → length ws ≡ length ss → ((j : ℕ) (s : Shape) → slice_get ss j ≡ Some s → slice_get p.inner (i + j) ≡ Some s) → AreWorking c p i ss ws
+  pub working_at : (i : ℕ) (ss : List Shape) (ws : List (Working G)) → AllAt (IsWorkingThere c p) i ws → length ws ≡ length ss → ((j : ℕ) (s : Shape) → slice_get ss j ≡ Some s → slice_get p.packets (i + j) ≡ Some s) → AreWorking c p i ss ws
   working_at i [] [] all same at = tt
   working_at i [] (w ∷ ws) all same at = absurd (omega arith)
   working_at i (s ∷ ss) [] all same at = absurd (omega arith)
   working_at i (s ∷ ss) (w ∷ ws) all same at =
       let z : i + 0 ≡ i = omega arith in
-      let here : slice_get p.inner i ≡ Some s = subst (λ (j : ℕ). slice_get p.inner j ≡ Some s) z (at 0 s refl) in
+      let here : slice_get p.packets i ≡ Some s = subst (λ (j : ℕ). slice_get p.packets j ≡ Some s) z (at 0 s refl) in
       let own : all.0.own ≡ s = some_same all.0.own s (sym all.0.there ∙ here) in (
         subst (λ (x : Shape). IsWorkingAt c p i x w) own all.0.works,
-        working_at (i + 1) ss ws all.1 (omega arith) (λ j x got. let e : i + suc j ≡ i + 1 + j = omega arith in subst (λ (k : ℕ). slice_get p.inner k ≡ Some x) e (at (suc j) x got)),
+        working_at (i + 1) ss ws all.1 (omega arith) (λ j x got. let e : i + suc j ≡ i + 1 + j = omega arith in subst (λ (k : ℕ). slice_get p.packets k ≡ Some x) e (at (suc j) x got)),
       )
 
 pub is_crew : {N S G K : Type 0} (failed : K → ℕ) (c : Config) (k : Pipes N) (es : List Entry) (ws : List (Working G)) (a : Answering) (xs : List Exit) (hs : List (Shutting (Outgoing kinds))) (gs : List (Sender (List ℕ))) (ss : List S) (ks : List K)
@@ -117,11 +117,11 @@ is_crew failed c k es ws a xs hs gs ss ks m sources sinks =
       pipes = m.made.piping;
       receivers = receivings_at c p 0 es ss m.entering.each (sources ∙ sym entries);
       receiver_count = paired_long receiving_over es ss (sources ∙ sym entries) ∙ entries;
-      processors = working_at c p 0 p.inner ws m.after.working.each (works ∙ sym m.made.piping.processors) (λ j s got. let z : j ≡ 0 + j = omega arith in subst (λ (i : ℕ). slice_get p.inner i ≡ Some s) z got);
+      processors = working_at c p 0 p.packets ws m.after.working.each (works ∙ sym m.made.piping.processors) (λ j s got. let z : j ≡ 0 + j = omega arith in subst (λ (i : ℕ). slice_get p.packets i ≡ Some s) z got);
       slow = m.after.answering;
-      forwarders = forwardings_at failed c p 0 p.outer xs ks m.after.leaving.each (let q = m.made.piping.links in omega arith) (sinks ∙ sym exits) (λ j s got. let z : j ≡ 2 * 0 + j = omega arith in subst (λ (i : ℕ). slice_get p.outer i ≡ Some s) z got);
-      shutters = shutters_of_new (are_used c) (fresh_ends (c.processors + 1) p.outer) hs m.after.shutting (c.processors + 1) p.outer (fresh_are (Outgoing kinds) (c.processors + 1) p.outer);
-      unended = new_open (are_used c) 0 (fresh_ends (c.processors + 1) p.outer) hs m.after.shutting;
+      forwarders = forwardings_at failed c p 0 p.egress_packets xs ks m.after.leaving.each (let q = m.made.piping.links in omega arith) (sinks ∙ sym exits) (λ j s got. let z : j ≡ 2 * 0 + j = omega arith in subst (λ (i : ℕ). slice_get p.egress_packets i ≡ Some s) z got);
+      shutters = shutters_of_new (are_used c) (fresh_ends (c.processors + 1) p.egress_packets) hs m.after.shutting (c.processors + 1) p.egress_packets (fresh_are (Outgoing kinds) (c.processors + 1) p.egress_packets);
+      unended = new_open (are_used c) 0 (fresh_ends (c.processors + 1) p.egress_packets) hs m.after.shutting;
     }
 
 -- the same crew, by other lists of the same workers
@@ -136,7 +136,7 @@ crew_by {S = S} {G = G} {K = K} c p rs qs ws vs ss ts fs es hs r w s f is =
 -- it has these devices
 pub begins : {S G K : Type 0} (failed : K → ℕ) (c : Config) (r : Run S G K) (es : List Entry) (xs : List Exit) (ss : List S) (ks : List K)
     → r.config ≡ c → r.crew.receivers ≡ receivings es ss → r.crew.forwarders ≡ forwardings failed xs ks → length es ≡ link_count c → length xs ≡ link_count c → IsOneALink (link_count c) ss ks → IsCrew c r.pipes r.crew
-    → AreNew (are_used c) 0 (fresh_ends (c.processors + 1) r.pipes.outer) r.crew.shutters → AreFilled (c.processors + 1 + link_count c) (c.buffers - 1) r.pipes.free r.fillers → Begins failed c ss ks r
+    → AreNew (are_used c) 0 (fresh_ends (c.processors + 1) r.pipes.egress_packets) r.crew.shutters → AreFilled (c.processors + 1 + link_count c) (c.buffers - 1) r.pipes.free r.fillers → Begins failed c ss ks r
 begins {S = S} {K = K} failed c r es xs ss ks config rs fs entries exits one crew unmarked filled =
     let sources : length ss ≡ length es = one.0 ∙ sym entries in
     let sinks : length ks ≡ length xs = one.1 ∙ sym exits in

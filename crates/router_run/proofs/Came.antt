@@ -30,7 +30,7 @@ use Rattle.router_stages.specs.SameProcessor.{IsSameProcessor, ProcessorEnded}
 use Rattle.router_stages.specs.SameSlowPath.{IsSameSlowPath, SlowPathEnded}
 use Rattle.router_run.proofs.Devices.{any}
 use Rattle.router_run.specs.Wiring.{AreAnswering, AreForwarding, AreWorking, IsCrew, IsReceivingAt}
-use Rattle.run_report.specs.Crew.{Crew, inner_rows, inner_takers, middle_row, outer_rows, takers_of}
+use Rattle.run_report.specs.Crew.{Crew, packet_rows, packet_takers, request_row, egress_rows, takers_of}
 use Rattle.run_workers.specs.Kits.{IsAnsweringAt, IsWorkingAt}
 use Rattle.run_pipes.specs.Piping.{Piping}
 use Rattle.router_run.specs.Back.{IsBack, HasSettled, back_of, forwarder_back, processor_back, receiver_back}
@@ -70,7 +70,7 @@ each_all Q W f go n (x ∷ xs) all = (go n x all.0, each_all Q W f go (n + 1) xs
 
 -- ---- each worker's law, at its number
 
-module _ {S : Type 0} (told : S → Option (List Heard)) (c : Config) (p : Piping) (processors : length p.inner ≡ c.processors) where
+module _ {S : Type 0} (told : S → Option (List Heard)) (c : Config) (p : Piping) (processors : length p.packets ≡ c.processors) where
   abbrev KeptIn : Receiving S → Type 0
   KeptIn r = IsReceiving r.side.config r.side.link r.side.interface r.number (told r.source) r.side.stock.free.looks (senders r.side.processors) r.side.share × NeverClosed (senders r.side.processors)
 
@@ -80,7 +80,7 @@ module _ {S : Type 0} (told : S → Option (List Heard)) (c : Config) (p : Pipin
       let link : b.side.link ≡ n = back.0.link ∙ is.link in
       let interface : b.side.interface ≡ interface_at c n = back.0.interface ∙ is.interface in
       let I : Config → ℕ → ℕ → Type 0 = λ d l i. IsReceiving d l i b.number (told b.source) b.side.stock.free.looks (senders b.side.processors) b.side.share in
-      let ends = ends_long n p.inner (senders b.side.processors) (same_ends (λ j. true) n p.inner a.side.processors b.side.processors back.0.processors is.processors) in (
+      let ends = ends_long n p.packets (senders b.side.processors) (same_ends (λ j. true) n p.packets a.side.processors b.side.processors back.0.processors is.processors) in (
         subst (λ (d : Config). I d n (interface_at c n)) config (subst (λ (l : ℕ). I b.side.config l (interface_at c n)) link (subst (λ (i : ℕ). I b.side.config b.side.link i) interface kept.0)),
         ends ∙ processors,
       )
@@ -91,7 +91,7 @@ module _ {S : Type 0} (told : S → Option (List Heard)) (c : Config) (p : Pipin
   receivers_kept n (x ∷ xs) [] all back kept = absurd back
   receivers_kept n (x ∷ xs) (y ∷ ys) all back kept = (receiver_kept n x y all.0 back.0 kept.0, receivers_kept (n + 1) xs ys all.1 back.1 kept.1)
 
-module _ {G : Type 0} (c : Config) (p : Piping) (links : length p.outer ≡ 2 * link_count c) where
+module _ {G : Type 0} (c : Config) (p : Piping) (links : length p.egress_packets ≡ 2 * link_count c) where
   abbrev KeptAt : Working G → Type 0
   KeptAt w = IsWorking w.side.config w.taker w.hand (senders w.side.links) w.slow.sender w.side.share × NeverClosed (senders w.side.links)
 
@@ -99,7 +99,7 @@ module _ {G : Type 0} (c : Config) (p : Piping) (links : length p.outer ≡ 2 * 
   processor_kept i s a b is back kept =
       let config : b.side.config ≡ c = back.0.config ∙ is.config in
       let I : Config → Option (Arrival kinds) → Type 0 = λ d h. IsWorking d b.taker h (senders b.side.links) b.slow.sender b.side.share in
-      let ends = ends_long i p.outer (senders b.side.links) (same_ends (are_used a.side.config) i p.outer a.side.links b.side.links back.0.links is.links) in
+      let ends = ends_long i p.egress_packets (senders b.side.links) (same_ends (are_used a.side.config) i p.egress_packets a.side.links b.side.links back.0.links is.links) in
       (subst (λ (d : Config). I d None) config (subst (λ (h : Option (Arrival kinds)). I b.side.config h) back.1.hand kept.0), ends ∙ links)
 
   pub processors_kept : (i : ℕ) (ss : List Shape) (xs ys : List (Working G)) → AreWorking c p i ss xs → AreBack (λ a b. IsSameProcessor a b × ProcessorEnded b) xs ys → Each KeptAt ys → AllAt (IsBackProcessor c) i (map processor_back ys)
@@ -110,14 +110,14 @@ module _ {G : Type 0} (c : Config) (p : Piping) (links : length p.outer ≡ 2 * 
   processors_kept i (s ∷ ss) (x ∷ xs) [] are back kept = absurd back
   processors_kept i (s ∷ ss) (x ∷ xs) (y ∷ ys) are back kept = (processor_kept i s x y are.0 back.0 kept.0, processors_kept (i + 1) ss xs ys are.1 back.1 kept.1)
 
-module _ (c : Config) (p : Piping) (links : length p.outer ≡ 2 * link_count c) where
+module _ (c : Config) (p : Piping) (links : length p.egress_packets ≡ 2 * link_count c) where
   abbrev KeptBy : Answering → Type 0
   KeptBy a = IsAnswering a.side.config a.taker (senders a.side.links) a.side.share × NeverClosed (senders a.side.links)
 
   answering_kept : (a b : Answering) → IsAnsweringAt c p a → IsSameSlowPath a b × SlowPathEnded b → KeptBy b → IsAnswering c b.taker (senders b.side.links) b.side.share × (length (senders b.side.links) ≡ 2 * link_count c)
   answering_kept a b is back kept =
       let config : b.side.config ≡ c = back.0.config ∙ is.config in
-      let ends = ends_long c.processors p.outer (senders b.side.links) (same_ends (are_used a.side.config) c.processors p.outer a.side.links b.side.links back.0.links is.links) in
+      let ends = ends_long c.processors p.egress_packets (senders b.side.links) (same_ends (are_used a.side.config) c.processors p.egress_packets a.side.links b.side.links back.0.links is.links) in
       (subst (λ (d : Config). IsAnswering d b.taker (senders b.side.links) b.side.share) config kept.0, ends ∙ links)
 
   pub slow_kept : (xs ys : List Answering) (a : Answering) → AreAnswering c p xs → AreBack (λ a b. IsSameSlowPath a b × SlowPathEnded b) xs ys → Each KeptBy ys → ys ≡ a ∷ []
@@ -168,30 +168,30 @@ module _ {S G K : Type 0} (told : S → Option (List Heard)) (shown : K → Opti
   slow : (IsAnswering c a.taker (senders a.side.links) a.side.share × (length (senders a.side.links) ≡ 2 * link_count c)) × NeverClosed (senders a.side.links)
   slow = slow_kept c p is.pipes.links old.slow new.slow a is.slow back.slow kept.slow one
 
-  inner_are : inner_rows new ≡ map (λ (r : ReceiverBack). r.senders) b.receivers
-  inner_are = sym (map_twice (receiver_back told) (λ (r : ReceiverBack). r.senders) new.receivers)
+  packet_are : packet_rows new ≡ map (λ (r : ReceiverBack). r.senders) b.receivers
+  packet_are = sym (map_twice (receiver_back told) (λ (r : ReceiverBack). r.senders) new.receivers)
 
-  outer_are : outer_rows new ≡ link_rows b
-  outer_are =
+  egress_are : egress_rows new ≡ link_rows b
+  egress_are =
       ap (λ (xs : List Answering). map (λ (w : Working G). senders w.side.links) new.processors ++ (map (λ (x : Answering). senders x.side.links) xs ++ shutter_ends new.shutters ∷ [])) one
       ∙ ap (λ (ls : List (List (Sender (Outgoing kinds)))). ls ++ (senders a.side.links ∷ shutter_ends new.shutters ∷ [])) (sym (map_twice processor_back (λ (q : ProcessorBack). q.links) new.processors))
 
-  middle_are : middle_row new ≡ map (λ (q : ProcessorBack). q.slow) b.processors
-  middle_are = sym (map_twice processor_back (λ (q : ProcessorBack). q.slow) new.processors)
+  request_are : request_row new ≡ map (λ (q : ProcessorBack). q.slow) b.processors
+  request_are = sym (map_twice processor_back (λ (q : ProcessorBack). q.slow) new.processors)
 
   pub crews_return : HaveReturned told_of c b (closed_at new.shutters)
   crews_return = record {
     receivers = receivers_kept told c p is.pipes.processors 0 old.receivers new.receivers is.receivers back.receivers kept.receivers;
-    processors = processors_kept c p is.pipes.links 0 p.inner old.processors new.processors is.processors back.processors kept.processors;
+    processors = processors_kept c p is.pipes.links 0 p.packets old.processors new.processors is.processors back.processors kept.processors;
     slow = slow.0;
     forwarders = each_all _ (IsBackForwarder told_of) (forwarder_back shown failed) (λ n f k. k) 0 new.forwarders kept.forwarders;
     receiver_count = length-map new.receivers (receiver_back told) ∙ (back_long _ old.receivers new.receivers back.receivers ∙ is.receiver_count);
-    processor_count = length-map new.processors processor_back ∙ (back_long _ old.processors new.processors back.processors ∙ (working_long c p 0 p.inner old.processors is.processors ∙ is.pipes.processors));
+    processor_count = length-map new.processors processor_back ∙ (back_long _ old.processors new.processors back.processors ∙ (working_long c p 0 p.packets old.processors is.processors ∙ is.pipes.processors));
     forwarder_count = length-map new.forwarders (forwarder_back shown failed) ∙ (back_long _ old.forwarders new.forwarders back.forwarders ∙ forwarders_long);
-    controller_count = length-map new.shutters (λ (h : Shutting (Outgoing kinds)). h.end) ∙ (each_ends_long old.shutters new.shutters back.shutters ∙ (shutters_long (are_used c) 0 (c.processors + 1) p.outer old.shutters is.shutters ∙ is.pipes.links));
-    inner = λ i q at. subst (λ (rows : List (List (Sender (Arrival kinds)))). (row : List (Sender (Arrival kinds))) × IsColumn i rows row × TookAll row (pushes q.taker.taken)) inner_are
-        (column_of (inner_rows new) p.inner (inner_takers new) settled.inner i q.taker (read_other processor_back (λ (w : Working G). w.taker) (λ (x : ProcessorBack). x.taker) (λ w. refl) new.processors i q at));
-    middle = subst (λ (row : List (Sender (SlowPathRequest kinds))). TookAll row (pushes a.taker.taken)) middle_are (settled.middle a.taker (ap (map (λ (x : Answering). x.taker)) one)).took;
+    controller_count = length-map new.shutters (λ (h : Shutting (Outgoing kinds)). h.end) ∙ (each_ends_long old.shutters new.shutters back.shutters ∙ (shutters_long (are_used c) 0 (c.processors + 1) p.egress_packets old.shutters is.shutters ∙ is.pipes.links));
+    packets = λ i q at. subst (λ (rows : List (List (Sender (Arrival kinds)))). (row : List (Sender (Arrival kinds))) × IsColumn i rows row × TookAll row (pushes q.taker.taken)) packet_are
+        (column_of (packet_rows new) p.packets (packet_takers new) settled.packets i q.taker (read_other processor_back (λ (w : Working G). w.taker) (λ (x : ProcessorBack). x.taker) (λ w. refl) new.processors i q at));
+    requests = subst (λ (row : List (Sender (SlowPathRequest kinds))). TookAll row (pushes a.taker.taken)) request_are (settled.requests a.taker (ap (map (λ (x : Answering). x.taker)) one)).took;
     low = λ l f at. let g = found_at (forwarder_back shown failed) new.forwarders l f at in
         let low : g.0.low.taker ≡ f.low = ap (λ (x : ForwarderBack Told). x.low) g.1.1 in
         column (2 * l) f.low (low_at new.forwarders l g.0 g.1.0 ∙ ap (λ (t : Taker (Outgoing kinds)). Some t) low);
@@ -207,8 +207,8 @@ module _ {S G K : Type 0} (told : S → Option (List Heard)) (shown : K → Opti
   }
     where
       forwarders_long : length old.forwarders ≡ link_count c
-      forwarders_long = let x = forwarding_long c p 0 p.outer old.forwarders is.forwarders in let y = is.pipes.links in omega arith
+      forwarders_long = let x = forwarding_long c p 0 p.egress_packets old.forwarders is.forwarders in let y = is.pipes.links in omega arith
 
       column : (j : ℕ) (t : Taker (Outgoing kinds)) → slice_get (takers_of new.forwarders) j ≡ Some t → (row : List (Sender (Outgoing kinds))) × IsColumn j (link_rows b) row × TookAll row (pushes t.taken)
-      column j t at = subst (λ (rows : List (List (Sender (Outgoing kinds)))). (row : List (Sender (Outgoing kinds))) × IsColumn j rows row × TookAll row (pushes t.taken)) outer_are
-          (column_of (outer_rows new) p.outer (takers_of new.forwarders) settled.outer j t at)
+      column j t at = subst (λ (rows : List (List (Sender (Outgoing kinds)))). (row : List (Sender (Outgoing kinds))) × IsColumn j rows row × TookAll row (pushes t.taken)) egress_are
+          (column_of (egress_rows new) p.egress_packets (takers_of new.forwarders) settled.egress_packets j t at)

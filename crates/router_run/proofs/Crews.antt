@@ -16,17 +16,17 @@ use Rattle.run_ends.specs.Shutting.{shutter_ends}
 use Rattle.worker_parts.specs.Back.{AreBack}
 use Rattle.router_run.proofs.Devices.{any}
 use Rattle.router_run.specs.Wiring.{AreAnswering, IsCrew}
-use Rattle.run_report.specs.Crew.{Crew, inner_rows, inner_takers, middle_row, middle_takers, outer_rows, takers_of}
+use Rattle.run_report.specs.Crew.{Crew, packet_rows, packet_takers, request_row, request_takers, egress_rows, takers_of}
 use Rattle.run_pipes.specs.Piping.{Piping}
 use Rattle.run_report.specs.Parting.{HasMarked}
 use Rattle.router_run.specs.Back.{IsBack}
-use Rattle.router_run.proofs.Rows.{A, P, R, back_long, inner_ended, inner_taken, last_ended, middle_ends, outer_ended, outer_taken, slow_taken, working_long}
+use Rattle.router_run.proofs.Rows.{A, P, R, back_long, packet_ended, packet_taken, last_ended, request_ends, egress_ended, egress_taken, slow_taken, working_long}
 
 -- All pipes have ended.
 pub record PipesEnd {S G K : Type 0} (p : Piping) (w : Crew S G K) : Type 0 where
-  pub inner : HaveFinished p.inner (inner_rows w) (inner_takers w)
-  pub middle : (t : Taker (SlowPathRequest kinds)) → middle_takers w ≡ t ∷ [] → IsEnded true p.middle (middle_row w) t
-  pub outer : HaveFinished p.outer (outer_rows w) (takers_of w.forwarders)
+  pub packets : HaveFinished p.packets (packet_rows w) (packet_takers w)
+  pub requests : (t : Taker (SlowPathRequest kinds)) → request_takers w ≡ t ∷ [] → IsEnded true p.requests (request_row w) t
+  pub egress_packets : HaveFinished p.egress_packets (egress_rows w) (takers_of w.forwarders)
 
 module _ (c : Config) (p : Piping) where
   one_slow : (xs ys : List Answering) → AreAnswering c p xs → AreBack (A c p) xs ys → length ys ≡ 1
@@ -34,26 +34,26 @@ module _ (c : Config) (p : Piping) where
   one_slow (a ∷ b ∷ xs) ys are back = absurd are
   one_slow (a ∷ []) ys are back = back_long (A c p) (a ∷ []) ys back
 
-  middle_taken : (xs ys : List Answering) (t : Taker (SlowPathRequest kinds)) → AreAnswering c p xs → AreBack (A c p) xs ys → map (λ (a : Answering). a.taker) ys ≡ t ∷ [] → HasTaken true p.middle t
-  middle_taken [] ys t are back same = absurd are
-  middle_taken (a ∷ b ∷ xs) ys t are back same = absurd are
-  middle_taken (a ∷ []) [] t are back same = absurd back
-  middle_taken (a ∷ []) (b ∷ d ∷ ys) t are back same = absurd back.1
-  middle_taken (a ∷ []) (b ∷ []) t are back same = let e : b.taker ≡ t = cc in subst (λ (u : Taker (SlowPathRequest kinds)). HasTaken true p.middle u) e (slow_taken c p a b are back.0)
+  request_taken : (xs ys : List Answering) (t : Taker (SlowPathRequest kinds)) → AreAnswering c p xs → AreBack (A c p) xs ys → map (λ (a : Answering). a.taker) ys ≡ t ∷ [] → HasTaken true p.requests t
+  request_taken [] ys t are back same = absurd are
+  request_taken (a ∷ b ∷ xs) ys t are back same = absurd are
+  request_taken (a ∷ []) [] t are back same = absurd back
+  request_taken (a ∷ []) (b ∷ d ∷ ys) t are back same = absurd back.1
+  request_taken (a ∷ []) (b ∷ []) t are back same = let e : b.taker ≡ t = cc in subst (λ (u : Taker (SlowPathRequest kinds)). HasTaken true p.requests u) e (slow_taken c p a b are back.0)
 
 module _ {S G K : Type 0} (c : Config) (p : Piping) (old new : Crew S G K) (is : IsCrew c p old) (back : IsBack any any old new) (marked : HasMarked new) where
   worked : length new.processors ≡ c.processors
-  worked = back_long (P c p) old.processors new.processors back.processors ∙ (working_long c p 0 p.inner old.processors is.processors ∙ is.pipes.processors)
+  worked = back_long (P c p) old.processors new.processors back.processors ∙ (working_long c p 0 p.packets old.processors is.processors ∙ is.pipes.processors)
 
-  inner_count : link_count c ≡ length (inner_rows new)
-  inner_count =
+  packet_count : link_count c ≡ length (packet_rows new)
+  packet_count =
       let b = length-map new.receivers (λ (r : Receiving S). senders r.side.processors) in
       let d = back_long (R c p) old.receivers new.receivers back.receivers in
       let e = is.receiver_count in
       omega arith
 
-  outer_count : c.processors + 2 ≡ length (outer_rows new)
-  outer_count =
+  egress_count : c.processors + 2 ≡ length (egress_rows new)
+  egress_count =
       let links = map (λ (w : Working G). senders w.side.links) new.processors in
       let slow = map (λ (a : Answering). senders a.side.links) new.slow in
       let b = length-map new.processors (λ (w : Working G). senders w.side.links) in
@@ -64,30 +64,30 @@ module _ {S G K : Type 0} (c : Config) (p : Piping) (old new : Crew S G K) (is :
       let z = worked in
       omega arith
 
-  inner : HaveFinished p.inner (inner_rows new) (inner_takers new)
-  inner = record {
+  packets : HaveFinished p.packets (packet_rows new) (packet_takers new)
+  packets = record {
     uses = λ j. true;
-    theirs = inner_ended c p 0 old.receivers new.receivers is.receivers back.receivers marked.receivers;
-    taken = subst (λ (n : ℕ). AreTaken (λ j. true) 0 n p.inner (inner_takers new)) inner_count (inner_taken c p 0 (link_count c) 0 p.inner old.processors new.processors is.pipes.inner is.processors back.processors);
+    theirs = packet_ended c p 0 old.receivers new.receivers is.receivers back.receivers marked.receivers;
+    taken = subst (λ (n : ℕ). AreTaken (λ j. true) 0 n p.packets (packet_takers new)) packet_count (packet_taken c p 0 (link_count c) 0 p.packets old.processors new.processors is.pipes.packets is.processors back.processors);
   }
 
-  middle : (t : Taker (SlowPathRequest kinds)) → middle_takers new ≡ t ∷ [] → IsEnded true p.middle (middle_row new) t
-  middle t same = record {
-    count = length-map new.processors (λ (w : Working G). w.slow.sender) ∙ (worked ∙ sym is.pipes.middle);
-    ends = middle_ends c p 0 p.inner old.processors new.processors is.processors back.processors marked.processors;
-    taker = middle_taken c p old.slow new.slow t is.slow back.slow same;
+  requests : (t : Taker (SlowPathRequest kinds)) → request_takers new ≡ t ∷ [] → IsEnded true p.requests (request_row new) t
+  requests t same = record {
+    count = length-map new.processors (λ (w : Working G). w.slow.sender) ∙ (worked ∙ sym is.pipes.requests);
+    ends = request_ends c p 0 p.packets old.processors new.processors is.processors back.processors marked.processors;
+    taker = request_taken c p old.slow new.slow t is.slow back.slow same;
   }
 
-  outer : HaveFinished p.outer (outer_rows new) (takers_of new.forwarders)
-  outer =
-      let e : c.processors ≡ 0 + length p.inner = let q = is.pipes.processors in omega arith in
+  egress_packets : HaveFinished p.egress_packets (egress_rows new) (takers_of new.forwarders)
+  egress_packets =
+      let e : c.processors ≡ 0 + length p.packets = let q = is.pipes.processors in omega arith in
       let last = last_ended c p old.slow new.slow old.shutters new.shutters is.slow back.slow marked.slow is.shutters back.shutters marked.shutters in
       let tail = map (λ (a : Answering). senders a.side.links) new.slow ++ (shutter_ends new.shutters ∷ []) in
       record {
         uses = are_used c;
-        theirs = outer_ended c p 0 p.inner old.processors new.processors tail is.processors back.processors marked.processors (subst (λ (m : ℕ). AreRows (are_used c) m p.outer tail) e last);
-        taken = subst (λ (n : ℕ). AreTaken (are_used c) 0 n p.outer (takers_of new.forwarders)) outer_count (outer_taken c p 0 (c.processors + 2) p.outer old.forwarders new.forwarders is.pipes.outer is.forwarders back.forwarders);
+        theirs = egress_ended c p 0 p.packets old.processors new.processors tail is.processors back.processors marked.processors (subst (λ (m : ℕ). AreRows (are_used c) m p.egress_packets tail) e last);
+        taken = subst (λ (n : ℕ). AreTaken (are_used c) 0 n p.egress_packets (takers_of new.forwarders)) egress_count (egress_taken c p 0 (c.processors + 2) p.egress_packets old.forwarders new.forwarders is.pipes.egress_packets is.forwarders back.forwarders);
       }
 
   pub crews_end : PipesEnd p new
-  crews_end = record { inner = inner; middle = middle; outer = outer }
+  crews_end = record { packets = packets; requests = requests; egress_packets = egress_packets }

@@ -25,7 +25,7 @@ use Rattle.run_ends.specs.Settled.{AreSettled, IsDone, IsEnded}
 use Rattle.run_report.specs.Parting.{HasEnds, HasKept, IsParted, shares_in}
 use Rattle.router_run.proofs.Devices.{any, without_devices}
 use Rattle.router_run.specs.Back.{HasSettled, back_of, forwarder_back, processor_back, receiver_back, IsBack}
-use Rattle.run_report.specs.Crew.{Crew, inner_rows, middle_row, outer_rows}
+use Rattle.run_report.specs.Crew.{Crew, packet_rows, request_row, egress_rows}
 use Rattle.router_run.specs.Wiring.{IsCrew}
 use Rattle.run_pipes.specs.Piping.{Piping}
 use Rattle.run_pipes.specs.declared.pipes.Pipes.{Pipes}
@@ -54,21 +54,21 @@ the_slow p links processors w ends = one_of w.slow ends.slow.1
 
 module _ {S G K : Type 0} where
   -- the pipes can be settled, and then are
-  module _ (w : Crew S G K) (inner : List (Taker (Arrival kinds))) (middle : Taker (SlowPathRequest kinds)) (outer : List (Taker (Outgoing kinds))) (parted : IsParted w inner middle outer) (p : Piping) (a : Answering) (one : w.slow ≡ a ∷ []) where
-    pub ready : PipesEnd p w → HaveFinished p.inner (inner_rows w) inner × IsEnded true p.middle (middle_row w) middle × HaveFinished p.outer (outer_rows w) outer
+  module _ (w : Crew S G K) (packets : List (Taker (Arrival kinds))) (requests : Taker (SlowPathRequest kinds)) (egress_packets : List (Taker (Outgoing kinds))) (parted : IsParted w packets requests egress_packets) (p : Piping) (a : Answering) (one : w.slow ≡ a ∷ []) where
+    pub ready : PipesEnd p w → HaveFinished p.packets (packet_rows w) packets × IsEnded true p.requests (request_row w) requests × HaveFinished p.egress_packets (egress_rows w) egress_packets
     ready ends = (
-      subst (λ (ts : List (Taker (Arrival kinds))). HaveFinished p.inner (inner_rows w) ts) (sym parted.inner_are) ends.inner,
-      ends.middle middle (ap (map (λ (x : Answering). x.taker)) one ∙ ap (λ (t : Taker (SlowPathRequest kinds)). t ∷ []) (sym (parted.middle_is a one))),
-      subst (λ (ts : List (Taker (Outgoing kinds))). HaveFinished p.outer (outer_rows w) ts) (sym parted.outer_are) ends.outer,
+      subst (λ (ts : List (Taker (Arrival kinds))). HaveFinished p.packets (packet_rows w) ts) (sym parted.packet_are) ends.packets,
+      ends.requests requests (ap (map (λ (x : Answering). x.taker)) one ∙ ap (λ (t : Taker (SlowPathRequest kinds)). t ∷ []) (sym (parted.request_is a one))),
+      subst (λ (ts : List (Taker (Outgoing kinds))). HaveFinished p.egress_packets (egress_rows w) ts) (sym parted.egress_are) ends.egress_packets,
     )
 
-    pub settled : AreSettled 0 (inner_rows w) p.inner inner × IsDone p.middle (middle_row w) middle × AreSettled 0 (outer_rows w) p.outer outer → HasSettled p w
+    pub settled : AreSettled 0 (packet_rows w) p.packets packets × IsDone p.requests (request_row w) requests × AreSettled 0 (egress_rows w) p.egress_packets egress_packets → HasSettled p w
     settled done = record {
-      inner = subst (λ (ts : List (Taker (Arrival kinds))). AreSettled 0 (inner_rows w) p.inner ts) parted.inner_are done.0;
-      middle = λ t at.
-          let same : middle ≡ t = parted.middle_is a one ∙ (let e = ap (map (λ (x : Answering). x.taker)) (sym one) ∙ at in cc) in
-          subst (λ (u : Taker (SlowPathRequest kinds)). IsDone p.middle (middle_row w) u) same done.1;
-      outer = subst (λ (ts : List (Taker (Outgoing kinds))). AreSettled 0 (outer_rows w) p.outer ts) parted.outer_are done.2;
+      packets = subst (λ (ts : List (Taker (Arrival kinds))). AreSettled 0 (packet_rows w) p.packets ts) parted.packet_are done.0;
+      requests = λ t at.
+          let same : requests ≡ t = parted.request_is a one ∙ (let e = ap (map (λ (x : Answering). x.taker)) (sym one) ∙ at in cc) in
+          subst (λ (u : Taker (SlowPathRequest kinds)). IsDone p.requests (request_row w) u) same done.1;
+      egress_packets = subst (λ (ts : List (Taker (Outgoing kinds))). AreSettled 0 (egress_rows w) p.egress_packets ts) parted.egress_are done.2;
     }
 
   -- as many shares as workers

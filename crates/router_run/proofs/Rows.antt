@@ -60,19 +60,19 @@ module _ {S : Type 0} (c : Config) (p : Piping) where
   abbrev pub R : Receiving S → Receiving S → Type 0
   R a b = IsSameReceiver any a b × ReceiverEnded b
 
-  receiver_finished : (n : ℕ) (a b : Receiving S) → IsReceivingAt c p n a → R a b → AreMarked b.side.processors → AreFinished (λ j. true) 0 n p.inner (senders b.side.processors)
+  receiver_finished : (n : ℕ) (a b : Receiving S) → IsReceivingAt c p n a → R a b → AreMarked b.side.processors → AreFinished (λ j. true) 0 n p.packets (senders b.side.processors)
   receiver_finished n a b is back marked =
-      finishes (λ j. true) n p.inner b.side.processors (same_ends (λ j. true) n p.inner a.side.processors b.side.processors back.0.processors is.processors) marked back.1.processors (all_picked (senders b.side.processors))
+      finishes (λ j. true) n p.packets b.side.processors (same_ends (λ j. true) n p.packets a.side.processors b.side.processors back.0.processors is.processors) marked back.1.processors (all_picked (senders b.side.processors))
 
-  pub inner_ended : (n : ℕ) (xs ys : List (Receiving S)) → AllAt (IsReceivingAt c p) n xs → AreBack R xs ys → Each (λ (r : Receiving S). AreMarked r.side.processors) ys
-      → AreRows (λ j. true) n p.inner (map (λ (r : Receiving S). senders r.side.processors) ys)
-  inner_ended n [] [] all back marked = tt
-  inner_ended n [] (y ∷ ys) all back marked = absurd back
-  inner_ended n (x ∷ xs) [] all back marked = absurd back
-  inner_ended n (x ∷ xs) (y ∷ ys) all back marked =
+  pub packet_ended : (n : ℕ) (xs ys : List (Receiving S)) → AllAt (IsReceivingAt c p) n xs → AreBack R xs ys → Each (λ (r : Receiving S). AreMarked r.side.processors) ys
+      → AreRows (λ j. true) n p.packets (map (λ (r : Receiving S). senders r.side.processors) ys)
+  packet_ended n [] [] all back marked = tt
+  packet_ended n [] (y ∷ ys) all back marked = absurd back
+  packet_ended n (x ∷ xs) [] all back marked = absurd back
+  packet_ended n (x ∷ xs) (y ∷ ys) all back marked =
       let next : n + 1 ≡ suc n = omega arith in (
         receiver_finished n x y all.0 back.0 marked.0,
-        subst (λ (m : ℕ). AreRows (λ j. true) m p.inner (map (λ (r : Receiving S). senders r.side.processors) ys)) next (inner_ended (n + 1) xs ys all.1 back.1 marked.1),
+        subst (λ (m : ℕ). AreRows (λ j. true) m p.packets (map (λ (r : Receiving S). senders r.side.processors) ys)) next (packet_ended (n + 1) xs ys all.1 back.1 marked.1),
       )
 
 module _ {G : Type 0} (c : Config) (p : Piping) where
@@ -82,29 +82,29 @@ module _ {G : Type 0} (c : Config) (p : Piping) where
   processor_taken : (i : ℕ) (s : Shape) (a b : Working G) → IsWorkingAt c p i s a → P a b → HasTaken true s b.taker
   processor_taken i s a b is back = has_taken true s b.taker (taken_of s a.taker b.taker is.taker back.0.taker) (λ u. let d = back.1.done in omega arith)
 
-  pub inner_taken : (k n i : ℕ) (ss : List Shape) (xs ys : List (Working G)) → AreFor n ss → AreWorking c p i ss xs → AreBack P xs ys → AreTaken (λ j. true) k n ss (map (λ (w : Working G). w.taker) ys)
-  inner_taken k n i [] [] [] for are back = tt
-  inner_taken k n i [] [] (y ∷ ys) for are back = absurd back
-  inner_taken k n i [] (x ∷ xs) ys for are back = absurd are
-  inner_taken k n i (s ∷ ss) [] ys for are back = absurd are
-  inner_taken k n i (s ∷ ss) (x ∷ xs) [] for are back = absurd back
-  inner_taken k n i (s ∷ ss) (x ∷ xs) (y ∷ ys) for are back = ((for.0, processor_taken i s x y are.0 back.0), inner_taken (suc k) n (i + 1) ss xs ys for.1 are.1 back.1)
+  pub packet_taken : (k n i : ℕ) (ss : List Shape) (xs ys : List (Working G)) → AreFor n ss → AreWorking c p i ss xs → AreBack P xs ys → AreTaken (λ j. true) k n ss (map (λ (w : Working G). w.taker) ys)
+  packet_taken k n i [] [] [] for are back = tt
+  packet_taken k n i [] [] (y ∷ ys) for are back = absurd back
+  packet_taken k n i [] (x ∷ xs) ys for are back = absurd are
+  packet_taken k n i (s ∷ ss) [] ys for are back = absurd are
+  packet_taken k n i (s ∷ ss) (x ∷ xs) [] for are back = absurd back
+  packet_taken k n i (s ∷ ss) (x ∷ xs) (y ∷ ys) for are back = ((for.0, processor_taken i s x y are.0 back.0), packet_taken (suc k) n (i + 1) ss xs ys for.1 are.1 back.1)
 
-  slow_ended : (i : ℕ) (s : Shape) (a b : Working G) → IsWorkingAt c p i s a → P a b → IsMarked b.slow.sender b.slow.ended → IsEndOf p.middle i b.slow.sender × IsFinal true b.slow.sender.offers
+  slow_ended : (i : ℕ) (s : Shape) (a b : Working G) → IsWorkingAt c p i s a → P a b → IsMarked b.slow.sender b.slow.ended → IsEndOf p.requests i b.slow.sender × IsFinal true b.slow.sender.offers
   slow_ended i s a b is back marked =
       let same = back.0.slow in let e = is.slow in
       ((same.0 ∙ e.0, same.1 ∙ e.1, same.2 ∙ e.2, same.3 ∙ e.3), marked.there back.1.slow)
 
-  pub middle_ends : (i : ℕ) (ss : List Shape) (xs ys : List (Working G)) → AreWorking c p i ss xs → AreBack P xs ys → Each (λ (w : Working G). AreMarked w.side.links × IsMarked w.slow.sender w.slow.ended) ys
-      → AreOfPipe true i p.middle (map (λ (w : Working G). w.slow.sender) ys)
-  middle_ends i [] [] [] are back marked = tt
-  middle_ends i [] [] (y ∷ ys) are back marked = absurd back
-  middle_ends i [] (x ∷ xs) ys are back marked = absurd are
-  middle_ends i (s ∷ ss) [] ys are back marked = absurd are
-  middle_ends i (s ∷ ss) (x ∷ xs) [] are back marked = absurd back
-  middle_ends i (s ∷ ss) (x ∷ xs) (y ∷ ys) are back marked =
+  pub request_ends : (i : ℕ) (ss : List Shape) (xs ys : List (Working G)) → AreWorking c p i ss xs → AreBack P xs ys → Each (λ (w : Working G). AreMarked w.side.links × IsMarked w.slow.sender w.slow.ended) ys
+      → AreOfPipe true i p.requests (map (λ (w : Working G). w.slow.sender) ys)
+  request_ends i [] [] [] are back marked = tt
+  request_ends i [] [] (y ∷ ys) are back marked = absurd back
+  request_ends i [] (x ∷ xs) ys are back marked = absurd are
+  request_ends i (s ∷ ss) [] ys are back marked = absurd are
+  request_ends i (s ∷ ss) (x ∷ xs) [] are back marked = absurd back
+  request_ends i (s ∷ ss) (x ∷ xs) (y ∷ ys) are back marked =
       let next : i + 1 ≡ suc i = omega arith in
-      (slow_ended i s x y are.0 back.0 marked.0.1, subst (λ (m : ℕ). AreOfPipe true m p.middle (map (λ (w : Working G). w.slow.sender) ys)) next (middle_ends (i + 1) ss xs ys are.1 back.1 marked.1))
+      (slow_ended i s x y are.0 back.0 marked.0.1, subst (λ (m : ℕ). AreOfPipe true m p.requests (map (λ (w : Working G). w.slow.sender) ys)) next (request_ends (i + 1) ss xs ys are.1 back.1 marked.1))
 
   pub working_long : (i : ℕ) (ss : List Shape) (xs : List (Working G)) → AreWorking c p i ss xs → length xs ≡ length ss
   working_long i [] [] are = refl
@@ -113,13 +113,13 @@ module _ {G : Type 0} (c : Config) (p : Piping) where
   working_long i (s ∷ ss) (x ∷ xs) are = let r = working_long (i + 1) ss xs are.1 in omega arith
 
   -- a processor's ends of the links' pipes
-  processor_finished : (i : ℕ) (s : Shape) (a b : Working G) → IsWorkingAt c p i s a → P a b → AreMarked b.side.links → AreFinished (are_used c) 0 i p.outer (senders b.side.links)
+  processor_finished : (i : ℕ) (s : Shape) (a b : Working G) → IsWorkingAt c p i s a → P a b → AreMarked b.side.links → AreFinished (are_used c) 0 i p.egress_packets (senders b.side.links)
   processor_finished i s a b is back marked =
       let old : a.side.config ≡ c = is.config in
       let new : b.side.config ≡ c = back.0.config ∙ is.config in
       let same = subst (λ (d : Config). AreSameEnds (are_used d) a.side.links b.side.links) old back.0.links in
-      finishes (are_used c) i p.outer b.side.links
-      (same_ends (are_used c) i p.outer a.side.links b.side.links same is.links)
+      finishes (are_used c) i p.egress_packets b.side.links
+      (same_ends (are_used c) i p.egress_packets a.side.links b.side.links same is.links)
       marked
       (subst (λ (d : Config). outlets.HaveEnded (are_used d) b.side.links) new back.1.links)
       (spared (are_used c) a.side.links b.side.links same is.fresh)
@@ -128,20 +128,20 @@ module _ {G : Type 0} (c : Config) (p : Piping) where
   links_of ws = map (λ (w : Working G). senders w.side.links) ws
 
   -- the rows of the processors from number i on, and of those after them
-  pub outer_ended : (i : ℕ) (ss : List Shape) (xs ys : List (Working G)) (tail : List (List (Sender (Outgoing kinds))))
+  pub egress_ended : (i : ℕ) (ss : List Shape) (xs ys : List (Working G)) (tail : List (List (Sender (Outgoing kinds))))
       → AreWorking c p i ss xs → AreBack P xs ys → Each (λ (w : Working G). AreMarked w.side.links × IsMarked w.slow.sender w.slow.ended) ys
-      → AreRows (are_used c) (i + length ss) p.outer tail → AreRows (are_used c) i p.outer (links_of ys ++ tail)
-  outer_ended i [] [] [] tail are back marked rest = let e : i + 0 ≡ i = omega arith in subst (λ (m : ℕ). AreRows (are_used c) m p.outer tail) e rest
-  outer_ended i [] [] (y ∷ ys) tail are back marked rest = absurd back
-  outer_ended i [] (x ∷ xs) ys tail are back marked rest = absurd are
-  outer_ended i (s ∷ ss) [] ys tail are back marked rest = absurd are
-  outer_ended i (s ∷ ss) (x ∷ xs) [] tail are back marked rest = absurd back
-  outer_ended i (s ∷ ss) (x ∷ xs) (y ∷ ys) tail are back marked rest =
+      → AreRows (are_used c) (i + length ss) p.egress_packets tail → AreRows (are_used c) i p.egress_packets (links_of ys ++ tail)
+  egress_ended i [] [] [] tail are back marked rest = let e : i + 0 ≡ i = omega arith in subst (λ (m : ℕ). AreRows (are_used c) m p.egress_packets tail) e rest
+  egress_ended i [] [] (y ∷ ys) tail are back marked rest = absurd back
+  egress_ended i [] (x ∷ xs) ys tail are back marked rest = absurd are
+  egress_ended i (s ∷ ss) [] ys tail are back marked rest = absurd are
+  egress_ended i (s ∷ ss) (x ∷ xs) [] tail are back marked rest = absurd back
+  egress_ended i (s ∷ ss) (x ∷ xs) (y ∷ ys) tail are back marked rest =
       let next : i + 1 ≡ suc i = omega arith in
       let far : i + suc (length ss) ≡ (i + 1) + length ss = omega arith in (
         processor_finished i s x y are.0 back.0 marked.0.0,
-        subst (λ (m : ℕ). AreRows (are_used c) m p.outer (links_of ys ++ tail)) next
-            (outer_ended (i + 1) ss xs ys tail are.1 back.1 marked.1 (subst (λ (m : ℕ). AreRows (are_used c) m p.outer tail) far rest)),
+        subst (λ (m : ℕ). AreRows (are_used c) m p.egress_packets (links_of ys ++ tail)) next
+            (egress_ended (i + 1) ss xs ys tail are.1 back.1 marked.1 (subst (λ (m : ℕ). AreRows (are_used c) m p.egress_packets tail) far rest)),
       )
 
 -- ---- the slow path and the controller
@@ -150,24 +150,24 @@ module _ (c : Config) (p : Piping) where
   abbrev pub A : Answering → Answering → Type 0
   A a b = IsSameSlowPath a b × SlowPathEnded b
 
-  slow_finished : (a b : Answering) → IsAnsweringAt c p a → A a b → AreMarked b.side.links → AreFinished (are_used c) 0 c.processors p.outer (senders b.side.links)
+  slow_finished : (a b : Answering) → IsAnsweringAt c p a → A a b → AreMarked b.side.links → AreFinished (are_used c) 0 c.processors p.egress_packets (senders b.side.links)
   slow_finished a b is back marked =
       let old : a.side.config ≡ c = is.config in
       let new : b.side.config ≡ c = back.0.config ∙ is.config in
       let same = subst (λ (d : Config). AreSameEnds (are_used d) a.side.links b.side.links) old back.0.links in
-      finishes (are_used c) c.processors p.outer b.side.links
-      (same_ends (are_used c) c.processors p.outer a.side.links b.side.links same is.links)
+      finishes (are_used c) c.processors p.egress_packets b.side.links
+      (same_ends (are_used c) c.processors p.egress_packets a.side.links b.side.links same is.links)
       marked
       (subst (λ (d : Config). outlets.HaveEnded (are_used d) b.side.links) new back.1.links)
       (spared (are_used c) a.side.links b.side.links same is.fresh)
 
-  pub slow_taken : (a b : Answering) → IsAnsweringAt c p a → A a b → HasTaken true p.middle b.taker
-  slow_taken a b is back = has_taken true p.middle b.taker (taken_of p.middle a.taker b.taker is.taker back.0.taker) (λ u. let d = back.1.done in omega arith)
+  pub slow_taken : (a b : Answering) → IsAnsweringAt c p a → A a b → HasTaken true p.requests b.taker
+  slow_taken a b is back = has_taken true p.requests b.taker (taken_of p.requests a.taker b.taker is.taker back.0.taker) (λ u. let d = back.1.done in omega arith)
 
   -- their rows are the last two
   pub last_ended : (xs ys : List Answering) (hs ks : List (Shutting (Outgoing kinds)))
-      → AreAnswering c p xs → AreBack A xs ys → Each (λ (a : Answering). AreMarked a.side.links) ys → AreShutters (are_used c) 0 (c.processors + 1) p.outer hs → EachEnds hs ks → AreMarking ks
-      → AreRows (are_used c) c.processors p.outer (map (λ (a : Answering). senders a.side.links) ys ++ (shutter_ends ks ∷ []))
+      → AreAnswering c p xs → AreBack A xs ys → Each (λ (a : Answering). AreMarked a.side.links) ys → AreShutters (are_used c) 0 (c.processors + 1) p.egress_packets hs → EachEnds hs ks → AreMarking ks
+      → AreRows (are_used c) c.processors p.egress_packets (map (λ (a : Answering). senders a.side.links) ys ++ (shutter_ends ks ∷ []))
   last_ended [] ys hs ks are back marked shut ends marking = absurd are
   last_ended (a ∷ b ∷ xs) ys hs ks are back marked shut ends marking = absurd are
   last_ended (a ∷ []) [] hs ks are back marked shut ends marking = absurd back
@@ -175,7 +175,7 @@ module _ (c : Config) (p : Piping) where
   last_ended (a ∷ []) (b ∷ []) hs ks are back marked shut ends marking =
       let next : c.processors + 1 ≡ suc c.processors = omega arith in (
         slow_finished a b are back.0 marked.0,
-        (subst (λ (m : ℕ). AreFinished (are_used c) 0 m p.outer (shutter_ends ks)) next (shutters_finish (are_used c) (c.processors + 1) p.outer hs ks shut ends marking), tt),
+        (subst (λ (m : ℕ). AreFinished (are_used c) 0 m p.egress_packets (shutter_ends ks)) next (shutters_finish (are_used c) (c.processors + 1) p.egress_packets hs ks shut ends marking), tt),
       )
 
 -- ---- forwarders
@@ -195,18 +195,18 @@ module _ {K : Type 0} (c : Config) (p : Piping) where
       has_taken (are_used c (suc (2 * l))) high b.high.taker (taken_of high a.high.taker b.high.taker is.high back.0.high)
       (λ u. back.1.1 (ap (λ (d : Config). has_two_bands d b.link) config ∙ (ap (has_two_bands c) link ∙ (sym (used_high (has_two_bands c) l) ∙ (ap (are_used c) next ∙ u)))))
 
-  pub outer_taken : (l n : ℕ) (ss : List Shape) (xs ys : List (Forwarding K)) → AreFor n ss → AreForwarding c p l ss xs → AreBack F xs ys → AreTaken (are_used c) (2 * l) n ss (takers_of ys)
-  outer_taken l n [] [] [] for are back = tt
-  outer_taken l n [] [] (y ∷ ys) for are back = absurd back
-  outer_taken l n [] (x ∷ xs) ys for are back = absurd are
-  outer_taken l n (s ∷ []) xs ys for are back = absurd are
-  outer_taken l n (low ∷ high ∷ ss) [] ys for are back = absurd are
-  outer_taken l n (low ∷ high ∷ ss) (x ∷ xs) [] for are back = absurd back
-  outer_taken l n (low ∷ high ∷ ss) (x ∷ xs) (y ∷ ys) for are back =
+  pub egress_taken : (l n : ℕ) (ss : List Shape) (xs ys : List (Forwarding K)) → AreFor n ss → AreForwarding c p l ss xs → AreBack F xs ys → AreTaken (are_used c) (2 * l) n ss (takers_of ys)
+  egress_taken l n [] [] [] for are back = tt
+  egress_taken l n [] [] (y ∷ ys) for are back = absurd back
+  egress_taken l n [] (x ∷ xs) ys for are back = absurd are
+  egress_taken l n (s ∷ []) xs ys for are back = absurd are
+  egress_taken l n (low ∷ high ∷ ss) [] ys for are back = absurd are
+  egress_taken l n (low ∷ high ∷ ss) (x ∷ xs) [] for are back = absurd back
+  egress_taken l n (low ∷ high ∷ ss) (x ∷ xs) (y ∷ ys) for are back =
       let next : 2 * (l + 1) ≡ suc (suc (2 * l)) = omega arith in (
         (for.0, low_taken l low high x y are.0 back.0),
         (
           (for.1.0, high_taken l low high x y are.0 back.0),
-          subst (λ (k : ℕ). AreTaken (are_used c) k n ss (takers_of ys)) next (outer_taken (l + 1) n ss xs ys for.1.1 are.1 back.1),
+          subst (λ (k : ℕ). AreTaken (are_used c) k n ss (takers_of ys)) next (egress_taken (l + 1) n ss xs ys for.1.1 are.1 back.1),
         ),
       )

@@ -26,31 +26,31 @@ use Rattle.router_run.proofs.Rows.{back_long, working_long}
 use Rattle.run_report.specs.Parting.{HasEnds}
 
 module _ {S : Type 0} (c : Config) (p : Piping) where
-  receivers_have : (n : ℕ) (xs ys : List (Receiving S)) → AllAt (IsReceivingAt c p) n xs → AreBack (λ a b. IsSameReceiver any a b × ReceiverEnded b) xs ys → AllAt (λ a (r : Receiving S). AreEndsOf a p.inner (senders r.side.processors)) n ys
+  receivers_have : (n : ℕ) (xs ys : List (Receiving S)) → AllAt (IsReceivingAt c p) n xs → AreBack (λ a b. IsSameReceiver any a b × ReceiverEnded b) xs ys → AllAt (λ a (r : Receiving S). AreEndsOf a p.packets (senders r.side.processors)) n ys
   receivers_have n [] [] all back = tt
   receivers_have n [] (y ∷ ys) all back = absurd back
   receivers_have n (x ∷ xs) [] all back = absurd back
-  receivers_have n (x ∷ xs) (y ∷ ys) all back = (same_ends _ n p.inner x.side.processors y.side.processors back.0.0.processors all.0.processors, receivers_have (n + 1) xs ys all.1 back.1)
+  receivers_have n (x ∷ xs) (y ∷ ys) all back = (same_ends _ n p.packets x.side.processors y.side.processors back.0.0.processors all.0.processors, receivers_have (n + 1) xs ys all.1 back.1)
 
 module _ {G : Type 0} (c : Config) (p : Piping) where
   workers_have : (i : ℕ) (ss : List Shape) (xs ys : List (Working G)) → AreWorking c p i ss xs → AreBack (λ a b. IsSameProcessor a b × ProcessorEnded b) xs ys
-      → AllAt (λ j (w : Working G). AreEndsOf j p.outer (senders w.side.links) × IsEndOf p.middle j w.slow.sender) i ys
+      → AllAt (λ j (w : Working G). AreEndsOf j p.egress_packets (senders w.side.links) × IsEndOf p.requests j w.slow.sender) i ys
   workers_have i [] [] [] are back = tt
   workers_have i [] [] (y ∷ ys) are back = absurd back
   workers_have i [] (x ∷ xs) ys are back = absurd are
   workers_have i (s ∷ ss) [] ys are back = absurd are
   workers_have i (s ∷ ss) (x ∷ xs) [] are back = absurd back
   workers_have i (s ∷ ss) (x ∷ xs) (y ∷ ys) are back = (
-    (same_ends (are_used x.side.config) i p.outer x.side.links y.side.links back.0.0.links are.0.links, same_end p.middle i x.slow.sender y.slow.sender back.0.0.slow are.0.slow),
+    (same_ends (are_used x.side.config) i p.egress_packets x.side.links y.side.links back.0.0.links are.0.links, same_end p.requests i x.slow.sender y.slow.sender back.0.0.slow are.0.slow),
     workers_have (i + 1) ss xs ys are.1 back.1,
   )
 
-slow_has : (c : Config) (p : Piping) (xs ys : List Answering) → AreAnswering c p xs → AreBack (λ a b. IsSameSlowPath a b × SlowPathEnded b) xs ys → Each (λ (a : Answering). AreEndsOf c.processors p.outer (senders a.side.links)) ys × (length ys ≡ 1)
+slow_has : (c : Config) (p : Piping) (xs ys : List Answering) → AreAnswering c p xs → AreBack (λ a b. IsSameSlowPath a b × SlowPathEnded b) xs ys → Each (λ (a : Answering). AreEndsOf c.processors p.egress_packets (senders a.side.links)) ys × (length ys ≡ 1)
 slow_has c p [] ys are back = absurd are
 slow_has c p (x ∷ z ∷ xs) ys are back = absurd are
 slow_has c p (x ∷ []) [] are back = absurd back
 slow_has c p (x ∷ []) (y ∷ z ∷ ys) are back = absurd back.1
-slow_has c p (x ∷ []) (y ∷ []) are back = ((same_ends (are_used x.side.config) c.processors p.outer x.side.links y.side.links back.0.0.links are.links, tt), refl)
+slow_has c p (x ∷ []) (y ∷ []) are back = ((same_ends (are_used x.side.config) c.processors p.egress_packets x.side.links y.side.links back.0.0.links are.links, tt), refl)
 
 -- the controller's ends, which got their end marks
 shutters_have : {T : Type 0} (uses : ℕ → Bool) (k n : ℕ) (ss : List Shape) (hs ks : List (Shutting T)) → AreShutters uses k n ss hs → EachEnds hs ks → AreEndsOf n ss (shutter_ends ks)
@@ -65,18 +65,18 @@ shutters_have uses k n (s ∷ ss) (x ∷ hs) (y ∷ ks) are ends =
 -- how many workers there are
 module _ {S G K : Type 0} (c : Config) (p : Piping) (w : Crew S G K) (is : IsCrew c p w) where
   crew_processors : length w.processors ≡ c.processors
-  crew_processors = working_long c p 0 p.inner w.processors is.processors ∙ is.pipes.processors
+  crew_processors = working_long c p 0 p.packets w.processors is.processors ∙ is.pipes.processors
 
   crew_forwarders : length w.forwarders ≡ link_count c
-  crew_forwarders = let x = forwarding_long c p 0 p.outer w.forwarders is.forwarders in let y = is.pipes.links in omega arith
+  crew_forwarders = let x = forwarding_long c p 0 p.egress_packets w.forwarders is.forwarders in let y = is.pipes.links in omega arith
 
 pub has_ends : {S G K : Type 0} (c : Config) (p : Piping) (old new : Crew S G K) → IsCrew c p old → IsBack any any old new → HasEnds p (link_count c) c.processors new
 has_ends c p old new is back =
     let slow = slow_has c p old.slow new.slow is.slow back.slow in
     record {
       receivers = (receivers_have c p 0 old.receivers new.receivers is.receivers back.receivers, back_long _ old.receivers new.receivers back.receivers ∙ is.receiver_count);
-      workers = (workers_have c p 0 p.inner old.processors new.processors is.processors back.processors, back_long _ old.processors new.processors back.processors ∙ crew_processors c p old is);
+      workers = (workers_have c p 0 p.packets old.processors new.processors is.processors back.processors, back_long _ old.processors new.processors back.processors ∙ crew_processors c p old is);
       slow = slow;
       forwarders = back_long _ old.forwarders new.forwarders back.forwarders ∙ crew_forwarders c p old is;
-      shutters = shutters_have (are_used c) 0 (c.processors + 1) p.outer old.shutters new.shutters is.shutters back.shutters;
+      shutters = shutters_have (are_used c) 0 (c.processors + 1) p.egress_packets old.shutters new.shutters is.shutters back.shutters;
     }

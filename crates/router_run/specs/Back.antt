@@ -13,7 +13,7 @@ use Rattle.worker_parts.specs.Outlets.{senders}
 use Rattle.worker_parts.specs.Told.{Told}
 use Rattle.run_ends.specs.Settled.{AreSettled, IsDone}
 use Rattle.run_ends.specs.Shutting.{shutter_ends, EachEnds}
-use Rattle.run_report.specs.Crew.{Crew, inner_rows, inner_takers, middle_row, middle_takers, outer_rows, takers_of}
+use Rattle.run_report.specs.Crew.{Crew, packet_rows, packet_takers, request_row, request_takers, egress_rows, takers_of}
 use Rattle.run_pipes.specs.Piping.{Piping}
 use Rattle.worker_parts.specs.Back.{AreBack}
 use Rattle.router_stages.specs.SameReceiver.{IsSameReceiver, ReceiverEnded}
@@ -31,9 +31,9 @@ pub record IsBack {S G K : Type 0} (same_source : S → S → Type 0) (same_sink
 
 -- All pipes were gathered.
 pub record HasSettled {S G K : Type 0} (p : Piping) (w : Crew S G K) : Type 0 where
-  pub inner : AreSettled 0 (inner_rows w) p.inner (inner_takers w)
-  pub middle : (t : Taker (SlowPathRequest kinds)) → middle_takers w ≡ t ∷ [] → IsDone p.middle (middle_row w) t
-  pub outer : AreSettled 0 (outer_rows w) p.outer (takers_of w.forwarders)
+  pub packets : AreSettled 0 (packet_rows w) p.packets (packet_takers w)
+  pub requests : (t : Taker (SlowPathRequest kinds)) → request_takers w ≡ t ∷ [] → IsDone p.requests (request_row w) t
+  pub egress_packets : AreSettled 0 (egress_rows w) p.egress_packets (takers_of w.forwarders)
 
 module _ {S : Type 0} (told : S → Option (List Heard)) where
   abbrev pub receiver_back : Receiving S → ReceiverBack

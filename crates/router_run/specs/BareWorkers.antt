@@ -26,7 +26,7 @@ pub record AreAfterReceivers {G : Type 0} (c : Config) (p : Piping) (processors 
   pub working : IsRest (IsWorkingThere c p) 0 c.processors processors
   pub answering : IsAnsweringAt c p slow
   pub leaving : IsRest (IsLeavingAt c p) 0 (link_count c) forwarders
-  pub shutting : AreNew (are_used c) 0 (fresh_ends (c.processors + 1) p.outer) shutters
+  pub shutting : AreNew (are_used c) 0 (fresh_ends (c.processors + 1) p.egress_packets) shutters
 
 -- all over these pipes
 pub record AreOver {N G : Type 0} (p : Piping) (c : Config) (k : Pipes N) (receivers : List Entry) (processors : List (Working G)) (slow : Answering) (forwarders : List Exit) (shutters : List (Shutting (Outgoing kinds))) (fillers : List (Sender (List ℕ))) : Type 0 where

@@ -29,7 +29,7 @@ module _ {S G K : Type 0} (failed : K → ℕ) where
     pub sinks_are : map (λ (f : Forwarding K). f.side.sink) r.crew.forwarders ≡ sinks
     pub began : map (λ (f : Forwarding K). f.began) r.crew.forwarders ≡ map failed sinks
     pub crew : IsCrew c r.pipes r.crew
-    pub unmarked : AreNew (are_used c) 0 (fresh_ends (c.processors + 1) r.pipes.outer) r.crew.shutters
+    pub unmarked : AreNew (are_used c) 0 (fresh_ends (c.processors + 1) r.pipes.egress_packets) r.crew.shutters
     pub filled : AreFilled (c.processors + 1 + link_count c) (c.buffers - 1) r.pipes.free r.fillers
 
 module _ {S K : Type 0} where

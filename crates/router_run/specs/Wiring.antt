@@ -21,7 +21,7 @@ module _ {S : Type 0} where
     pub config : r.side.config ≡ c
     pub link : r.side.link ≡ a
     pub interface : r.side.interface ≡ interface_at c a
-    pub processors : AreEndsOf a p.inner (senders r.side.processors)
+    pub processors : AreEndsOf a p.packets (senders r.side.processors)
     pub free : IsTakerThere p.free a r.side.stock.free
 
 module _ {G : Type 0} where
@@ -57,8 +57,8 @@ pub record IsCrew {S G K : Type 0} (c : Config) (p : Piping) (w : Crew S G K) : 
   pub pipes : IsPiping c p
   pub receivers : AllAt (IsReceivingAt c p) 0 w.receivers
   pub receiver_count : length w.receivers ≡ link_count c
-  pub processors : AreWorking c p 0 p.inner w.processors
+  pub processors : AreWorking c p 0 p.packets w.processors
   pub slow : AreAnswering c p w.slow
-  pub forwarders : AreForwarding c p 0 p.outer w.forwarders
-  pub shutters : AreShutters (are_used c) 0 (c.processors + 1) p.outer w.shutters
+  pub forwarders : AreForwarding c p 0 p.egress_packets w.forwarders
+  pub shutters : AreShutters (are_used c) 0 (c.processors + 1) p.egress_packets w.shutters
   pub unended : AreUnended w.shutters

@@ -55,16 +55,16 @@ fn after_receivers<N: RunBrand, G: Gate + Drop>(
     shares: &mut Line<Share<N>>,
 ) -> Result<AfterReceivers<N, G>, AllocError>
     requires config { N.config ≡ Some (arc_value common.now.shared).config }
-    requires pipes { (p : Piping) × HaveProcessors (arc_value common.now.shared).config 0 p pipes.old × (packets.items ≡ new_takers p.inner) × (requests ≡ taker_of p.middle) × (egress_packets.items ≡ new_takers p.outer) }
+    requires pipes { (p : Piping) × HaveProcessors (arc_value common.now.shared).config 0 p pipes.old × (packets.items ≡ new_takers p.packets) × (requests ≡ taker_of p.requests) × (egress_packets.items ≡ new_takers p.egress_packets) }
     requires shares { AreNewShares ((arc_value common.now.shared).config.processors + 1 + link_count (arc_value common.now.shared).config) shares.old }
-    ensures { let c = (arc_value common.now.shared).config in IfOk result (λ a. (p : Piping) → HaveProcessors c 0 p pipes.old → packets.items ≡ new_takers p.inner → requests ≡ taker_of p.middle → egress_packets.items ≡ new_takers p.outer → HaveForwarders c (link_count c) p pipes.new × AreAfterReceivers c p a.processors.items a.slow a.forwarders.items a.shutters.items) }
+    ensures { let c = (arc_value common.now.shared).config in IfOk result (λ a. (p : Piping) → HaveProcessors c 0 p pipes.old → packets.items ≡ new_takers p.packets → requests ≡ taker_of p.requests → egress_packets.items ≡ new_takers p.egress_packets → HaveForwarders c (link_count c) p pipes.new × AreAfterReceivers c p a.processors.items a.slow a.forwarders.items a.shutters.items) }
 {
     // At most 33, which bounds the controller's ends.
     let _ = link_count(&common.shared.config);
     let gate = Arc::new(alloc, gate)?;
     let processors = processors_of(alloc, common, &gate, pipes, packets, shares)?;
     let slow = slow_path_of(alloc, common, pipes, requests, shares.next())?;
-    let shutters = shutters(alloc, &common.shared, &mut pipes.outer)?;
+    let shutters = shutters(alloc, &common.shared, &mut pipes.egress_packets)?;
     let forwarders = all_leaving(alloc, common, pipes, egress_packets, shares)?;
     Ok(AfterReceivers {
         processors,

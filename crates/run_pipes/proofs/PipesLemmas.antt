@@ -20,21 +20,21 @@ module _ {N : Type 0} where
   -- by their own name
   pub own_piping : (c : Config) (a m o f : ℕ) (p : Piping) (k : Pipes N) → HaveMade c a m o f p k → piping_of k ≡ p
   own_piping c a m o f p k made =
-      let i = shapes_are a p.inner k.inner.items made.inner in
-      let u = shapes_are o p.outer k.outer.items made.outer in
+      let i = shapes_are a p.packets k.packets.items made.packets in
+      let u = shapes_are o p.egress_packets k.egress_packets.items made.egress_packets in
       let e = shapes_are f p.free k.free.items made.free in
-      let s : shape_of k.middle ≡ p.middle = ap (λ (x : Keeping (SlowPathRequest kinds)). shape_of x) made.middle in
-      ap (λ (x : List Shape). record { inner = x; middle = shape_of k.middle; outer = map shape_of k.outer.items; free = map shape_of k.free.items }) i
-      ∙ (ap (λ (x : Shape). record { inner = p.inner; middle = x; outer = map shape_of k.outer.items; free = map shape_of k.free.items }) s
-      ∙ (ap (λ (x : List Shape). record { inner = p.inner; middle = p.middle; outer = x; free = map shape_of k.free.items }) u
-      ∙ ap (λ (x : List Shape). record { inner = p.inner; middle = p.middle; outer = p.outer; free = x }) e))
+      let s : shape_of k.requests ≡ p.requests = ap (λ (x : Keeping (SlowPathRequest kinds)). shape_of x) made.requests in
+      ap (λ (x : List Shape). record { packets = x; requests = shape_of k.requests; egress_packets = map shape_of k.egress_packets.items; free = map shape_of k.free.items }) i
+      ∙ (ap (λ (x : Shape). record { packets = p.packets; requests = x; egress_packets = map shape_of k.egress_packets.items; free = map shape_of k.free.items }) s
+      ∙ (ap (λ (x : List Shape). record { packets = p.packets; requests = p.requests; egress_packets = x; free = map shape_of k.free.items }) u
+      ∙ ap (λ (x : List Shape). record { packets = p.packets; requests = p.requests; egress_packets = p.egress_packets; free = x }) e))
 
   -- all were made, and none is back yet
   pub none_are_all_back : (c : Config) (p : Piping) (k : Pipes N) (f : ℕ) → HaveMade c (link_count c) c.processors (c.processors + 2) f p k → HaveAllBack [] [] [] p k
   none_are_all_back c p k f made = record {
-    inner = none_are_back (link_count c) p.inner k.inner.items made.inner made.piping.inner;
-    middle = made.middle ∙ ap (λ (m : ℕ). made_pipe m p.middle) (sym made.piping.middle);
-    outer = none_are_back (c.processors + 2) p.outer k.outer.items made.outer made.piping.outer;
+    packets = none_are_back (link_count c) p.packets k.packets.items made.packets made.piping.packets;
+    requests = made.requests ∙ ap (λ (m : ℕ). made_pipe m p.requests) (sym made.piping.requests);
+    egress_packets = none_are_back (c.processors + 2) p.egress_packets k.egress_packets.items made.egress_packets made.piping.egress_packets;
   }
 
 -- one more is to be made of the slow path's pipe; and the next processor's is to be taken back

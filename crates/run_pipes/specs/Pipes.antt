@@ -26,14 +26,14 @@ LinkRows = List (List (Sender (Outgoing kinds)))
 
 module _ {N : Type 0} where
   abbrev pub piping_of : Pipes N → Piping
-  piping_of k = record { inner = map shape_of k.inner.items; middle = shape_of k.middle; outer = map shape_of k.outer.items; free = map shape_of k.free.items }
+  piping_of k = record { packets = map shape_of k.packets.items; requests = shape_of k.requests; egress_packets = map shape_of k.egress_packets.items; free = map shape_of k.free.items }
 
   -- Of each of these pipes, which are those that the configuration asks for, so many producers were made, and none is back.
   pub record HaveMade (c : Config) (a m o f : ℕ) (p : Piping) (k : Pipes N) : Type 0 where
     pub piping : IsPiping c p
-    pub inner : k.inner.items ≡ made_pipes a p.inner
-    pub middle : k.middle ≡ made_pipe m p.middle
-    pub outer : k.outer.items ≡ made_pipes o p.outer
+    pub packets : k.packets.items ≡ made_pipes a p.packets
+    pub requests : k.requests ≡ made_pipe m p.requests
+    pub egress_packets : k.egress_packets.items ≡ made_pipes o p.egress_packets
     pub free : k.free.items ≡ made_pipes f p.free
 
   -- as many receivers have their ends; then all these and as many processors; the slow path too; the controller and as many forwarders
@@ -51,13 +51,13 @@ module _ {N : Type 0} where
 
   -- These are their consumers, which took nothing yet.
   pub record AreTakersOf (p : Piping) (t : Takers N) : Type 0 where
-    pub packets : t.packets.items ≡ new_takers p.inner
-    pub requests : t.requests ≡ taker_of p.middle
-    pub egress_packets : t.egress_packets.items ≡ new_takers p.outer
+    pub packets : t.packets.items ≡ new_takers p.packets
+    pub requests : t.requests ≡ taker_of p.requests
+    pub egress_packets : t.egress_packets.items ≡ new_takers p.egress_packets
     pub free_buffers : t.free_buffers.items ≡ new_takers p.free
 
   -- All producers were made, and these are back.
   pub record HaveAllBack (receiver_rows : ReceiverRows) (request_row : RequestRow) (link_rows : LinkRows) (p : Piping) (k : Pipes N) : Type 0 where
-    pub inner : HaveBack receiver_rows p.inner k.inner.items
-    pub middle : k.middle ≡ back_pipe request_row p.middle
-    pub outer : HaveBack link_rows p.outer k.outer.items
+    pub packets : HaveBack receiver_rows p.packets k.packets.items
+    pub requests : k.requests ≡ back_pipe request_row p.requests
+    pub egress_packets : HaveBack link_rows p.egress_packets k.egress_packets.items

@@ -9,26 +9,26 @@ use Rattle.run_ends.specs.Rows.{AreFor, AreWide, AreWideAs, taker_of}
 
 -- one pipe a processor, the slow path's, two a link, and one of free buffers a link
 pub record Piping : Type 0 where
-  pub inner : List Shape
-  pub middle : Shape
-  pub outer : List Shape
+  pub packets : List Shape
+  pub requests : Shape
+  pub egress_packets : List Shape
   pub free : List Shape
 
 -- how many entries the links' pipe at a place holds: as many as configured; the pipe of a band that the link lacks is not used, and holds one
-abbrev pub outer_capacity : Config → ℕ → ℕ
-outer_capacity c at = if are_used c at then c.capacity else 1
+abbrev pub egress_capacity : Config → ℕ → ℕ
+egress_capacity c at = if are_used c at then c.capacity else 1
 
 -- The receivers feed the processors, these the slow path; processors, slow path and controller feed the links; free buffers come from
 -- processors, slow path and forwarders, and at first from whoever fills their pipes. All hold as many entries as configured.
 pub record IsPiping (c : Config) (p : Piping) : Type 0 where
-  pub inner : AreFor (link_count c) p.inner
-  pub processors : length p.inner ≡ c.processors
-  pub inner_wide : AreWide c.capacity p.inner
-  pub middle : p.middle.producers ≡ c.processors
-  pub middle_wide : p.middle.capacity ≡ c.capacity
-  pub outer : AreFor (c.processors + 2) p.outer
-  pub links : length p.outer ≡ 2 * link_count c
-  pub outer_wide : AreWideAs (outer_capacity c) 0 p.outer
+  pub packets : AreFor (link_count c) p.packets
+  pub processors : length p.packets ≡ c.processors
+  pub packet_wide : AreWide c.capacity p.packets
+  pub requests : p.requests.producers ≡ c.processors
+  pub request_wide : p.requests.capacity ≡ c.capacity
+  pub egress_packets : AreFor (c.processors + 2) p.egress_packets
+  pub links : length p.egress_packets ≡ 2 * link_count c
+  pub egress_wide : AreWideAs (egress_capacity c) 0 p.egress_packets
   pub free : AreFor (c.processors + 2 + link_count c) p.free
   pub free_links : length p.free ≡ link_count c
   pub free_wide : AreWide c.buffers p.free

@@ -6,7 +6,7 @@ ghost use Rattle.router_rules.specs.Links.{link_count};
 ghost use Rattle.run_ends.specs.Opened.{AreNewPipes};
 ghost use Rattle.run_ends.specs.Finished.{HaveFinished};
 ghost use Rattle.run_ends.specs.Settled.{AreSettled, IsDone, IsEnded};
-ghost use Rattle.run_pipes.specs.Piping.{Piping, outer_capacity};
+ghost use Rattle.run_pipes.specs.Piping.{Piping, egress_capacity};
 ghost use Rattle.run_pipes.specs.Pipes.{AreTakersOf, HaveAllBack, HaveReceivers, LinkRows, ReceiverRows, RequestRow};
 
 use crate::handing::is_used;
@@ -17,7 +17,7 @@ use std::alloc::{AllocError, Global};
 use worker_parts::{Buffer, EgressPacket, Packet, RunBrand, SlowPathRequest, both};
 
 // The processors' pipes, with the receivers as their producers.
-fn inner_pipes<N: RunBrand>(
+fn packet_pipes<N: RunBrand>(
     alloc: Global,
     shared: &Shared,
 ) -> Result<NewPipes<Packet<N>>, AllocError>
@@ -34,7 +34,7 @@ fn inner_pipes<N: RunBrand>(
 fn capacity_at(shared: &Shared, at: usize) -> usize
     requires { at < 66 }
     ensures few { (0 < result) × (result ≤ 65536) }
-    ensures capacity { result ≡ outer_capacity shared.now.config at }
+    ensures capacity { result ≡ egress_capacity shared.now.config at }
 {
     if is_used(shared, at) {
         shared.config.capacity as usize
@@ -45,11 +45,11 @@ fn capacity_at(shared: &Shared, at: usize) -> usize
 
 // The links' pipes, two of each, with processors, slow path and controller as their producers. The high
 // band's of a link with one band isn't used.
-fn outer_pipes<N: RunBrand>(
+fn egress_pipes<N: RunBrand>(
     alloc: Global,
     shared: &Shared,
 ) -> Result<NewPipes<EgressPacket<N>>, AllocError>
-    ensures { IfOk result (λ n. AreNewPipes (outer_capacity shared.now.config) (shared.now.config.processors + 2) (2 * link_count shared.now.config) n.pipes.items n.takers.items) }
+    ensures { IfOk result (λ n. AreNewPipes (egress_capacity shared.now.config) (shared.now.config.processors + 2) (2 * link_count shared.now.config) n.pipes.items n.takers.items) }
 {
     let links = link_count(&shared.config);
     let producers = usize::from(shared.config.processors) + 2;
@@ -73,7 +73,7 @@ fn free_pipes(alloc: Global, shared: &Shared) -> Result<NewPipes<Buffer>, AllocE
 }
 
 // The slow path's pipe, with the processors as its producers.
-fn middle_pipe<N: RunBrand>(
+fn request_pipe<N: RunBrand>(
     alloc: Global,
     shared: &Shared,
 ) -> Result<(Keeper<SlowPathRequest<N>>, Consumer<SlowPathRequest<N>>), AllocError>
@@ -105,11 +105,11 @@ pub struct Takers<N: RunBrand> {
 #[derive(Drop)]
 pub struct Pipes<N: RunBrand> {
     /// Packets, from the receivers to the processors.
-    pub inner: Vec<Keeper<Packet<N>>>,
+    pub packets: Vec<Keeper<Packet<N>>>,
     /// What processors ask of the slow path.
-    pub middle: Keeper<SlowPathRequest<N>>,
+    pub requests: Keeper<SlowPathRequest<N>>,
     /// The links', two of each: low band, high band.
-    pub outer: Vec<Keeper<EgressPacket<N>>>,
+    pub egress_packets: Vec<Keeper<EgressPacket<N>>>,
     /// Free buffers, one a link.
     pub free: Vec<Keeper<Buffer>>,
 }
@@ -122,19 +122,19 @@ pub fn open_all<N: RunBrand>(
     ensures { IfOk result (λ r. (p : Piping) × HaveReceivers shared.now.config 0 p r.0 × AreTakersOf p r.1) }
 {
     let free = free_pipes(alloc, shared)?;
-    let (middle, requests) = middle_pipe(alloc, shared)?;
-    let inner = inner_pipes(alloc, shared);
-    let (inner, outer) = both(inner, outer_pipes(alloc, shared))?;
+    let (requests, request_taker) = request_pipe(alloc, shared)?;
+    let packets = packet_pipes(alloc, shared);
+    let (packets, egress_packets) = both(packets, egress_pipes(alloc, shared))?;
     let pipes = Pipes {
-        inner: inner.pipes,
-        middle,
-        outer: outer.pipes,
+        packets: packets.pipes,
+        requests,
+        egress_packets: egress_packets.pipes,
         free: free.pipes,
     };
     let takers = Takers {
-        packets: inner.takers,
-        requests,
-        egress_packets: outer.takers,
+        packets: packets.takers,
+        requests: request_taker,
+        egress_packets: egress_packets.takers,
         free_buffers: free.takers,
     };
     Ok((pipes, takers))
@@ -145,21 +145,21 @@ impl<N: RunBrand> Pipes<N> {
     /// memory.
     pub fn settle(
         self,
-        packets: Vec<Consumer<Packet<N>>>,
-        requests: Consumer<SlowPathRequest<N>>,
-        egress_packets: Vec<Consumer<EgressPacket<N>>>,
+        packet_takers: Vec<Consumer<Packet<N>>>,
+        request_taker: Consumer<SlowPathRequest<N>>,
+        egress_takers: Vec<Consumer<EgressPacket<N>>>,
     )
-        requires { (rs : ReceiverRows) × (ms : RequestRow) × (ls : LinkRows) × (p : Piping) × HaveAllBack rs ms ls p self × HaveFinished p.inner rs packets.items × IsEnded true p.middle ms requests × HaveFinished p.outer ls egress_packets.items }
-        ensures { (rs : ReceiverRows) (ms : RequestRow) (ls : LinkRows) (p : Piping) → HaveAllBack rs ms ls p self → AreSettled 0 rs p.inner packets.items × IsDone p.middle ms requests × AreSettled 0 ls p.outer egress_packets.items }
+        requires { (rs : ReceiverRows) × (ms : RequestRow) × (ls : LinkRows) × (p : Piping) × HaveAllBack rs ms ls p self × HaveFinished p.packets rs packet_takers.items × IsEnded true p.requests ms request_taker × HaveFinished p.egress_packets ls egress_takers.items }
+        ensures { (rs : ReceiverRows) (ms : RequestRow) (ls : LinkRows) (p : Piping) → HaveAllBack rs ms ls p self → AreSettled 0 rs p.packets packet_takers.items × IsDone p.requests ms request_taker × AreSettled 0 ls p.egress_packets egress_takers.items }
     {
         let Pipes {
-            inner,
-            middle,
-            outer,
+            packets,
+            requests,
+            egress_packets,
             free: _,
         } = self;
-        settle_all(inner, packets);
-        settle(middle, requests);
-        settle_all(outer, egress_packets);
+        settle_all(packets, packet_takers);
+        settle(requests, request_taker);
+        settle_all(egress_packets, egress_takers);
     }
 }

@@ -24,7 +24,7 @@ use Rattle.run_pipes.specs.declared.pipes.Pipes.{Pipes}
 use Rattle.run_ends.specs.Rows.{AreEndsOf}
 use Rattle.run_ends.specs.Shutting.{AreMarking, PushMarks, shutter_ends}
 use Rattle.run_report.specs.Parting.{HasEnds, HasKept, HasMarked, IsParted, shares_in}
-use Rattle.run_report.specs.Crew.{Crew, inner_rows, middle_row, outer_rows, takers_of}
+use Rattle.run_report.specs.Crew.{Crew, packet_rows, request_row, egress_rows, takers_of}
 use Rattle.run_report.specs.Room.{HaveSpace, Space}
 
 -- ---- numbers
@@ -62,11 +62,11 @@ pub own_space : {S G K : Type 0} (p : Piping) (links processors : ℕ) (w : Crew
 own_space p links processors w r is have = subst (λ (n : ℕ). HaveSpace n (length w.processors) r) (sym is.receivers.1) (subst (λ (n : ℕ). HaveSpace links n r) (sym is.workers.1) have)
 
 -- the only slow path's ends are the next, and those of the controller come after them
-pub slow_next : (p : Piping) (n m : ℕ) (xs : List Answering) (x : Answering) (row : List (Sender (Outgoing kinds))) → m ≡ n → xs ≡ x ∷ [] → Each (λ (a : Answering). AreEndsOf n p.outer (senders a.side.links)) xs → AreEndsOf (n + 1) p.outer row
-    → AreEndsOf m p.outer (senders x.side.links) × AreEndsOf (m + 1) p.outer row
+pub slow_next : (p : Piping) (n m : ℕ) (xs : List Answering) (x : Answering) (row : List (Sender (Outgoing kinds))) → m ≡ n → xs ≡ x ∷ [] → Each (λ (a : Answering). AreEndsOf n p.egress_packets (senders a.side.links)) xs → AreEndsOf (n + 1) p.egress_packets row
+    → AreEndsOf m p.egress_packets (senders x.side.links) × AreEndsOf (m + 1) p.egress_packets row
 slow_next p n m xs x row long one all last =
-    let first = (subst (λ (ys : List Answering). Each (λ (a : Answering). AreEndsOf n p.outer (senders a.side.links)) ys) one all).0 in
-    subst (λ (k : ℕ). AreEndsOf k p.outer (senders x.side.links) × AreEndsOf (k + 1) p.outer row) (sym long) (first, last)
+    let first = (subst (λ (ys : List Answering). Each (λ (a : Answering). AreEndsOf n p.egress_packets (senders a.side.links)) ys) one all).0 in
+    subst (λ (k : ℕ). AreEndsOf k p.egress_packets (senders x.side.links) × AreEndsOf (k + 1) p.egress_packets row) (sym long) (first, last)
 
 -- ---- all together
 
@@ -89,30 +89,30 @@ module _ {S G K : Type 0} where
       ∙ (ap (λ (zs : List Held). rs ++ (ps ++ (zs ++ fs))) (sym slow) ∙ ap shares_in seen))))))
 
   -- the rows of the links' pipes, the slow path's and the controller's last
-  pub rows_parted : (v w : Crew S G K) (x : Answering) → v ≡ w → v.slow ≡ x ∷ [] → (map (λ (p : Working G). senders p.side.links) v.processors ++ senders x.side.links ∷ []) ++ shutter_ends v.shutters ∷ [] ≡ outer_rows w
+  pub rows_parted : (v w : Crew S G K) (x : Answering) → v ≡ w → v.slow ≡ x ∷ [] → (map (λ (p : Working G). senders p.side.links) v.processors ++ senders x.side.links ∷ []) ++ shutter_ends v.shutters ∷ [] ≡ egress_rows w
   rows_parted v w x seen one =
       let Ends = List (Sender (Outgoing kinds)) in
       let ps : List Ends = map (λ (p : Working G). senders p.side.links) v.processors in
       let s : Ends = senders x.side.links in
       let slow : map (λ (a : Answering). senders a.side.links) v.slow ≡ s ∷ [] = ap (map (λ (a : Answering). senders a.side.links)) one in
-      append_assoc ps (s ∷ []) (shutter_ends v.shutters ∷ []) ∙ (ap (λ (zs : List Ends). ps ++ (zs ++ shutter_ends v.shutters ∷ [])) (sym slow) ∙ ap outer_rows seen)
+      append_assoc ps (s ∷ []) (shutter_ends v.shutters ∷ []) ∙ (ap (λ (zs : List Ends). ps ++ (zs ++ shutter_ends v.shutters ∷ [])) (sym slow) ∙ ap egress_rows seen)
 
   asked_parted : (w : Crew S G K) (x : Answering) (asked : Taker (SlowPathRequest kinds)) → w.slow ≡ x ∷ [] → asked ≡ x.taker → (a : Answering) → w.slow ≡ a ∷ [] → asked ≡ a.taker
   asked_parted w x asked one is a other = let same : x ∷ [] ≡ a ∷ [] = sym one ∙ other in let e : x ≡ a = cc in is ∙ ap (λ (y : Answering). y.taker) e
 
-  pub is_parted : (v w : Crew S G K) (x : Answering) (inner : List (Taker (Arrival kinds))) (middle : Taker (SlowPathRequest kinds)) (outer : List (Taker (Outgoing kinds))) → v ≡ w → v.slow ≡ x ∷ []
-      → inner ≡ map (λ (p : Working G). p.taker) v.processors → middle ≡ x.taker → outer ≡ takers_of v.forwarders → IsParted w inner middle outer
-  is_parted v w x inner middle outer seen one i m o =
-      let parted : IsParted v inner middle outer = record { inner_are = i; middle_is = asked_parted v x middle one m; outer_are = o } in
-      subst (λ (y : Crew S G K). IsParted y inner middle outer) seen parted
+  pub is_parted : (v w : Crew S G K) (x : Answering) (packets : List (Taker (Arrival kinds))) (requests : Taker (SlowPathRequest kinds)) (egress_packets : List (Taker (Outgoing kinds))) → v ≡ w → v.slow ≡ x ∷ []
+      → packets ≡ map (λ (p : Working G). p.taker) v.processors → requests ≡ x.taker → egress_packets ≡ takers_of v.forwarders → IsParted w packets requests egress_packets
+  is_parted v w x packets requests egress_packets seen one i m o =
+      let parted : IsParted v packets requests egress_packets = record { packet_are = i; request_is = asked_parted v x requests one m; egress_are = o } in
+      subst (λ (y : Crew S G K). IsParted y packets requests egress_packets) seen parted
 
   -- all ends are back
   pub has_back : {N : Type 0} (v w : Crew S G K) (x : Answering) (p : Piping) (k : Pipes N) → v ≡ w → v.slow ≡ x ∷ []
-      → HaveAllBack (inner_rows v) (middle_row v) ((map (λ (q : Working G). senders q.side.links) v.processors ++ senders x.side.links ∷ []) ++ shutter_ends v.shutters ∷ []) p k
-      → HaveAllBack (inner_rows w) (middle_row w) (outer_rows w) p k
+      → HaveAllBack (packet_rows v) (request_row v) ((map (λ (q : Working G). senders q.side.links) v.processors ++ senders x.side.links ∷ []) ++ shutter_ends v.shutters ∷ []) p k
+      → HaveAllBack (packet_rows w) (request_row w) (egress_rows w) p k
   has_back v w x p k seen one back =
-      subst (λ (ls : List (List (Sender (Outgoing kinds)))). HaveAllBack (inner_rows w) (middle_row w) ls p k) (rows_parted v w x seen one)
-      (subst (λ (y : Crew S G K). HaveAllBack (inner_rows y) (middle_row y) ((map (λ (q : Working G). senders q.side.links) v.processors ++ senders x.side.links ∷ []) ++ shutter_ends v.shutters ∷ []) p k) seen back)
+      subst (λ (ls : List (List (Sender (Outgoing kinds)))). HaveAllBack (packet_rows w) (request_row w) ls p k) (rows_parted v w x seen one)
+      (subst (λ (y : Crew S G K). HaveAllBack (packet_rows y) (request_row y) ((map (λ (q : Working G). senders q.side.links) v.processors ++ senders x.side.links ∷ []) ++ shutter_ends v.shutters ∷ []) p k) seen back)
 
   pub has_marked : (v w : Crew S G K) (x : Answering) → v ≡ w → v.slow ≡ x ∷ []
       → Each (λ (r : Receiving S). AreMarked r.side.processors) v.receivers → Each (λ (p : Working G). AreMarked p.side.links × IsMarked p.slow.sender p.slow.ended) v.processors

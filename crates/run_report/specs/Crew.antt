@@ -25,20 +25,20 @@ crew_of receivers processors slow forwarders shutters = record { receivers = rec
 
 module _ {S G K : Type 0} where
   -- the workers' ends, by workers, and the consumers, by pipes
-  abbrev pub inner_rows : Crew S G K → List (List (Sender (Arrival kinds)))
-  inner_rows w = map (λ (r : Receiving S). senders r.side.processors) w.receivers
+  abbrev pub packet_rows : Crew S G K → List (List (Sender (Arrival kinds)))
+  packet_rows w = map (λ (r : Receiving S). senders r.side.processors) w.receivers
 
-  abbrev pub inner_takers : Crew S G K → List (Taker (Arrival kinds))
-  inner_takers w = map (λ (p : Working G). p.taker) w.processors
+  abbrev pub packet_takers : Crew S G K → List (Taker (Arrival kinds))
+  packet_takers w = map (λ (p : Working G). p.taker) w.processors
 
-  abbrev pub middle_row : Crew S G K → List (Sender (SlowPathRequest kinds))
-  middle_row w = map (λ (p : Working G). p.slow.sender) w.processors
+  abbrev pub request_row : Crew S G K → List (Sender (SlowPathRequest kinds))
+  request_row w = map (λ (p : Working G). p.slow.sender) w.processors
 
-  abbrev pub middle_takers : Crew S G K → List (Taker (SlowPathRequest kinds))
-  middle_takers w = map (λ (a : Answering). a.taker) w.slow
+  abbrev pub request_takers : Crew S G K → List (Taker (SlowPathRequest kinds))
+  request_takers w = map (λ (a : Answering). a.taker) w.slow
 
-  abbrev pub outer_rows : Crew S G K → List (List (Sender (Outgoing kinds)))
-  outer_rows w = map (λ (p : Working G). senders p.side.links) w.processors ++ (map (λ (a : Answering). senders a.side.links) w.slow ++ shutter_ends w.shutters ∷ [])
+  abbrev pub egress_rows : Crew S G K → List (List (Sender (Outgoing kinds)))
+  egress_rows w = map (λ (p : Working G). senders p.side.links) w.processors ++ (map (λ (a : Answering). senders a.side.links) w.slow ++ shutter_ends w.shutters ∷ [])
 
 module _ {K : Type 0} where
   -- of each forwarder both

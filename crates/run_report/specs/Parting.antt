@@ -17,7 +17,7 @@ use Rattle.run_pipes.specs.Handing.{NeverClosed, AreMarked}
 use Rattle.run_pipes.specs.Piping.{Piping}
 use Rattle.run_ends.specs.Rows.{AreEndsOf}
 use Rattle.run_ends.specs.Shutting.{PushMarks, AreMarking, shutter_ends}
-use Rattle.run_report.specs.Crew.{Crew, inner_takers, takers_of}
+use Rattle.run_report.specs.Crew.{Crew, packet_takers, takers_of}
 use Rattle.order_laws.specs.Item.{Outgoing, Arrival}
 use Rattle.ruled_pipe.specs.Pipe.{IsEndOf}
 use Rattle.worker_parts.specs.Outlet.{IsMarked}
@@ -25,17 +25,17 @@ use Rattle.packet_ledger.specs.Share.{Held}
 
 -- How many workers of each kind there are, and that each has its ends of these pipes.
 pub record HasEnds {S G K : Type 0} (p : Piping) (links processors : ℕ) (w : Crew S G K) : Type 0 where
-  pub receivers : AllAt (λ a (r : Receiving S). AreEndsOf a p.inner (senders r.side.processors)) 0 w.receivers × (length w.receivers ≡ links)
-  pub workers : AllAt (λ i (q : Working G). AreEndsOf i p.outer (senders q.side.links) × IsEndOf p.middle i q.slow.sender) 0 w.processors × (length w.processors ≡ processors)
-  pub slow : Each (λ (a : Answering). AreEndsOf processors p.outer (senders a.side.links)) w.slow × (length w.slow ≡ 1)
+  pub receivers : AllAt (λ a (r : Receiving S). AreEndsOf a p.packets (senders r.side.processors)) 0 w.receivers × (length w.receivers ≡ links)
+  pub workers : AllAt (λ i (q : Working G). AreEndsOf i p.egress_packets (senders q.side.links) × IsEndOf p.requests i q.slow.sender) 0 w.processors × (length w.processors ≡ processors)
+  pub slow : Each (λ (a : Answering). AreEndsOf processors p.egress_packets (senders a.side.links)) w.slow × (length w.slow ≡ 1)
   pub forwarders : length w.forwarders ≡ links
-  pub shutters : AreEndsOf (processors + 1) p.outer (shutter_ends w.shutters)
+  pub shutters : AreEndsOf (processors + 1) p.egress_packets (shutter_ends w.shutters)
 
 -- the consumers of workers that were taken apart
-pub record IsParted {S G K : Type 0} (w : Crew S G K) (inner : List (Taker (Arrival kinds))) (middle : Taker (SlowPathRequest kinds)) (outer : List (Taker (Outgoing kinds))) : Type 0 where
-  pub inner_are : inner ≡ inner_takers w
-  pub middle_is : (a : Answering) → w.slow ≡ a ∷ [] → middle ≡ a.taker
-  pub outer_are : outer ≡ takers_of w.forwarders
+pub record IsParted {S G K : Type 0} (w : Crew S G K) (packets : List (Taker (Arrival kinds))) (requests : Taker (SlowPathRequest kinds)) (egress_packets : List (Taker (Outgoing kinds))) : Type 0 where
+  pub packet_are : packets ≡ packet_takers w
+  pub request_is : (a : Answering) → w.slow ≡ a ∷ [] → requests ≡ a.taker
+  pub egress_are : egress_packets ≡ takers_of w.forwarders
 
 -- the shares in the order in which the book closes them
 abbrev pub shares_in : {S G K : Type 0} → Crew S G K → List Held

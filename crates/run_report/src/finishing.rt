@@ -5,7 +5,7 @@ ghost use Rattle.packet_ledger.specs.Share.{forwarded};
 ghost use Rattle.worker_order.specs.Totals.{totals_of};
 ghost use Rattle.run_pipes.specs.Piping.{Piping};
 ghost use Rattle.run_pipes.specs.Pipes.{HaveAllBack};
-ghost use Rattle.run_report.specs.Crew.{inner_rows, middle_row, outer_rows};
+ghost use Rattle.run_report.specs.Crew.{packet_rows, request_row, egress_rows};
 ghost use Rattle.run_report.specs.Parting.{HasEnds, HasKept, HasMarked, IsParted, shares_in};
 ghost use Rattle.run_report.specs.Room.{HaveSpace};
 
@@ -63,7 +63,7 @@ where
     G: Gate + Drop,
     requires ends { (p : Piping) × HaveAllBack [] [] [] p pipes.old × HasEnds p (length joined.receivers) (length joined.processors) joined }
     requires space { HaveSpace (length joined.receivers) (length joined.processors) space }
-    ensures back { (p : Piping) → HaveAllBack [] [] [] p pipes.old → HaveAllBack (inner_rows joined) (middle_row joined) (outer_rows joined) p pipes.new }
+    ensures back { (p : Piping) → HaveAllBack [] [] [] p pipes.old → HaveAllBack (packet_rows joined) (request_row joined) (egress_rows joined) p pipes.new }
     ensures takers { IsParted joined result.0.packets.items result.0.requests result.0.egress_packets.items }
     ensures marks { HasMarked joined }
     ensures kept { HasKept S.told K.told K.failed joined }
@@ -88,13 +88,18 @@ where
         sinks,
     } = space;
     let front = part_receivers(receivers, pipes, sources, shares);
-    let middle = part_processors(processors, pipes, packets, front.shares);
+    let requests = part_processors(processors, pipes, packets, front.shares);
     let mut slow = Line::of(slow);
-    let rest = part_slow_path(slow.next(), shutters, &mut pipes.outer, middle.shares);
+    let rest = part_slow_path(
+        slow.next(),
+        shutters,
+        &mut pipes.egress_packets,
+        requests.shares,
+    );
     slow.destroy_empty();
     let rear = part_forwarders(forwarders, egress_packets, sinks, sent, rest.shares);
     let takers = Parted {
-        packets: middle.takers,
+        packets: requests.takers,
         requests: rest.requests,
         egress_packets: rear.takers,
     };

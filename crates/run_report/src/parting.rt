@@ -39,7 +39,7 @@ pub fn part_receivers<N: RunBrand, S: Source>(
     sources: Vec<S>,
     shares: Vec<Share<N>>,
 ) -> ReceiverParts<N, S>
-    requires ends { (p : Piping) × HaveAllBack [] [] [] p pipes.old × AllAt (λ a r. AreEndsOf a p.inner (senders r.side.processors)) 0 receivers.items }
+    requires ends { (p : Piping) × HaveAllBack [] [] [] p pipes.old × AllAt (λ a r. AreEndsOf a p.packets (senders r.side.processors)) 0 receivers.items }
     requires sources { (sources.items ≡ []) × (length receivers.items ≤ vec_capacity sources) }
     requires shares { length shares.items + length receivers.items ≤ vec_capacity shares }
     ensures back { (p : Piping) → HaveAllBack [] [] [] p pipes.old → HaveAllBack (map (λ r. senders r.side.processors) receivers.items) [] [] p pipes.new }
@@ -56,7 +56,7 @@ pub fn part_receivers<N: RunBrand, S: Source>(
     for k in 0..count {
         let receiver = receivers.next();
         let (source, processors, _, share) = receiver.into_parts();
-        take_back(&mut pipes.inner, processors);
+        take_back(&mut pipes.packets, processors);
         sources.push_reserved(source);
         shares.push_reserved(share);
     }
@@ -78,7 +78,7 @@ pub fn part_processors<N: RunBrand, G: Gate + Drop>(
     takers: Vec<Consumer<Packet<N>>>,
     shares: Vec<Share<N>>,
 ) -> ProcessorParts<N>
-    requires ends { (rs : ReceiverRows) × (p : Piping) × HaveAllBack rs [] [] p pipes.old × AllAt (λ i w. AreEndsOf i p.outer (senders w.side.links) × IsEndOf p.middle i w.slow.sender) 0 processors.items }
+    requires ends { (rs : ReceiverRows) × (p : Piping) × HaveAllBack rs [] [] p pipes.old × AllAt (λ i w. AreEndsOf i p.egress_packets (senders w.side.links) × IsEndOf p.requests i w.slow.sender) 0 processors.items }
     requires takers { (takers.items ≡ []) × (length processors.items ≤ vec_capacity takers) }
     requires shares { length shares.items + length processors.items ≤ vec_capacity shares }
     ensures back { (rs : ReceiverRows) (p : Piping) → HaveAllBack rs [] [] p pipes.old → HaveAllBack rs (map (λ w. w.slow.sender) processors.items) (map (λ w. senders w.side.links) processors.items) p pipes.new }
@@ -95,8 +95,8 @@ pub fn part_processors<N: RunBrand, G: Gate + Drop>(
         let processor = processors.next();
         let (from, links, slow, _, share, _) = processor.into_parts();
         takers.push_reserved(from.into_consumer());
-        pipes.middle.absorb(slow.into_producer());
-        take_back(&mut pipes.outer, links);
+        pipes.requests.absorb(slow.into_producer());
+        take_back(&mut pipes.egress_packets, links);
         shares.push_reserved(share);
     }
     processors.destroy_empty();

@@ -32,7 +32,7 @@ pub record Entry : Type 0 where
 pub record IsEnteringAt (c : Config) (p : Piping) (a : ℕ) (e : Entry) : Type 0 where
   pub config : e.config ≡ c
   pub link : e.link ≡ a
-  pub processors : AreEndsOf a p.inner (senders e.processors)
+  pub processors : AreEndsOf a p.packets (senders e.processors)
   pub free : IsTakerThere p.free a e.free
 
 module _ {S : Type 0} where
@@ -57,8 +57,8 @@ pub record IsLeavingAt (c : Config) (p : Piping) (l : ℕ) (e : Exit) : Type 0 w
   pub link : e.link ≡ l
   pub first : Shape
   pub second : Shape
-  pub first_there : slice_get p.outer (2 * l) ≡ Some first
-  pub second_there : slice_get p.outer (2 * l + 1) ≡ Some second
+  pub first_there : slice_get p.egress_packets (2 * l) ≡ Some first
+  pub second_there : slice_get p.egress_packets (2 * l + 1) ≡ Some second
   pub low : IsTakerOf first e.low.taker
   pub high : IsTakerOf second e.high.taker
   pub free : e.free ≡ fresh_ends (c.processors + 1 + l) p.free
@@ -77,21 +77,21 @@ module _ {G : Type 0} where
     pub config : w.side.config ≡ c
     pub index : w.index ≡ i
     pub taker : IsTakerOf s w.taker
-    pub slow : IsEndOf p.middle i w.slow.sender
-    pub links : AreEndsOf i p.outer (senders w.side.links)
+    pub slow : IsEndOf p.requests i w.slow.sender
+    pub links : AreEndsOf i p.egress_packets (senders w.side.links)
     pub fresh : AreFresh w.side.links
     pub free : w.side.free ≡ fresh_ends i p.free
 
 -- the slow path has the producers after the processors'
 pub record IsAnsweringAt (c : Config) (p : Piping) (a : Answering) : Type 0 where
   pub config : a.side.config ≡ c
-  pub taker : IsTakerOf p.middle a.taker
-  pub links : AreEndsOf c.processors p.outer (senders a.side.links)
+  pub taker : IsTakerOf p.requests a.taker
+  pub links : AreEndsOf c.processors p.egress_packets (senders a.side.links)
   pub fresh : AreFresh a.side.links
   pub free : a.side.free ≡ fresh_ends c.processors p.free
 
 -- the processor of a number
 pub record IsWorkingThere {G : Type 0} (c : Config) (p : Piping) (i : ℕ) (w : Working G) : Type 0 where
   pub own : Shape
-  pub there : slice_get p.inner i ≡ Some own
+  pub there : slice_get p.packets i ≡ Some own
   pub works : IsWorkingAt c p i own w

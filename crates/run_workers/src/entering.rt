@@ -137,7 +137,7 @@ pub fn all_entering<N: RunBrand>(
     let mut free = Line::of(free);
     for link in 0..links {
         let events = common.events.processors.as_slice();
-        let processors = outlets(alloc, &mut pipes.inner, events, 1)?;
+        let processors = outlets(alloc, &mut pipes.packets, events, 1)?;
         let taker = free.next();
         let share = shares.next();
         let link = LinkIndex::of(link as u16);

@@ -120,9 +120,9 @@ pub fn all_leaving<N: RunBrand>(
     shares: &mut Line<Share<N>>,
 ) -> Result<Vec<Leaving<N>>, AllocError>
     requires config { N.config ≡ Some (arc_value common.now.shared).config }
-    requires pipes { (p : Piping) × HaveForwarders (arc_value common.now.shared).config 0 p pipes.old × (takers.items ≡ new_takers p.outer) }
+    requires pipes { (p : Piping) × HaveForwarders (arc_value common.now.shared).config 0 p pipes.old × (takers.items ≡ new_takers p.egress_packets) }
     requires shares { AreNewShares (link_count (arc_value common.now.shared).config) shares.old }
-    ensures { let c = (arc_value common.now.shared).config in IfOk result (λ v. (p : Piping) → HaveForwarders c 0 p pipes.old → takers.items ≡ new_takers p.outer → HaveForwarders c (link_count c) p pipes.new × IsRest (IsLeavingAt c p) 0 (link_count c) v.items) }
+    ensures { let c = (arc_value common.now.shared).config in IfOk result (λ v. (p : Piping) → HaveForwarders c 0 p pipes.old → takers.items ≡ new_takers p.egress_packets → HaveForwarders c (link_count c) p pipes.new × IsRest (IsLeavingAt c p) 0 (link_count c) v.items) }
 {
     let links = link_count(&common.shared.config);
     let producers = usize::from(common.shared.config.processors) + 2;

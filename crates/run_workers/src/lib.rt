@@ -3,13 +3,13 @@
 #![tactic(auto)]
 
 mod common;
+mod deciding;
 mod entering;
 mod leaving;
-mod middle;
 mod over;
 
 pub use common::Common;
+pub use deciding::{processors_of, slow_path_of};
 pub use entering::{Entering, all_entering};
 pub use leaving::{Leaving, all_leaving};
-pub use middle::{processors_of, slow_path_of};
 pub use over::{Over, over_each};

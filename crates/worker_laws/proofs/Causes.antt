@@ -318,11 +318,11 @@ module _ {K : Kinds} (R : Rules K) (v : Views K) (s : SlowViews K) (went : â„• â
         receiver_one = receiver_one;
         worker_one = worker_one;
         slow_one = slow_one;
-        middle = e.middle;
-        middle_only = e.middle_only;
-        outer_slow = j.outer_slow;
-        outer_marks = j.outer_marks;
-        outer_none = j.outer_none;
+        requests = e.requests;
+        request_only = e.request_only;
+        egress_slow = j.egress_slow;
+        egress_marks = j.egress_marks;
+        egress_none = j.egress_none;
       }
 
   pub once : IsCounted R v s

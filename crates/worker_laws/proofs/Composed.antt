@@ -246,16 +246,16 @@ module _ {K : Kinds} (R : Rules K) (w : Workers K) (closed : ℕ → Bool) (h : 
   slow : SlowLaw R w.slow.log (pushes w.slow.taker.taken) (λ q. at_place R (offers_at w.slow.links) q) (λ q. at_place R (refusals_at w.slow.links) q)
   slow = record { took = h.slow.0.took; just = h.slow.0.just; answered = h.slow.0.answered; tells = ends_tell R (to_back R) w.slow.log w.slow.links h.slow.1 h.slow.0.links }
 
-  inner : (i p : ℕ) → i < R.processors → p < R.links → of_producer p (v.taken i) ≡ v.arrived p i
-  inner i p lt below =
+  packets : (i p : ℕ) → i < R.processors → p < R.links → of_producer p (v.taken i) ≡ v.arrived p i
+  packets i p lt below =
       let f = receiver p below in
-      let c = h.inner i lt in
+      let c = h.packets i lt in
       taken_is i (map (λ (r : Receiver K). r.senders) w.receivers) c.0 (v.taken i) c.1 c.2 p f.0.senders (map_get (λ (r : Receiver K). r.senders) w.receivers p f.0 f.1)
       ∙ sym (ap (λ (x : List (Sender (Arrival K))). offers_at x i) (read_is (λ (r : Receiver K). r.senders) w.receivers p f.0 f.1))
 
-  inner_only : (i p : ℕ) → i < R.processors → R.links ≤ p → of_producer p (v.taken i) ≡ []
-  inner_only i p lt ge =
-      let c = h.inner i lt in
+  packet_only : (i p : ℕ) → i < R.processors → R.links ≤ p → of_producer p (v.taken i) ≡ []
+  packet_only i p lt ge =
+      let c = h.packets i lt in
       let long = map_long (λ (r : Receiver K). r.senders) w.receivers in
       taken_none i (map (λ (r : Receiver K). r.senders) w.receivers) c.0 (v.taken i) c.1 c.2 p (let n = h.receiver_count in omega arith)
 
@@ -270,25 +270,25 @@ module _ {K : Kinds} (R : Rules K) (w : Workers K) (closed : ℕ → Bool) (h : 
   by_processor : (j i : ℕ) → j < link_pipes R → i < R.processors → of_producer i (passed j) ≡ offers_at (links_at w i) j
   by_processor j i lt below =
       let f = processor i below in
-      let c = h.outer j lt in
+      let c = h.egress_packets j lt in
       taken_is j (link_ends w) c.0 (passed j) c.1 c.2 i f.0.links (front_get link_rows (w.slow.links ∷ w.controller ∷ []) i f.0.links (map_get (λ (p : Processor K). p.links) w.processors i f.0 f.1))
       ∙ sym (ap (λ (x : List (Sender (Outgoing K))). offers_at x j) (read_is (λ (p : Processor K). p.links) w.processors i f.0 f.1))
 
   by_slow : (j : ℕ) → j < link_pipes R → of_producer R.processors (passed j) ≡ offers_at w.slow.links j
   by_slow j lt =
-      let c = h.outer j lt in
+      let c = h.egress_packets j lt in
       let n : R.processors ≡ length link_rows + 0 = let l = rows_long in omega arith in
       taken_is j (link_ends w) c.0 (passed j) c.1 c.2 R.processors w.slow.links (back_get link_rows (w.slow.links ∷ w.controller ∷ []) 0 R.processors n)
 
   by_controller : (j : ℕ) → j < link_pipes R → of_producer (R.processors + 1) (passed j) ≡ offers_at w.controller j
   by_controller j lt =
-      let c = h.outer j lt in
+      let c = h.egress_packets j lt in
       let n : R.processors + 1 ≡ length link_rows + 1 = let l = rows_long in omega arith in
       taken_is j (link_ends w) c.0 (passed j) c.1 c.2 (R.processors + 1) w.controller (back_get link_rows (w.slow.links ∷ w.controller ∷ []) 1 (R.processors + 1) n)
 
   by_nobody : (j p : ℕ) → j < link_pipes R → R.processors + 2 ≤ p → of_producer p (passed j) ≡ []
   by_nobody j p lt ge =
-      let c = h.outer j lt in
+      let c = h.egress_packets j lt in
       let long = length-append link_rows (w.slow.links ∷ w.controller ∷ []) in
       let l = rows_long in
       taken_none j (link_ends w) c.0 (passed j) c.1 c.2 p (omega arith)
@@ -298,11 +298,11 @@ module _ {K : Kinds} (R : Rules K) (w : Workers K) (closed : ℕ → Bool) (h : 
       let f = there w.controller j (let n = h.controller_count in omega arith) in
       ap payloads (by_controller j lt ∙ offers_is w.controller j f.0 f.1) ∙ h.controller j f.0 f.1
 
-  outer : (q i : ℕ) → IsLinkPipe R q → i < R.processors → of_producer i (v.forwarded q) ≡ v.leaving i q
-  outer q i at lt = ap (of_producer i) (at_link R passed q at) ∙ by_processor (q - (slow_seat R + 1)) i (within R q at) lt ∙ sym (at_link R (offers_at (links_at w i)) q at)
+  egress_packets : (q i : ℕ) → IsLinkPipe R q → i < R.processors → of_producer i (v.forwarded q) ≡ v.leaving i q
+  egress_packets q i at lt = ap (of_producer i) (at_link R passed q at) ∙ by_processor (q - (slow_seat R + 1)) i (within R q at) lt ∙ sym (at_link R (offers_at (links_at w i)) q at)
 
-  outer_only : (q p : ℕ) → IsLinkPipe R q → R.processors ≤ p → Each (λ (o : Outgoing K). o.answer ≡ true) (payloads (of_producer p (v.forwarded q)))
-  outer_only q p at ge =
+  egress_only : (q p : ℕ) → IsLinkPipe R q → R.processors ≤ p → Each (λ (o : Outgoing K). o.answer ≡ true) (payloads (of_producer p (v.forwarded q)))
+  egress_only q p at ge =
       let j : ℕ = q - (slow_seat R + 1) in
       let lt : j < link_pipes R = within R q at in
       let same : of_producer p (v.forwarded q) ≡ of_producer p (passed j) = ap (of_producer p) (at_link R passed q at) in
@@ -326,17 +326,17 @@ module _ {K : Kinds} (R : Rules K) (w : Workers K) (closed : ℕ → Bool) (h : 
     receivers = receivers;
     workers = workers;
     forwarders = λ q at. record { sent = refl; after = refl; mark = refl };
-    inner = inner;
-    inner_only = inner_only;
-    outer = outer;
-    outer_only = outer_only;
+    packets = packets;
+    packet_only = packet_only;
+    egress_packets = egress_packets;
+    egress_only = egress_only;
   }
 
   -- ---- who closed
 
   marks_are : (j : ℕ) → j < link_pipes R → (s : Sender (Outgoing K)) × ((slice_get w.controller j ≡ Some s) × (has_mark (passed j) ≡ has_mark (pushes s.offers)))
   marks_are j lt =
-      let c = h.outer j lt in
+      let c = h.egress_packets j lt in
       let col : IsColumn j ((link_rows ++ w.slow.links ∷ []) ++ w.controller ∷ []) c.0 = subst (λ (rows : List (List (Sender (Outgoing K)))). IsColumn j rows c.0) (two_last link_rows w.slow.links w.controller) c.1 in
       let l = column_last j (link_rows ++ w.slow.links ∷ []) w.controller c.0 col in
       let all : TookAll (l.0 ++ l.1.0 ∷ []) (passed j) = subst (λ (row : List (Sender (Outgoing K))). TookAll row (passed j)) l.1.1.0 c.2 in
@@ -377,11 +377,11 @@ module _ {K : Kinds} (R : Rules K) (w : Workers K) (closed : ℕ → Bool) (h : 
     clear = λ p lt. let f = receiver p lt in subst (λ (x : List (Deed K.RuleCause (Arrival K))). Each (IsClear R) x) (sym (read_is (λ (r : Receiver K). r.log) w.receivers p f.0 f.1)) (h.receivers p f.0 f.1).0.clear;
     offered = λ i lt. let f = processor i lt in subst (λ (x : List (Deed K.RuleCause (Arrival K))). Each (IsOffered R) x) (sym (read_is (λ (p : Processor K). p.log) w.processors i f.0 f.1)) (h.processors i f.0 f.1).0.offers;
     slow = slow;
-    middle = λ i lt. h.middle.0 i (let n = map_long (λ (p : Processor K). p.slow) w.processors in let m = h.processor_count in omega arith);
-    middle_only = λ i ge. h.middle.1 i (let n = map_long (λ (p : Processor K). p.slow) w.processors in let m = h.processor_count in omega arith);
-    outer_slow = λ j lt. ap (of_producer R.processors) (at_pipe R passed j) ∙ by_slow j lt ∙ sym (at_pipe R (offers_at w.slow.links) j);
-    outer_marks = λ j lt. ap (λ (es : List (Pushed (Outgoing K))). payloads (of_producer (R.processors + 1) es)) (at_pipe R passed j) ∙ only_marks j lt;
-    outer_none = λ j p lt ge. ap (of_producer p) (at_pipe R passed j) ∙ by_nobody j p lt ge;
+    requests = λ i lt. h.requests.0 i (let n = map_long (λ (p : Processor K). p.slow) w.processors in let m = h.processor_count in omega arith);
+    request_only = λ i ge. h.requests.1 i (let n = map_long (λ (p : Processor K). p.slow) w.processors in let m = h.processor_count in omega arith);
+    egress_slow = λ j lt. ap (of_producer R.processors) (at_pipe R passed j) ∙ by_slow j lt ∙ sym (at_pipe R (offers_at w.slow.links) j);
+    egress_marks = λ j lt. ap (λ (es : List (Pushed (Outgoing K))). payloads (of_producer (R.processors + 1) es)) (at_pipe R passed j) ∙ only_marks j lt;
+    egress_none = λ j p lt ge. ap (of_producer p) (at_pipe R passed j) ∙ by_nobody j p lt ge;
     sinks = sinks;
     low_shut = λ l lt. let m = marks_are (2 * l) (omega arith) in ap has_mark (low_passed l) ∙ m.1.1 ∙ h.closes (2 * l) m.0 m.1.0;
     high_shut = λ l lt. let m = marks_are (2 * l + 1) (omega arith) in ap has_mark (high_passed l) ∙ m.1.1 ∙ h.closes (2 * l + 1) m.0 m.1.0;

@@ -60,7 +60,7 @@ module _ {K : Kinds} (R : Rules K) (v : Views K) (s : SlowViews K) (went : ℕ �
   asked_by i lt =
       let law = e.settled.workers i lt in
       let each = each_in IsAskable (accepted (to_slow R)) (v.worked i) (each_map (λ (d : Deed K.RuleCause (Arrival K)) k. each_accepted IsAskable d.end (to_slow R d.item) (asked_right d.item k.1)) (v.worked i) (known R v lawful e.settled i lt)) in
-      subst (λ (xs : List (SlowPathRequest K)). Each IsAskable xs) (sym (ap payloads (e.middle i lt) ∙ law.slow.0)) each
+      subst (λ (xs : List (SlowPathRequest K)). Each IsAskable xs) (sym (ap payloads (e.requests i lt) ∙ law.slow.0)) each
 
   pub askable : Each (λ (d : Deed K.RuleCause (SlowPathRequest K)). IsAskable d.item) s.worked
   askable =
@@ -70,7 +70,7 @@ module _ {K : Kinds} (R : Rules K) (v : Views K) (s : SlowViews K) (went : ℕ �
     where
       go : (P : Pushed (SlowPathRequest K) → Type 0) (i : ℕ) → (i < R.processors) ⊎ (R.processors ≤ i) → (i < R.processors → Each P (of_producer i s.taken)) → Each P (of_producer i s.taken)
       go P i (inl lt) h = h lt
-      go P i (inr ge) h = subst (λ (xs : List (Pushed (SlowPathRequest K))). Each P xs) (sym (e.middle_only i ge)) tt
+      go P i (inr ge) h = subst (λ (xs : List (Pushed (SlowPathRequest K))). Each P xs) (sym (e.request_only i ge)) tt
 
   pub weighed : (w : (link number : ℕ) → ℕ) → AreWeighed R v s (to_back R) w
   weighed w = record {
@@ -84,11 +84,11 @@ module _ {K : Kinds} (R : Rules K) (v : Views K) (s : SlowViews K) (went : ℕ �
     settled = e.settled;
     slow_took = e.slow.took;
     slow_tells = e.slow.tells;
-    middle = e.middle;
-    middle_only = e.middle_only;
-    outer_slow = e.outer_slow;
-    outer_marks = λ j lt. subst (λ (k : ℕ). payloads (of_producer k (v.forwarded (place_of R j))) ≡ []) (omega arith) (e.outer_marks j lt);
-    outer_none = λ j p lt ge. e.outer_none j p lt (omega arith);
+    requests = e.requests;
+    request_only = e.request_only;
+    egress_slow = e.egress_slow;
+    egress_marks = λ j lt. subst (λ (k : ℕ). payloads (of_producer k (v.forwarded (place_of R j))) ≡ []) (omega arith) (e.egress_marks j lt);
+    egress_none = λ j p lt ge. e.egress_none j p lt (omega arith);
   }
 
   pub place : (w : (link number : ℕ) → ℕ) → IsPlaced w R v s
@@ -136,17 +136,17 @@ module _ {K : Kinds} (R : Rules K) (v : Views K) (s : SlowViews K) (went : ℕ �
   right_by j lt i (inl below) b c =
       let q = place_of R j in
       let law = e.settled.workers i below in
-      subst (λ (xs : List (Outgoing K)). Each (IsRight (place_of R j)) xs) (sym (ap payloads (e.settled.outer q i (omega arith, omega arith) below) ∙ (law.tells q (omega arith, omega arith)).0))
+      subst (λ (xs : List (Outgoing K)). Each (IsRight (place_of R j)) xs) (sym (ap payloads (e.settled.egress_packets q i (omega arith, omega arith) below) ∙ (law.tells q (omega arith, omega arith)).0))
       (each_in (IsRight (place_of R j)) (accepted (to_link R q)) (v.worked i) (each_map (λ (d : Deed K.RuleCause (Arrival K)) k. each_accepted (IsRight (place_of R j)) d.end (to_link R q d.item) (sent_right q d.item k.1)) (v.worked i) (known R v lawful e.settled i below)))
   right_by j lt i (inr ge) (inl b) c =
       let q = place_of R j in
-      let mine : of_producer i (v.forwarded q) ≡ s.leaving q = ap (λ (k : ℕ). of_producer k (v.forwarded q)) b ∙ e.outer_slow j lt in
+      let mine : of_producer i (v.forwarded q) ≡ s.leaving q = ap (λ (k : ℕ). of_producer k (v.forwarded q)) b ∙ e.egress_slow j lt in
       subst (λ (xs : List (Outgoing K)). Each (IsRight (place_of R j)) xs) (sym (ap payloads mine ∙ (e.slow.tells q (omega arith, omega arith)).0))
       (each_in (IsRight (place_of R j)) (accepted (to_back R q)) s.worked (each_map (λ (d : Deed K.RuleCause (SlowPathRequest K)) k. each_accepted (IsRight (place_of R j)) d.end (to_back R q d.item) (replied_right q d.item k)) s.worked askable))
   right_by j lt i (inr ge) (inr b) (inl c) =
-      subst (λ (xs : List (Outgoing K)). Each (IsRight (place_of R j)) xs) (sym (ap (λ (k : ℕ). payloads (of_producer k (v.forwarded (place_of R j)))) c ∙ joined.outer_marks j lt)) tt
+      subst (λ (xs : List (Outgoing K)). Each (IsRight (place_of R j)) xs) (sym (ap (λ (k : ℕ). payloads (of_producer k (v.forwarded (place_of R j)))) c ∙ joined.egress_marks j lt)) tt
   right_by j lt i (inr ge) (inr b) (inr c) =
-      let none : of_producer i (v.forwarded (place_of R j)) ≡ [] = joined.outer_none j i lt (above i ge b c) in
+      let none : of_producer i (v.forwarded (place_of R j)) ≡ [] = joined.egress_none j i lt (above i ge b c) in
       subst (λ (xs : List (Pushed (Outgoing K))). Each (IsRight (place_of R j)) (payloads xs)) (sym none) tt
     where
       above : (i : ℕ) → R.processors ≤ i → (i ≡ R.processors → ⊥) → (i ≡ suc R.processors → ⊥) → suc (suc R.processors) ≤ i

@@ -143,10 +143,10 @@ module _ (id : TableId) where
       refl,
     );
     forwarders = one (λ l f. WentOn (pushes f.low.taken) (pushes f.high.taken) (handed_items f.went)) _ (inl (answer 6 ∷ [], refl, inr ([], refl, inl ([], refl, (refl, refl)))));
-    inner = below_one (λ i. (row : List (Sender (Arrival samples))) × IsColumn i (processor_ends w) row × TookAll row (taken_at w i))
+    packets = below_one (λ i. (row : List (Sender (Arrival samples))) × IsColumn i (processor_ends w) row × TookAll row (taken_at w i))
         (column 0 (processor_ends w), (refl, tt), (below_one (λ p. of_producer p (taken_at w 0) ≡ offers_at (column 0 (processor_ends w)) p) refl, λ p ge. none_from 1 p (taken_at w 0) refl ge));
-    middle = (below_one (λ p. of_producer p (pushes w.slow.taker.taken) ≡ offers_at (slow_ends w) p) refl, λ p ge. none_from 1 p (pushes w.slow.taker.taken) refl ge);
-    outer = below_two (λ j. (row : List (Sender (Outgoing samples))) × IsColumn j (link_ends w) row × TookAll row (passed_at w.forwarders j))
+    requests = (below_one (λ p. of_producer p (pushes w.slow.taker.taken) ≡ offers_at (slow_ends w) p) refl, λ p ge. none_from 1 p (pushes w.slow.taker.taken) refl ge);
+    egress_packets = below_two (λ j. (row : List (Sender (Outgoing samples))) × IsColumn j (link_ends w) row × TookAll row (passed_at w.forwarders j))
         (column 0 (link_ends w), (refl, (refl, (refl, tt))), (below_three (λ p. of_producer p (passed_at w.forwarders 0) ≡ offers_at (column 0 (link_ends w)) p) refl refl refl, λ p ge. none_from 3 p (passed_at w.forwarders 0) refl ge))
         (column 1 (link_ends w), (refl, (refl, (refl, tt))), (below_three (λ p. of_producer p (passed_at w.forwarders 1) ≡ offers_at (column 1 (link_ends w)) p) refl refl refl, λ p ge. none_from 3 p (passed_at w.forwarders 1) refl ge));
     controller_count = refl;

@@ -27,11 +27,11 @@ pub record Joined {K : Kinds} (R : Rules K) (v : Views K) (s : SlowViews K) (bac
   pub settled : Settled R v
   pub slow_took : payloads s.taken ≡ done_items s.worked
   pub slow_tells : (q : ℕ) → IsLinkPipe R q → Tells (back q) s.worked (s.leaving q) (s.leaving_full q)
-  pub middle : (i : ℕ) → i < R.processors → of_producer i s.taken ≡ v.asked i
-  pub middle_only : (i : ℕ) → R.processors ≤ i → of_producer i s.taken ≡ []
-  pub outer_slow : (j : ℕ) → j < link_pipes R → of_producer R.processors (v.forwarded (place_of R j)) ≡ s.leaving (place_of R j)
-  pub outer_marks : (j : ℕ) → j < link_pipes R → payloads (of_producer (suc R.processors) (v.forwarded (place_of R j))) ≡ []
-  pub outer_none : (j p : ℕ) → j < link_pipes R → suc (suc R.processors) ≤ p → of_producer p (v.forwarded (place_of R j)) ≡ []
+  pub requests : (i : ℕ) → i < R.processors → of_producer i s.taken ≡ v.asked i
+  pub request_only : (i : ℕ) → R.processors ≤ i → of_producer i s.taken ≡ []
+  pub egress_slow : (j : ℕ) → j < link_pipes R → of_producer R.processors (v.forwarded (place_of R j)) ≡ s.leaving (place_of R j)
+  pub egress_marks : (j : ℕ) → j < link_pipes R → payloads (of_producer (suc R.processors) (v.forwarded (place_of R j))) ≡ []
+  pub egress_none : (j p : ℕ) → j < link_pipes R → suc (suc R.processors) ≤ p → of_producer p (v.forwarded (place_of R j)) ≡ []
 
 -- Each packet that a receiver numbered stands at one place when the workers have ended.
 abbrev pub PlacesEach : Kinds → Type 0
@@ -151,8 +151,8 @@ module _ {K : Kinds} where
     worked_are i lt =
         let law = t.settled.workers i lt in
         ap (total A) (sym law.took)
-        ∙ by_number A N (v.taken i) (all_below N (v.taken i) (λ p ge. t.settled.inner_only i p lt ge))
-        ∙ sum_below N (λ p. total A (payloads (of_producer p (v.taken i)))) (λ p. in_ p i) (λ p below. ap (λ (es : List (Pushed (Arrival K))). total A (payloads es)) (t.settled.inner i p lt below))
+        ∙ by_number A N (v.taken i) (all_below N (v.taken i) (λ p ge. t.settled.packet_only i p lt ge))
+        ∙ sum_below N (λ p. total A (payloads (of_producer p (v.taken i)))) (λ p. in_ p i) (λ p below. ap (λ (es : List (Pushed (Arrival K))). total A (payloads es)) (t.settled.packets i p lt below))
 
     abbrev gone_ : ℕ → ℕ
     gone_ i = sum_to L (λ l. total O (v.leaving_full i (at l))) + total Q (v.asked_full i) + lost A (v.worked i)
@@ -170,8 +170,8 @@ module _ {K : Kinds} where
     slow_are : total Q (done_items s.worked) ≡ sum_to P (λ i. total Q (payloads (v.asked i)))
     slow_are =
         ap (total Q) (sym t.slow_took)
-        ∙ by_number Q P s.taken (all_below P s.taken t.middle_only)
-        ∙ sum_below P (λ i. total Q (payloads (of_producer i s.taken))) (λ i. total Q (payloads (v.asked i))) (λ i below. ap (λ (es : List (Pushed (SlowPathRequest K))). total Q (payloads es)) (t.middle i below))
+        ∙ by_number Q P s.taken (all_below P s.taken t.request_only)
+        ∙ sum_below P (λ i. total Q (payloads (of_producer i s.taken))) (λ i. total Q (payloads (v.asked i))) (λ i below. ap (λ (es : List (Pushed (SlowPathRequest K))). total Q (payloads es)) (t.requests i below))
 
     slow_split : total Q (done_items s.worked) ≡ sum_to L (λ l. total O (payloads (s.leaving (at l)))) + sum_to L (λ l. total O (s.leaving_full (at l))) + lost Q s.worked
     slow_split =
@@ -196,10 +196,10 @@ module _ {K : Kinds} where
     handed_are l lt =
         let es = v.forwarded (at l) in
         let whole = forwarded_are l lt in
-        let n = by_number O (suc (suc P)) es (all_below (suc (suc P)) es (λ j ge. t.outer_none l j lt ge)) in
-        let a = sum_below P (λ i. total O (payloads (of_producer i es))) (λ i. out_ i l) (λ i below. ap (λ (xs : List (Pushed (Outgoing K))). total O (payloads xs)) (t.settled.outer (at l) i (omega arith, omega arith) below)) in
-        let b = ap (λ (xs : List (Pushed (Outgoing K))). total O (payloads xs)) (t.outer_slow l lt) in
-        let c = ap (total O) (t.outer_marks l lt) in
+        let n = by_number O (suc (suc P)) es (all_below (suc (suc P)) es (λ j ge. t.egress_none l j lt ge)) in
+        let a = sum_below P (λ i. total O (payloads (of_producer i es))) (λ i. out_ i l) (λ i below. ap (λ (xs : List (Pushed (Outgoing K))). total O (payloads xs)) (t.settled.egress_packets (at l) i (omega arith, omega arith) below)) in
+        let b = ap (λ (xs : List (Pushed (Outgoing K))). total O (payloads xs)) (t.egress_slow l lt) in
+        let c = ap (total O) (t.egress_marks l lt) in
         omega arith
 
     pub placed : IsPlaced w R v s

@@ -21,11 +21,11 @@ pub record Ended {K : Kinds} (R : Rules K) (v : Views K) (s : SlowViews K) (went
   pub clear : (p : ℕ) → p < R.links → Each (IsClear R) (v.received p)
   pub offered : (i : ℕ) → i < R.processors → Each (IsOffered R) (v.worked i)
   pub slow : SlowLaw R s.worked s.taken s.leaving s.leaving_full
-  pub middle : (i : ℕ) → i < R.processors → of_producer i s.taken ≡ v.asked i
-  pub middle_only : (i : ℕ) → R.processors ≤ i → of_producer i s.taken ≡ []
-  pub outer_slow : (j : ℕ) → j < link_pipes R → of_producer R.processors (v.forwarded (place_of R j)) ≡ s.leaving (place_of R j)
-  pub outer_marks : (j : ℕ) → j < link_pipes R → payloads (of_producer (R.processors + 1) (v.forwarded (place_of R j))) ≡ []
-  pub outer_none : (j p : ℕ) → j < link_pipes R → R.processors + 2 ≤ p → of_producer p (v.forwarded (place_of R j)) ≡ []
+  pub requests : (i : ℕ) → i < R.processors → of_producer i s.taken ≡ v.asked i
+  pub request_only : (i : ℕ) → R.processors ≤ i → of_producer i s.taken ≡ []
+  pub egress_slow : (j : ℕ) → j < link_pipes R → of_producer R.processors (v.forwarded (place_of R j)) ≡ s.leaving (place_of R j)
+  pub egress_marks : (j : ℕ) → j < link_pipes R → payloads (of_producer (R.processors + 1) (v.forwarded (place_of R j))) ≡ []
+  pub egress_none : (j p : ℕ) → j < link_pipes R → R.processors + 2 ≤ p → of_producer p (v.forwarded (place_of R j)) ≡ []
   pub sinks : (l : ℕ) → l < R.links → WentOn (v.forwarded (link_pipe R false l)) (v.forwarded (link_pipe R true l)) (handed_items (went l))
   -- who closed: the controller alone, each band by a mark of its own
   pub low_shut : (l : ℕ) → l < R.links → v.shut (link_pipe R false l) ≡ closed (2 * l)

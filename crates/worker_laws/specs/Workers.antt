@@ -133,9 +133,9 @@ pub record HaveEnded {K : Kinds} (R : Rules K) (w : Workers K) (closed : ℕ →
   pub slow : KeepsAnswers R w.slow.log w.slow.taker w.slow.links × (length w.slow.links ≡ link_pipes R)
   pub forwarders : (l : ℕ) (f : Forwarder K) → slice_get w.forwarders l ≡ Some f → WentOn (pushes f.low.taken) (pushes f.high.taken) (handed_items f.went)
   -- what was taken of each pipe is what its producers had accepted
-  pub inner : (i : ℕ) → i < R.processors → (row : List (Sender (Arrival K))) × IsColumn i (processor_ends w) row × TookAll row (taken_at w i)
-  pub middle : TookAll (slow_ends w) (pushes w.slow.taker.taken)
-  pub outer : (j : ℕ) → j < link_pipes R → (row : List (Sender (Outgoing K))) × IsColumn j (link_ends w) row × TookAll row (passed_at w.forwarders j)
+  pub packets : (i : ℕ) → i < R.processors → (row : List (Sender (Arrival K))) × IsColumn i (processor_ends w) row × TookAll row (taken_at w i)
+  pub requests : TookAll (slow_ends w) (pushes w.slow.taker.taken)
+  pub egress_packets : (j : ℕ) → j < link_pipes R → (row : List (Sender (Outgoing K))) × IsColumn j (link_ends w) row × TookAll row (passed_at w.forwarders j)
   -- the controller pushes only marks, and it alone pushes closing marks
   pub controller_count : length w.controller ≡ link_pipes R
   pub controller : (j : ℕ) (s : Sender (Outgoing K)) → slice_get w.controller j ≡ Some s → payloads (pushes s.offers) ≡ []

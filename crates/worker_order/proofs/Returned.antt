@@ -140,8 +140,8 @@ module _ {T : Type 0} (shows : Handed kinds → T) (c : Config) (b : Returned T)
   row_of j taken taken' e r =
       (r.0, subst (λ (l : List (List (Sender (Outgoing kinds)))). IsColumn j l r.0) (sym same_links) r.1, subst (λ (t : List (Pushed (Outgoing kinds))). TookAll r.0 t) (sym e) r.2)
 
-  outer : (j : ℕ) → j < 2 * link_count c → (row : List (Sender (Outgoing kinds))) × IsColumn j (link_ends w) row × TookAll row (passed_at fs j)
-  outer j lt = let k = halves j (link_count c) lt in by k.0 k.1.0 k.1.1
+  egress_packets : (j : ℕ) → j < 2 * link_count c → (row : List (Sender (Outgoing kinds))) × IsColumn j (link_ends w) row × TookAll row (passed_at fs j)
+  egress_packets j lt = let k = halves j (link_count c) lt in by k.0 k.1.0 k.1.1
     where
       by : (l : ℕ) → l < link_count c → (j ≡ 2 * l) ⊎ (j ≡ 2 * l + 1) → (row : List (Sender (Outgoing kinds))) × IsColumn j (link_ends w) row × TookAll row (passed_at fs j)
       by l below (inl e) =
@@ -155,18 +155,18 @@ module _ {T : Type 0} (shows : Handed kinds → T) (c : Config) (b : Returned T)
           let taken : passed_at fs (2 * l + 1) ≡ pushes f.0.high.taken = passed_high fs l x.0 x.1.0 ∙ ap (λ (t : Taker (Outgoing kinds)). pushes t.taken) x.1.1.high in
           subst (λ (i : ℕ). (row : List (Sender (Outgoing kinds))) × IsColumn i (link_ends w) row × TookAll row (passed_at fs i)) (sym e) (row_of (2 * l + 1) (pushes f.0.high.taken) (passed_at fs (2 * l + 1)) taken (h.high l f.0 f.1))
 
-  inner : (i : ℕ) → i < c.processors → (row : List (Sender (Arrival kinds))) × IsColumn i (processor_ends w) row × TookAll row (taken_at w i)
-  inner i lt =
+  packets : (i : ℕ) → i < c.processors → (row : List (Sender (Arrival kinds))) × IsColumn i (processor_ends w) row × TookAll row (taken_at w i)
+  packets i lt =
       let p = there b.processors i (let n = h.processor_count in omega arith) in
       let x = right (IsProcessorOf c) ps b.processors pr i p.0 p.1 in
-      let r = h.inner i p.0 p.1 in
+      let r = h.packets i p.0 p.1 in
       let taken : taken_at w i ≡ pushes p.0.taker.taken = read_is (λ (p : Processor kinds). pushes p.taker.taken) ps i x.0 x.1.0 ∙ ap (λ (t : Taker (Arrival kinds)). pushes t.taken) x.1.1.taker in
       (r.0, subst (λ (l : List (List (Sender (Arrival kinds)))). IsColumn i l r.0) (sym same_rows) r.1, subst (λ (t : List (Pushed (Arrival kinds))). TookAll r.0 t) (sym taken) r.2)
 
-  middle : TookAll (slow_ends w) (pushes sl.taker.taken)
-  middle =
+  requests : TookAll (slow_ends w) (pushes sl.taker.taken)
+  requests =
       subst (λ (l : List (Sender (SlowPathRequest kinds))). TookAll l (pushes sl.taker.taken)) (sym same_asks)
-      (subst (λ (t : Taker (SlowPathRequest kinds)). TookAll (map (λ (p : ProcessorBack). p.slow) b.processors) (pushes t.taken)) (sym so.taker) h.middle)
+      (subst (λ (t : Taker (SlowPathRequest kinds)). TookAll (map (λ (p : ProcessorBack). p.slow) b.processors) (pushes t.taken)) (sym so.taker) h.requests)
 
   have_ended : HaveEnded R w closed
   have_ended = record {
@@ -177,9 +177,9 @@ module _ {T : Type 0} (shows : Handed kinds → T) (c : Config) (b : Returned T)
     processors = λ i p at. (left (IsProcessorOf c) ps b.processors pr i p at).1.1.law;
     slow = so.law;
     forwarders = λ l f at. (left (IsForwarderOf shows) fs b.forwarders fo l f at).1.1.law.order;
-    inner = inner;
-    middle = middle;
-    outer = outer;
+    packets = packets;
+    requests = requests;
+    egress_packets = egress_packets;
     controller_count = h.controller_count;
     controller = h.marks;
     closes = h.closes;

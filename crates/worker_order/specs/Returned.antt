@@ -98,8 +98,8 @@ pub record HaveReturned {T : Type 0} (shows : Handed kinds → T) (c : Config) (
   pub forwarder_count : length b.forwarders ≡ link_count c
   pub controller_count : length b.controller ≡ 2 * link_count c
   -- what was taken of each pipe is what its producers had accepted
-  pub inner : (i : ℕ) (p : ProcessorBack) → slice_get b.processors i ≡ Some p → (row : List (Sender (Arrival kinds))) × IsColumn i (map (λ (r : ReceiverBack). r.senders) b.receivers) row × TookAll row (pushes p.taker.taken)
-  pub middle : TookAll (map (λ (p : ProcessorBack). p.slow) b.processors) (pushes b.slow.taker.taken)
+  pub packets : (i : ℕ) (p : ProcessorBack) → slice_get b.processors i ≡ Some p → (row : List (Sender (Arrival kinds))) × IsColumn i (map (λ (r : ReceiverBack). r.senders) b.receivers) row × TookAll row (pushes p.taker.taken)
+  pub requests : TookAll (map (λ (p : ProcessorBack). p.slow) b.processors) (pushes b.slow.taker.taken)
   pub low : (l : ℕ) (f : ForwarderBack T) → slice_get b.forwarders l ≡ Some f → (row : List (Sender (Outgoing kinds))) × IsColumn (2 * l) (link_rows b) row × TookAll row (pushes f.low.taken)
   pub high : (l : ℕ) (f : ForwarderBack T) → slice_get b.forwarders l ≡ Some f → (row : List (Sender (Outgoing kinds))) × IsColumn (2 * l + 1) (link_rows b) row × TookAll row (pushes f.high.taken)
   -- the controller pushes only marks, and it alone pushes closing marks

@@ -34,15 +34,15 @@ shutters-requires-clause-pipes g c =
     let was = c.requires.pipes in
     let have = (c.in_ok-slow.ensures was.0 (c.in_ok-processors.ensures.made was.0 was.1 was.2).0 was.3).0 in
     let m = (arc_value c.args.common.now.shared).config.processors in
-    (m + 1, m + 2, was.0.outer, have.outer, have.piping.outer, omega arith)
+    (m + 1, m + 2, was.0.egress_packets, have.egress_packets, have.piping.egress_packets, omega arith)
 
 pub shutters-requires-clause-few : goal.shutters-requires-clause-few
 shutters-requires-clause-few g c =
     let was = c.requires.pipes in
     let have = (c.in_ok-slow.ensures was.0 (c.in_ok-processors.ensures.made was.0 was.1 was.2).0 was.3).0 in
     let m = (arc_value c.args.common.now.shared).config.processors in
-    let is = ap length have.outer in
-    let long = length-map was.0.outer (made_pipe {T = Outgoing kinds} (m + 1)) in
+    let is = ap length have.egress_packets in
+    let long = length-map was.0.egress_packets (made_pipe {T = Outgoing kinds} (m + 1)) in
     let count = have.piping.links in
     let few = c.link_count.ensures.few in
     let links = c.link_count.ensures.count ∙ ap (λ (s : Shared). link_count s.config) c.deref.ensures in
@@ -56,7 +56,7 @@ all_leaving-requires-clause-pipes g c =
     let have = (c.in_ok-slow.ensures p (c.in_ok-processors.ensures.made p was.1 was.2).0 was.3).0 in
     let two : m + 1 + 1 ≡ m + 2 = omega arith in
     let none : m + 1 ≡ m + 1 + 0 = omega arith in
-    (p, record { piping = have.piping; inner = have.inner; middle = have.middle; outer = c.in_ok-shutters.ensures.made (m + 1) p.outer have.outer ∙ ap (λ (k : ℕ). made_pipes k p.outer) two; free = have.free ∙ ap (λ (k : ℕ). made_pipes k p.free) none }, was.4)
+    (p, record { piping = have.piping; packets = have.packets; requests = have.requests; egress_packets = c.in_ok-shutters.ensures.made (m + 1) p.egress_packets have.egress_packets ∙ ap (λ (k : ℕ). made_pipes k p.egress_packets) two; free = have.free ∙ ap (λ (k : ℕ). made_pipes k p.free) none }, was.4)
 
 pub all_leaving-requires-clause-shares : goal.all_leaving-requires-clause-shares
 all_leaving-requires-clause-shares g c =
@@ -72,12 +72,12 @@ returns g c = λ p made packets requests egress_packets.
     let have = answers.0 in
     let two : m + 1 + 1 ≡ m + 2 = omega arith in
     let none : m + 1 ≡ m + 1 + 0 = omega arith in
-    let leaves = c.in_ok-forwarders.ensures p (record { piping = have.piping; inner = have.inner; middle = have.middle; outer = c.in_ok-shutters.ensures.made (m + 1) p.outer have.outer ∙ ap (λ (k : ℕ). made_pipes k p.outer) two; free = have.free ∙ ap (λ (k : ℕ). made_pipes k p.free) none }) egress_packets in (
+    let leaves = c.in_ok-forwarders.ensures p (record { piping = have.piping; packets = have.packets; requests = have.requests; egress_packets = c.in_ok-shutters.ensures.made (m + 1) p.egress_packets have.egress_packets ∙ ap (λ (k : ℕ). made_pipes k p.egress_packets) two; free = have.free ∙ ap (λ (k : ℕ). made_pipes k p.free) none }) egress_packets in (
       leaves.0,
       record {
         working = works.1;
         answering = answers.1;
         leaving = leaves.1;
-        shutting = subst (λ (s : Shared). AreNew (are_used s.config) 0 (fresh_ends (m + 1) p.outer) c.in_ok-shutters.shutters.items) c.deref-2.ensures (c.in_ok-shutters.ensures.ends (m + 1) p.outer have.outer);
+        shutting = subst (λ (s : Shared). AreNew (are_used s.config) 0 (fresh_ends (m + 1) p.egress_packets) c.in_ok-shutters.shutters.items) c.deref-2.ensures (c.in_ok-shutters.ensures.ends (m + 1) p.egress_packets have.egress_packets);
       },
     )

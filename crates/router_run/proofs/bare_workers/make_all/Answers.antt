@@ -64,8 +64,8 @@ returns g c =
     let fillers = c.in_ok-fillers.fillers.items in
     let more : m + 1 + n + 1 ≡ m + 2 + n = omega arith in
     let was = c.after_receivers.new.pipes in
-    let pipes : Pipes g.row.N.Denot = record { inner = was.inner; middle = was.middle; outer = was.outer; free = c.fill.new.pipes } in
-    let made : AllMade config p pipes = record { piping = all.piping; inner = all.inner; middle = all.middle; outer = all.outer; free = c.in_ok-fillers.ensures.made (m + 1 + n) p.free all.free ∙ ap (λ (k : ℕ). made_pipes k p.free) more } in
+    let pipes : Pipes g.row.N.Denot = record { packets = was.packets; requests = was.requests; egress_packets = was.egress_packets; free = c.fill.new.pipes } in
+    let made : AllMade config p pipes = record { piping = all.piping; packets = all.packets; requests = all.requests; egress_packets = all.egress_packets; free = c.in_ok-fillers.ensures.made (m + 1 + n) p.free all.free ∙ ap (λ (k : ℕ). made_pipes k p.free) more } in
     let put = subst (λ (s : Shared). AreFilled (m + 1 + n) (s.config.buffers - 1) p.free fillers) c.deref-2.ensures (c.in_ok-fillers.ensures.ends (m + 1 + n) p.free all.free) in
     subst (λ (q : Piping). AreOver q config pipes c.in_ok-receivers.receivers.items after.processors.items after.slow after.forwarders.items after.shutters.items fillers) (sym (own_piping config n m (m + 2) (m + 2 + n) p pipes made))
     (record { made = made; entering = first.1; after = then.1; filled = put })

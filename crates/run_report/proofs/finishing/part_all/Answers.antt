@@ -28,19 +28,19 @@ part_receivers-front-requires-clause-shares g c =
     let room = space.shares in
     omega arith
 
-pub part_processors-middle-requires-clause-ends : goal.part_processors-middle-requires-clause-ends
-part_processors-middle-requires-clause-ends g c =
+pub part_processors-requests-requires-clause-ends : goal.part_processors-requests-requires-clause-ends
+part_processors-requests-requires-clause-ends g c =
     let was = c.requires.ends in
     (_, was.0, c.part_receivers-front.ensures.back was.0 was.1, (ends_as _ _ _ _ _ c.joined.view_is was.2).workers.0)
 
-pub part_processors-middle-requires-clause-takers : goal.part_processors-middle-requires-clause-takers
-part_processors-middle-requires-clause-takers g c =
+pub part_processors-requests-requires-clause-takers : goal.part_processors-requests-requires-clause-takers
+part_processors-requests-requires-clause-takers g c =
     let ends = ends_as _ _ _ _ _ c.joined.view_is c.requires.ends.2 in
     let space = space_as _ _ _ _ c.space.view_is c.requires.space in
     (c.space.invariant.0, le_as _ _ _ ends.workers.1 space.packets)
 
-pub part_processors-middle-requires-clause-shares : goal.part_processors-middle-requires-clause-shares
-part_processors-middle-requires-clause-shares g c =
+pub part_processors-requests-requires-clause-shares : goal.part_processors-requests-requires-clause-shares
+part_processors-requests-requires-clause-shares g c =
     let ends = ends_as _ _ _ _ _ c.joined.view_is c.requires.ends.2 in
     let space = space_as _ _ _ _ c.space.view_is c.requires.space in
     let first = grew _ _ _ _ _ _ c.part_receivers-front.ensures.shares.0 (none_long _ c.space.invariant.2) ends.receivers.1 in
@@ -62,18 +62,18 @@ part_slow_path-rest-requires-clause-back g c =
     let p = was.0 in
     let ends = ends_as _ _ _ _ _ c.joined.view_is was.2 in
     let one = only_one _ _ _ _ ends.slow.1 c.of-slow.ensures c.next.ensures in
-    let back = (c.part_processors-middle.ensures.back _ p (c.part_receivers-front.ensures.back p was.1)).outer in
+    let back = (c.part_processors-requests.ensures.back _ p (c.part_receivers-front.ensures.back p was.1)).egress_packets in
     let next = slow_next p _ _ _ _ _ (length-map c.joined.inside.processors.items (λ (w : Working _). senders w.side.links) ∙ ends.workers.1) one ends.slow.0 ends.shutters in
-    (_, p.outer, back, next.0, next.1)
+    (_, p.egress_packets, back, next.0, next.1)
 
 pub part_slow_path-rest-requires-clause-shares : goal.part_slow_path-rest-requires-clause-shares
 part_slow_path-rest-requires-clause-shares g c =
     let ends = ends_as _ _ _ _ _ c.joined.view_is c.requires.ends.2 in
     let space = space_as _ _ _ _ c.space.view_is c.requires.space in
     let first = grew _ _ _ _ _ _ c.part_receivers-front.ensures.shares.0 (none_long _ c.space.invariant.2) ends.receivers.1 in
-    let second = grew _ _ _ _ _ _ c.part_processors-middle.ensures.shares.0 first ends.workers.1 in
+    let second = grew _ _ _ _ _ _ c.part_processors-requests.ensures.shares.0 first ends.workers.1 in
     let same = c.part_receivers-front.ensures.shares.1 in
-    let still = c.part_processors-middle.ensures.shares.1 in
+    let still = c.part_processors-requests.ensures.shares.1 in
     let room = space.shares in
     omega arith
 
@@ -102,10 +102,10 @@ part_forwarders-rear-requires-clause-shares g c =
     let ends = ends_as _ _ _ _ _ c.joined.view_is c.requires.ends.2 in
     let space = space_as _ _ _ _ c.space.view_is c.requires.space in
     let first = grew _ _ _ _ _ _ c.part_receivers-front.ensures.shares.0 (none_long _ c.space.invariant.2) ends.receivers.1 in
-    let second = grew _ _ _ _ _ _ c.part_processors-middle.ensures.shares.0 first ends.workers.1 in
+    let second = grew _ _ _ _ _ _ c.part_processors-requests.ensures.shares.0 first ends.workers.1 in
     let third = longer _ _ _ _ c.part_slow_path-rest.ensures.shares.0 second in
     let same = c.part_receivers-front.ensures.shares.1 in
-    let still = c.part_processors-middle.ensures.shares.1 in
+    let still = c.part_processors-requests.ensures.shares.1 in
     let yet = c.part_slow_path-rest.ensures.shares.1 in
     let links = ends.forwarders in
     let room = space.shares in
@@ -115,32 +115,32 @@ pub returns-clause-back : goal.returns-clause-back
 returns-clause-back g c = λ p was.
     let ends = ends_as _ _ _ _ _ c.joined.view_is c.requires.ends.2 in
     let one = only_one _ _ _ _ ends.slow.1 c.of-slow.ensures c.next.ensures in
-    let second = c.part_processors-middle.ensures.back _ p (c.part_receivers-front.ensures.back p was) in
-    has_back _ _ _ p _ c.joined.view_is one (record { inner = second.inner; middle = second.middle; outer = c.part_slow_path-rest.ensures.back _ p.outer second.outer })
+    let second = c.part_processors-requests.ensures.back _ p (c.part_receivers-front.ensures.back p was) in
+    has_back _ _ _ p _ c.joined.view_is one (record { packets = second.packets; requests = second.requests; egress_packets = c.part_slow_path-rest.ensures.back _ p.egress_packets second.egress_packets })
 
 pub returns-clause-takers : goal.returns-clause-takers
 returns-clause-takers g c =
     let ends = ends_as _ _ _ _ _ c.joined.view_is c.requires.ends.2 in
     let one = only_one _ _ _ _ ends.slow.1 c.of-slow.ensures c.next.ensures in
-    is_parted _ _ _ _ _ _ c.joined.view_is one c.part_processors-middle.ensures.takers c.part_slow_path-rest.ensures.taker c.part_forwarders-rear.ensures.takers
+    is_parted _ _ _ _ _ _ c.joined.view_is one c.part_processors-requests.ensures.takers c.part_slow_path-rest.ensures.taker c.part_forwarders-rear.ensures.takers
 
 pub returns-clause-marks : goal.returns-clause-marks
 returns-clause-marks g c =
     let ends = ends_as _ _ _ _ _ c.joined.view_is c.requires.ends.2 in
     let one = only_one _ _ _ _ ends.slow.1 c.of-slow.ensures c.next.ensures in
-    has_marked _ _ _ c.joined.view_is one c.part_receivers-front.ensures.marks c.part_processors-middle.ensures.marks c.part_slow_path-rest.ensures.marks c.part_slow_path-rest.ensures.marking
+    has_marked _ _ _ c.joined.view_is one c.part_receivers-front.ensures.marks c.part_processors-requests.ensures.marks c.part_slow_path-rest.ensures.marks c.part_slow_path-rest.ensures.marking
 
 pub returns-clause-kept : goal.returns-clause-kept
 returns-clause-kept g c =
     let ends = ends_as _ _ _ _ _ c.joined.view_is c.requires.ends.2 in
     let one = only_one _ _ _ _ ends.slow.1 c.of-slow.ensures c.next.ensures in
-    has_kept g.S.Source.told g.K.Sink.told g.K.Sink.failed _ _ _ c.joined.view_is one c.part_receivers-front.ensures.laws c.part_processors-middle.ensures.laws c.part_slow_path-rest.ensures.laws c.part_forwarders-rear.ensures.laws (push_marks _ c.part_slow_path-rest.ensures.marking) c.part_receivers-front.ensures.quiet
+    has_kept g.S.Source.told g.K.Sink.told g.K.Sink.failed _ _ _ c.joined.view_is one c.part_receivers-front.ensures.laws c.part_processors-requests.ensures.laws c.part_slow_path-rest.ensures.laws c.part_forwarders-rear.ensures.laws (push_marks _ c.part_slow_path-rest.ensures.marking) c.part_receivers-front.ensures.quiet
 
 pub returns-clause-shares : goal.returns-clause-shares
 returns-clause-shares g c =
     let ends = ends_as _ _ _ _ _ c.joined.view_is c.requires.ends.2 in
     let one = only_one _ _ _ _ ends.slow.1 c.of-slow.ensures c.next.ensures in
-    shares_parted _ _ _ _ _ _ _ _ c.joined.view_is one c.space.invariant.2 c.part_receivers-front.ensures.shares.0 c.part_processors-middle.ensures.shares.0 c.part_slow_path-rest.ensures.shares.0 c.part_forwarders-rear.ensures.shares
+    shares_parted _ _ _ _ _ _ _ _ c.joined.view_is one c.space.invariant.2 c.part_receivers-front.ensures.shares.0 c.part_processors-requests.ensures.shares.0 c.part_slow_path-rest.ensures.shares.0 c.part_forwarders-rear.ensures.shares
 
 pub returns-clause-sent : goal.returns-clause-sent
 returns-clause-sent g c = c.part_forwarders-rear.ensures.sent ∙ ap (λ w. map (λ f. forwarded f.side.share) w.forwarders) c.joined.view_is

@@ -22,7 +22,7 @@ loop-k-init g c =
     let e = c.of-processors.ensures in
     record {
       left = let a = ap length e in omega arith;
-      ends = λ p all. subst (λ (xs : List (Working _)). AllAt (λ i w. AreEndsOf i p.outer (senders w.side.links) × IsEndOf p.middle i w.slow.sender) 0 xs) (sym e) all;
+      ends = λ p all. subst (λ (xs : List (Working _)). AllAt (λ i w. AreEndsOf i p.egress_packets (senders w.side.links) × IsEndOf p.requests i w.slow.sender) 0 xs) (sym e) all;
       back = ([], refl, started _ _ _ _ refl e, ([], refl, started _ _ _ _ refl e, λ rs p back. back));
       takers = started _ _ _ _ c.requires.takers.0 e;
       taker_room = (ap length c.requires.takers.0, c.requires.takers.1);
@@ -44,9 +44,9 @@ absorb-requires g c =
     let was = c.requires.ends in
     let p = was.1 in
     let ms = at.invariant.back in
-    let ends = (all_next (λ i w. AreEndsOf i p.outer (senders w.side.links) × IsEndOf p.middle i w.slow.sender) at.k at.processors c.next-processor.new.self c.next-processor.result c.next-processor.ensures (at.invariant.ends p was.3)).0 in
+    let ends = (all_next (λ i w. AreEndsOf i p.egress_packets (senders w.side.links) × IsEndOf p.requests i w.slow.sender) at.k at.processors c.next-processor.new.self c.next-processor.result c.next-processor.ensures (at.invariant.ends p was.3)).0 in
     let slow = c.into_producer.ensures.same ∙ ap (λ (o : Offering (SlowPathRequest kinds)). o.sender) c.into_parts-from.ensures.parts.2 in
-    request_next at.k ms.0 p.middle at.pipes.middle c.into_producer.result (ms.3.3 was.0 p was.2).middle (subst (λ (s : Sender (SlowPathRequest kinds)). IsEndOf p.middle at.k s) (sym slow) ends.1) ms.1
+    request_next at.k ms.0 p.requests at.pipes.requests c.into_producer.result (ms.3.3 was.0 p was.2).requests (subst (λ (s : Sender (SlowPathRequest kinds)). IsEndOf p.requests at.k s) (sym slow) ends.1) ms.1
 
 pub take_back-requires : goal.take_back-requires
 take_back-requires g c =
@@ -54,8 +54,8 @@ take_back-requires g c =
     let was = c.requires.ends in
     let p = was.1 in
     let ls = at.invariant.back.3 in
-    let ends = (all_next (λ i w. AreEndsOf i p.outer (senders w.side.links) × IsEndOf p.middle i w.slow.sender) at.k at.processors c.next-processor.new.self c.next-processor.result c.next-processor.ensures (at.invariant.ends p was.3)).0 in
-    (ls.0, p.outer, (ls.3 was.0 p was.2).outer, ends_as_next ls.0 at.k p.outer _ _ ls.1 (ap senders c.into_parts-from.ensures.parts.1) ends.0)
+    let ends = (all_next (λ i w. AreEndsOf i p.egress_packets (senders w.side.links) × IsEndOf p.requests i w.slow.sender) at.k at.processors c.next-processor.new.self c.next-processor.result c.next-processor.ensures (at.invariant.ends p was.3)).0 in
+    (ls.0, p.egress_packets, (ls.3 was.0 p was.2).egress_packets, ends_as_next ls.0 at.k p.egress_packets _ _ ls.1 (ap senders c.into_parts-from.ensures.parts.1) ends.0)
 
 pub push_reserved-requires-in-loop-k : goal.push_reserved-requires-in-loop-k
 push_reserved-requires-in-loop-k g c = let r = c.loop-k.invariant.share_room.0 in let i = ap length c.next-processor.ensures in omega arith
@@ -76,7 +76,7 @@ loop-k-preserved g c =
     let ls = inv.back.3 in
     record {
       left = shorter _ _ _ _ _ is inv.left;
-      ends = λ p all. (all_next (λ i w. AreEndsOf i p.outer (senders w.side.links) × IsEndOf p.middle i w.slow.sender) at.k at.processors c.next-processor.new.self c.next-processor.result is (inv.ends p all)).1;
+      ends = λ p all. (all_next (λ i w. AreEndsOf i p.egress_packets (senders w.side.links) × IsEndOf p.requests i w.slow.sender) at.k at.processors c.next-processor.new.self c.next-processor.result is (inv.ends p all)).1;
       back = (
         _,
         longer _ ms.0 _ _ refl ms.1,
@@ -86,9 +86,9 @@ loop-k-preserved g c =
           longer _ ls.0 _ _ refl ls.1,
           grown _ ls.0 _ _ _ _ _ _ is refl ends ls.2,
           (λ rs p back. let was = ls.3 rs p back in record {
-            inner = was.inner;
-            middle = c.absorb.ensures ∙ ap (λ (o : Keeping (SlowPathRequest kinds)). took_back o c.into_producer.result) was.middle;
-            outer = c.take_back.ensures.back ls.0 p.outer was.outer;
+            packets = was.packets;
+            requests = c.absorb.ensures ∙ ap (λ (o : Keeping (SlowPathRequest kinds)). took_back o c.into_producer.result) was.requests;
+            egress_packets = c.take_back.ensures.back ls.0 p.egress_packets was.egress_packets;
           }),
         ),
       );

@@ -18,7 +18,7 @@ use Rattle.run_report.proofs.parting.part_processors.Given as goal
 abbrev pub invariant-loop-k : goal.invariant-loop-k
 invariant-loop-k g l = record {
   left : l.k + length l.processors ≡ length l.fn.processors.items;
-  ends : (p : Piping) → AllAt (λ i w. AreEndsOf i p.outer (senders w.side.links) × IsEndOf p.middle i w.slow.sender) 0 l.fn.processors.items → AllAt (λ i w. AreEndsOf i p.outer (senders w.side.links) × IsEndOf p.middle i w.slow.sender) l.k l.processors;
+  ends : (p : Piping) → AllAt (λ i w. AreEndsOf i p.egress_packets (senders w.side.links) × IsEndOf p.requests i w.slow.sender) 0 l.fn.processors.items → AllAt (λ i w. AreEndsOf i p.egress_packets (senders w.side.links) × IsEndOf p.requests i w.slow.sender) l.k l.processors;
   back : (ms : List (Sender (SlowPathRequest kinds))) × (length ms ≡ l.k) × (ms ++ map (λ w. w.slow.sender) l.processors ≡ map (λ w. w.slow.sender) l.fn.processors.items)
       × ((ls : List (List (Sender (Outgoing kinds)))) × (length ls ≡ l.k) × (ls ++ map (λ w. senders w.side.links) l.processors ≡ map (λ w. senders w.side.links) l.fn.processors.items)
       × ((rs : List (List (Sender (Arrival kinds)))) (p : Piping) → HaveAllBack rs [] [] p l.initial.pipes → HaveAllBack rs ms ls p l.pipes));

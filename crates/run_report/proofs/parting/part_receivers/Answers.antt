@@ -18,7 +18,7 @@ loop-k-init g c =
     let e = c.of-receivers.ensures in
     record {
       left = let a = ap length e in omega arith;
-      ends = λ p all. subst (λ (xs : List (Receiving _)). AllAt (λ a r. AreEndsOf a p.inner (senders r.side.processors)) 0 xs) (sym e) all;
+      ends = λ p all. subst (λ (xs : List (Receiving _)). AllAt (λ a r. AreEndsOf a p.packets (senders r.side.processors)) 0 xs) (sym e) all;
       back = ([], refl, started _ _ _ _ refl e, λ p back. back);
       sources = started _ _ _ _ c.requires.sources.0 e;
       source_room = (ap length c.requires.sources.0, c.requires.sources.1);
@@ -36,9 +36,9 @@ pub take_back-requires : goal.take_back-requires
 take_back-requires g c =
     let at = c.loop-k in
     let was = c.requires.ends in
-    let ends = (all_next (λ a r. AreEndsOf a was.0.inner (senders r.side.processors)) at.k at.receivers c.next-receiver.new.self c.next-receiver.result c.next-receiver.ensures (at.invariant.ends was.0 was.2)).0 in
+    let ends = (all_next (λ a r. AreEndsOf a was.0.packets (senders r.side.processors)) at.k at.receivers c.next-receiver.new.self c.next-receiver.result c.next-receiver.ensures (at.invariant.ends was.0 was.2)).0 in
     let back = at.invariant.back in
-    (back.0, was.0.inner, (back.3 was.0 was.1).inner, ends_as_next back.0 at.k was.0.inner _ _ back.1 (ap senders c.into_parts-source.ensures.parts.1) ends)
+    (back.0, was.0.packets, (back.3 was.0 was.1).packets, ends_as_next back.0 at.k was.0.packets _ _ back.1 (ap senders c.into_parts-source.ensures.parts.1) ends)
 
 pub push_reserved-requires : goal.push_reserved-requires
 push_reserved-requires g c = let t = c.loop-k-test.true in let n = c.len-count.ensures in let o = c.args.receivers.ok in let l = c.loop-k.invariant.left in let r = c.loop-k.invariant.source_room in let a = r.0 in let b = r.1 in omega arith
@@ -60,8 +60,8 @@ loop-k-preserved g c =
     let shares = c.push_reserved-in-loop-k.new.self in
     record {
       left = shorter _ _ _ _ _ is inv.left;
-      ends = λ p all. (all_next (λ a r. AreEndsOf a p.inner (senders r.side.processors)) at.k at.receivers c.next-receiver.new.self c.next-receiver.result is (inv.ends p all)).1;
-      back = (_, longer _ inv.back.0 _ _ refl inv.back.1, grown _ inv.back.0 _ _ _ _ _ _ is refl ends inv.back.2, λ p back. let was = inv.back.3 p back in record { inner = taken.back inv.back.0 p.inner was.inner; middle = was.middle; outer = was.outer });
+      ends = λ p all. (all_next (λ a r. AreEndsOf a p.packets (senders r.side.processors)) at.k at.receivers c.next-receiver.new.self c.next-receiver.result is (inv.ends p all)).1;
+      back = (_, longer _ inv.back.0 _ _ refl inv.back.1, grown _ inv.back.0 _ _ _ _ _ _ is refl ends inv.back.2, λ p back. let was = inv.back.3 p back in record { packets = taken.back inv.back.0 p.packets was.packets; requests = was.requests; egress_packets = was.egress_packets });
       sources = grown _ _ sources.items _ _ _ _ _ is read.items parts.0 inv.sources;
       source_room = (longer _ _ sources.items _ read.items inv.source_room.0, fits_still _ _ (vec_capacity sources) read.capacity inv.source_room.1);
       shares = grown _ _ shares.items _ _ _ _ _ is shared.items parts.3 inv.shares;

@@ -16,7 +16,7 @@ use Rattle.run_report.proofs.parting.part_receivers.Given as goal
 abbrev pub invariant-loop-k : goal.invariant-loop-k
 invariant-loop-k g l = record {
   left : l.k + length l.receivers ≡ length l.fn.receivers.items;
-  ends : (p : Piping) → AllAt (λ a r. AreEndsOf a p.inner (senders r.side.processors)) 0 l.fn.receivers.items → AllAt (λ a r. AreEndsOf a p.inner (senders r.side.processors)) l.k l.receivers;
+  ends : (p : Piping) → AllAt (λ a r. AreEndsOf a p.packets (senders r.side.processors)) 0 l.fn.receivers.items → AllAt (λ a r. AreEndsOf a p.packets (senders r.side.processors)) l.k l.receivers;
   back : (rows : List (List (Sender (Arrival kinds)))) × (length rows ≡ l.k) × (rows ++ map (λ r. senders r.side.processors) l.receivers ≡ map (λ r. senders r.side.processors) l.fn.receivers.items) × ((p : Piping) → HaveAllBack [] [] [] p l.initial.pipes → HaveAllBack rows [] [] p l.pipes);
   sources : l.sources.items ++ map (λ r. r.source) l.receivers ≡ map (λ r. r.source) l.fn.receivers.items;
   source_room : (length l.sources.items ≡ l.k) × (length l.fn.receivers.items ≤ vec_capacity l.sources);

@@ -31,7 +31,7 @@ outlets-requires-clause-pipes g c =
     let have = (at.invariant.made was.0 was.1 was.2).1 in
     let n = link_count (arc_value c.args.common.now.shared).config in
     let links : c.link_count-links.result ≡ n = (let a = c.link_count-links.ensures.count in let d = c.deref.ensures in cc) in
-    (at.link, n, was.0.inner, have.inner, have.piping.inner, (let t = c.loop-link-test.true in omega arith))
+    (at.link, n, was.0.packets, have.packets, have.piping.packets, (let t = c.loop-link-test.true in omega arith))
 
 pub next-taker-requires : goal.next-taker-requires
 next-taker-requires g c =
@@ -44,8 +44,8 @@ entering_at-requires-clause-processors g c =
     let at = c.loop-link in
     let was = c.requires.pipes in
     let have = (at.invariant.made was.0 was.1 was.2).1 in
-    let ends = c.in_ok-processors.ensures.ends at.link was.0.inner have.inner in
-    ((outlets_fresh _ 0 at.link was.0.inner _ ends).1, outlets_long _ at.link was.0.inner _ ends ∙ have.piping.processors)
+    let ends = c.in_ok-processors.ensures.ends at.link was.0.packets have.packets in
+    ((outlets_fresh _ 0 at.link was.0.packets _ ends).1, outlets_long _ at.link was.0.packets _ ends ∙ have.piping.processors)
 
 pub entering_at-requires-clause-free : goal.entering_at-requires-clause-free
 entering_at-requires-clause-free g c =
@@ -73,15 +73,15 @@ loop-link-preserved g c =
       made = λ p made takers.
           let was = inv.made p made takers in
           let there : IsTakerThere p.free at.link c.next-taker.result = rest_first (IsTakerThere p.free) at.link _ at.free c.next-taker.new.self c.next-taker.result c.next-taker.ensures was.2 in
-          let ends = outlets_of _ at.link p.inner _ (c.in_ok-processors.ensures.ends at.link p.inner was.1.inner) in
+          let ends = outlets_of _ at.link p.packets _ (c.in_ok-processors.ensures.ends at.link p.packets was.1.packets) in
           let is : IsEnteringAt config p at.link e = record {
             config = told.config.0;
             link = linked;
-            processors = subst (λ (os : List (Offering (Arrival kinds))). AreEndsOf at.link p.inner (senders os)) (sym told.ends.1) ends;
+            processors = subst (λ (os : List (Offering (Arrival kinds))). AreEndsOf at.link p.packets (senders os)) (sym told.ends.1) ends;
             free = subst (λ (t : Taker (List ℕ)). IsTakerThere p.free at.link t) (sym told.ends.0) there;
           } in (
             all_pushed (IsEnteringAt config p) at.link at.made.items c.push_reserved.new.self.items e c.push_reserved.ensures.items was.0 inv.count.0 is,
-            record { piping = was.1.piping; inner = c.in_ok-processors.ensures.made at.link p.inner was.1.inner; middle = was.1.middle; outer = was.1.outer; free = was.1.free },
+            record { piping = was.1.piping; packets = c.in_ok-processors.ensures.made at.link p.packets was.1.packets; requests = was.1.requests; egress_packets = was.1.egress_packets; free = was.1.free },
             rest_next (IsTakerThere p.free) at.link _ at.free c.next-taker.new.self c.next-taker.result c.next-taker.ensures was.2,
           );
     }

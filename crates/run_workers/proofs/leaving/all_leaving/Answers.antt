@@ -28,7 +28,7 @@ first_two {T = T} ss l n old mid new a b one two r =
     let e : 2 * l + 1 + 1 ≡ 2 * (l + 1) = omega arith in
     (rest_first (IsTakerThere ss) (2 * l) n old mid a one r, (rest_first (IsTakerThere ss) (2 * l + 1) n mid new b two next, subst (λ (k : ℕ). IsRest (IsTakerThere ss) k n new) e last))
 
-left_at : (c : Config) (p : Piping) (l : ℕ) (e : Exit) (a b : Taker (Outgoing kinds)) → e.config ≡ c → e.link ≡ l → e.low.taker ≡ a → e.high.taker ≡ b → IsTakerThere p.outer (2 * l) a → IsTakerThere p.outer (2 * l + 1) b → e.free ≡ fresh_ends (c.processors + 1 + l) p.free
+left_at : (c : Config) (p : Piping) (l : ℕ) (e : Exit) (a b : Taker (Outgoing kinds)) → e.config ≡ c → e.link ≡ l → e.low.taker ≡ a → e.high.taker ≡ b → IsTakerThere p.egress_packets (2 * l) a → IsTakerThere p.egress_packets (2 * l + 1) b → e.free ≡ fresh_ends (c.processors + 1 + l) p.free
     → IsLeavingAt c p l e
 left_at c p l e a b config link low high first second free = record {
   config = config;
@@ -48,7 +48,7 @@ loop-link-init g c =
     record {
       count = (ap length c.in_ok-made.ensures.items, c.in_ok-made.ensures.capacity);
       shares = none_gone (link_count config) c.args.shares.now c.requires.shares;
-      made = λ p made takers. (all_none (IsLeavingAt config p) 0 c.in_ok-made.made.items c.in_ok-made.ensures.items, made, takers_are p.outer (2 * link_count config) c.of-takers.result (c.of-takers.ensures ∙ takers) made.piping.links);
+      made = λ p made takers. (all_none (IsLeavingAt config p) 0 c.in_ok-made.made.items c.in_ok-made.ensures.items, made, takers_are p.egress_packets (2 * link_count config) c.of-takers.result (c.of-takers.ensures ∙ takers) made.piping.links);
     }
 
 pub next_producers-requires : goal.next_producers-requires
@@ -82,16 +82,16 @@ pub leaving_at-requires-clause-low : goal.leaving_at-requires-clause-low
 leaving_at-requires-clause-low g c =
     let at = c.loop-link in
     let was = c.requires.pipes in
-    let two = first_two was.0.outer at.link _ at.takers c.next-low.new.self c.next-high.new.self c.next-low.result c.next-high.result c.next-low.ensures c.next-high.ensures (at.invariant.made was.0 was.1 was.2).2 in
-    let is = taker_new ((arc_value c.args.common.now.shared).config.processors + 2) was.0.outer (2 * at.link) c.next-low.result was.1.piping.outer two.0 in
+    let two = first_two was.0.egress_packets at.link _ at.takers c.next-low.new.self c.next-high.new.self c.next-low.result c.next-high.result c.next-low.ensures c.next-high.ensures (at.invariant.made was.0 was.1 was.2).2 in
+    let is = taker_new ((arc_value c.args.common.now.shared).config.processors + 2) was.0.egress_packets (2 * at.link) c.next-low.result was.1.piping.egress_packets two.0 in
     (is.0, is.1 ∙ sym (ap (λ (n : ℕ). n + 2) (c.from-producers.ensures ∙ ap (λ (s : Shared). s.config.processors) c.deref-2.ensures)))
 
 pub leaving_at-requires-clause-high : goal.leaving_at-requires-clause-high
 leaving_at-requires-clause-high g c =
     let at = c.loop-link in
     let was = c.requires.pipes in
-    let two = first_two was.0.outer at.link _ at.takers c.next-low.new.self c.next-high.new.self c.next-low.result c.next-high.result c.next-low.ensures c.next-high.ensures (at.invariant.made was.0 was.1 was.2).2 in
-    let is = taker_new ((arc_value c.args.common.now.shared).config.processors + 2) was.0.outer (2 * at.link + 1) c.next-high.result was.1.piping.outer two.1.0 in
+    let two = first_two was.0.egress_packets at.link _ at.takers c.next-low.new.self c.next-high.new.self c.next-low.result c.next-high.result c.next-low.ensures c.next-high.ensures (at.invariant.made was.0 was.1 was.2).2 in
+    let is = taker_new ((arc_value c.args.common.now.shared).config.processors + 2) was.0.egress_packets (2 * at.link + 1) c.next-high.result was.1.piping.egress_packets two.1.0 in
     (is.0, is.1 ∙ sym (ap (λ (n : ℕ). n + 2) (c.from-producers.ensures ∙ ap (λ (s : Shared). s.config.processors) c.deref-2.ensures)))
 
 pub leaving_at-requires-clause-free : goal.leaving_at-requires-clause-free
@@ -119,10 +119,10 @@ loop-link-preserved g c =
       shares = one_gone at.link c.args.shares.now at.shares c.next-share.new.self c.next-share.result c.next-share.ensures inv.shares;
       made = λ p made takers.
           let was = inv.made p made takers in
-          let two = first_two p.outer at.link _ at.takers c.next-low.new.self c.next-high.new.self c.next-low.result c.next-high.result c.next-low.ensures c.next-high.ensures was.2 in
+          let two = first_two p.egress_packets at.link _ at.takers c.next-low.new.self c.next-high.new.self c.next-low.result c.next-high.result c.next-low.ensures c.next-high.ensures was.2 in
           let is = left_at config p at.link e c.next-low.result c.next-high.result own linked low high two.0 two.1.0 (c.leaving_at.ensures.free ∙ c.in_ok-free.ensures.ends k p.free was.1.free) in (
             all_pushed (IsLeavingAt config p) at.link at.made.items c.push_reserved.new.self.items e c.push_reserved.ensures.items was.0 inv.count.0 is,
-            record { piping = was.1.piping; inner = was.1.inner; middle = was.1.middle; outer = was.1.outer; free = c.in_ok-free.ensures.made k p.free was.1.free ∙ ap (λ (n : ℕ). made_pipes n p.free) more },
+            record { piping = was.1.piping; packets = was.1.packets; requests = was.1.requests; egress_packets = was.1.egress_packets; free = c.in_ok-free.ensures.made k p.free was.1.free ∙ ap (λ (n : ℕ). made_pipes n p.free) more },
             two.1.1,
           );
     }

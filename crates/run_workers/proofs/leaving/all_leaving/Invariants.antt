@@ -16,5 +16,5 @@ invariant-loop-link g l =
     record {
       count : (length l.made.items ≡ l.link) × (l.links ≤ vec_capacity l.made);
       shares : HaveGone l.link l.initial.shares l.shares;
-      made : (p : Piping) → HaveForwarders c 0 p l.initial.pipes → l.fn.takers.items ≡ new_takers p.outer → AllAt (IsLeavingAt c p) 0 l.made.items × HaveForwarders c l.link p l.pipes × IsRest (IsTakerThere p.outer) (2 * l.link) (2 * link_count c) l.takers;
+      made : (p : Piping) → HaveForwarders c 0 p l.initial.pipes → l.fn.takers.items ≡ new_takers p.egress_packets → AllAt (IsLeavingAt c p) 0 l.made.items × HaveForwarders c l.link p l.pipes × IsRest (IsTakerThere p.egress_packets) (2 * l.link) (2 * link_count c) l.takers;
     }

@@ -14,18 +14,18 @@ use Rattle.worker_parts.specs.Outlets.{AreFresh, senders}
 use Rattle.run_pipes.proofs.Fresh.{fresh_long, outlets_fresh, outlets_long, outlets_of}
 use Rattle.run_pipes.proofs.OkLemmas.{of_ok}
 use Rattle.run_pipes.proofs.PipesLemmas.{one_to_make}
-use Rattle.run_workers.proofs.middle.processor_of.Goals as goal
+use Rattle.run_workers.proofs.deciding.processor_of.Goals as goal
 
 pub producer-requires : goal.producer-requires
 producer-requires g c =
     let was = c.requires.pipes in
-    let own = one_to_make c.args.index was.0.middle c.args.pipes.now.middle was.1.middle (let lt = c.requires.index in let m = was.1.piping.middle in omega arith) in
+    let own = one_to_make c.args.index was.0.requests c.args.pipes.now.requests was.1.requests (let lt = c.requires.index in let m = was.1.piping.requests in omega arith) in
     record { some = own.0; none_back = own.1 }
 
 pub outlets-requires-clause-pipes : goal.outlets-requires-clause-pipes
 outlets-requires-clause-pipes g c =
     let was = c.requires.pipes in
-    (c.args.index, (arc_value c.args.common.now.shared).config.processors + 2, was.0.outer, was.1.outer, was.1.piping.outer, (let lt = c.requires.index in omega arith))
+    (c.args.index, (arc_value c.args.common.now.shared).config.processors + 2, was.0.egress_packets, was.1.egress_packets, was.1.piping.egress_packets, (let lt = c.requires.index in omega arith))
 
 pub outlets-requires-clause-each : goal.outlets-requires-clause-each
 outlets-requires-clause-each g c = omega arith
@@ -55,8 +55,8 @@ pub new-processor-requires-clause-links : goal.new-processor-requires-clause-lin
 new-processor-requires-clause-links g c =
     let was = c.requires.pipes in
     let own = of_ok _ c.try_clone-shared.result c.in_ok-shared.shared c.in_ok-shared.ensures.0 c.try_clone-shared.ensures in
-    let ends = c.in_ok-links.ensures.ends c.args.index was.0.outer was.1.outer in
-    (outlets_long _ c.args.index was.0.outer _ ends ∙ (was.1.piping.links ∙ ap (λ (s : Shared). 2 * link_count s.config) (sym own)), (outlets_fresh _ 0 c.args.index was.0.outer _ ends).1)
+    let ends = c.in_ok-links.ensures.ends c.args.index was.0.egress_packets was.1.egress_packets in
+    (outlets_long _ c.args.index was.0.egress_packets _ ends ∙ (was.1.piping.links ∙ ap (λ (s : Shared). 2 * link_count s.config) (sym own)), (outlets_fresh _ 0 c.args.index was.0.egress_packets _ ends).1)
 
 pub new-processor-requires-clause-slow : goal.new-processor-requires-clause-slow
 new-processor-requires-clause-slow g c =
@@ -77,22 +77,22 @@ pub returns : goal.returns
 returns g c = λ p made.
     let i = c.args.index in
     let is = c.new-processor.ensures in
-    let ends = c.in_ok-links.ensures.ends i p.outer made.outer in
-    let end = ap (λ w. w.slow.sender) is ∙ (ap (λ o. o.sender) c.of-slow.ensures ∙ (c.in_ok-asking.ensures.0 ∙ ap next_end made.middle)) in (
+    let ends = c.in_ok-links.ensures.ends i p.egress_packets made.egress_packets in
+    let end = ap (λ w. w.slow.sender) is ∙ (ap (λ o. o.sender) c.of-slow.ensures ∙ (c.in_ok-asking.ensures.0 ∙ ap next_end made.requests)) in (
       record {
         piping = made.piping;
-        inner = made.inner;
-        middle = c.in_ok-asking.ensures.1 ∙ ap one_made made.middle;
-        outer = c.in_ok-links.ensures.made i p.outer made.outer;
+        packets = made.packets;
+        requests = c.in_ok-asking.ensures.1 ∙ ap one_made made.requests;
+        egress_packets = c.in_ok-links.ensures.made i p.egress_packets made.egress_packets;
         free = c.in_ok-free.ensures.made i p.free made.free;
       },
       (λ own own_taker. record {
         config = ap (λ w. w.side.config) is ∙ ap (λ (s : Shared). s.config) (of_ok _ c.try_clone-shared.result c.in_ok-shared.shared c.in_ok-shared.ensures.0 c.try_clone-shared.ensures);
         index = ap (λ w. w.index) is;
         taker = subst (λ (t : Taker (Arrival kinds)). IsTakerOf own t) (sym (ap (λ w. w.taker) is ∙ c.of-from.ensures)) own_taker;
-        slow = subst (λ (s : Sender (SlowPathRequest kinds)). IsEndOf p.middle i s) (sym end) (refl, refl, refl, refl);
-        links = subst (λ xs. AreEndsOf i p.outer (senders xs)) (sym (ap (λ w. w.side.links) is)) (outlets_of _ i p.outer _ ends);
-        fresh = subst (λ xs. AreFresh xs) (sym (ap (λ w. w.side.links) is)) (outlets_fresh _ 0 i p.outer _ ends).1;
+        slow = subst (λ (s : Sender (SlowPathRequest kinds)). IsEndOf p.requests i s) (sym end) (refl, refl, refl, refl);
+        links = subst (λ xs. AreEndsOf i p.egress_packets (senders xs)) (sym (ap (λ w. w.side.links) is)) (outlets_of _ i p.egress_packets _ ends);
+        fresh = subst (λ xs. AreFresh xs) (sym (ap (λ w. w.side.links) is)) (outlets_fresh _ 0 i p.egress_packets _ ends).1;
         free = ap (λ w. w.side.free) is ∙ c.in_ok-free.ensures.ends i p.free made.free;
       }),
     )

@@ -9,13 +9,13 @@ use Rattle.router_rules.specs.Rules.{kinds}
 use Rattle.router_rules.specs.declared.shared.Shared.{Shared}
 use Rattle.worker_parts.specs.Outlets.{AreFresh, senders}
 use Rattle.run_pipes.proofs.Fresh.{fresh_long, outlets_fresh, outlets_long, outlets_of}
-use Rattle.run_workers.proofs.middle.slow_path_of.Goals as goal
+use Rattle.run_workers.proofs.deciding.slow_path_of.Goals as goal
 
 pub outlets-requires-clause-pipes : goal.outlets-requires-clause-pipes
 outlets-requires-clause-pipes g c =
     let was = c.requires.pipes in
     let m = (arc_value c.args.common.now.shared).config.processors in
-    (m, m + 2, was.0.outer, was.1.outer, was.1.piping.outer, omega arith)
+    (m, m + 2, was.0.egress_packets, was.1.egress_packets, was.1.piping.egress_packets, omega arith)
 
 pub outlets-requires-clause-each : goal.outlets-requires-clause-each
 outlets-requires-clause-each g c = omega arith
@@ -32,7 +32,7 @@ of-from-requires-clause-fresh g c = ap (λ (t : Taker (SlowPathRequest kinds)). 
 pub of-from-requires-clause-producers : goal.of-from-requires-clause-producers
 of-from-requires-clause-producers g c =
     let was = c.requires.pipes in
-    ap (λ (t : Taker (SlowPathRequest kinds)). t.producers) was.2 ∙ (was.1.piping.middle ∙ sym (c.from-processors.ensures ∙ ap (λ (s : Shared). s.config.processors) c.deref.ensures))
+    ap (λ (t : Taker (SlowPathRequest kinds)). t.producers) was.2 ∙ (was.1.piping.requests ∙ sym (c.from-processors.ensures ∙ ap (λ (s : Shared). s.config.processors) c.deref.ensures))
 
 pub new-slow_path-requires-clause-config : goal.new-slow_path-requires-clause-config
 new-slow_path-requires-clause-config g c = c.requires.config ∙ ap (λ (s : Shared). Some s.config) (sym c.in_ok-shared.ensures)
@@ -44,8 +44,8 @@ pub new-slow_path-requires-clause-links : goal.new-slow_path-requires-clause-lin
 new-slow_path-requires-clause-links g c =
     let was = c.requires.pipes in
     let m = (arc_value c.args.common.now.shared).config.processors in
-    let ends = c.in_ok-links.ensures.ends m was.0.outer was.1.outer in
-    (outlets_long _ m was.0.outer _ ends ∙ (was.1.piping.links ∙ ap (λ (s : Shared). 2 * link_count s.config) (sym c.in_ok-shared.ensures)), (outlets_fresh _ 0 m was.0.outer _ ends).1)
+    let ends = c.in_ok-links.ensures.ends m was.0.egress_packets was.1.egress_packets in
+    (outlets_long _ m was.0.egress_packets _ ends ∙ (was.1.piping.links ∙ ap (λ (s : Shared). 2 * link_count s.config) (sym c.in_ok-shared.ensures)), (outlets_fresh _ 0 m was.0.egress_packets _ ends).1)
 
 pub new-slow_path-requires-clause-free : goal.new-slow_path-requires-clause-free
 new-slow_path-requires-clause-free g c =
@@ -60,14 +60,14 @@ pub returns : goal.returns
 returns g c = λ p made own.
     let m = (arc_value c.args.common.now.shared).config.processors in
     let is = c.new-slow_path.ensures in
-    let ends = c.in_ok-links.ensures.ends m p.outer made.outer in
+    let ends = c.in_ok-links.ensures.ends m p.egress_packets made.egress_packets in
     let taker = ap (λ a. a.taker) is ∙ (c.of-from.ensures ∙ own) in (
-      record { piping = made.piping; inner = made.inner; middle = made.middle; outer = c.in_ok-links.ensures.made m p.outer made.outer; free = c.in_ok-free.ensures.made m p.free made.free },
+      record { piping = made.piping; packets = made.packets; requests = made.requests; egress_packets = c.in_ok-links.ensures.made m p.egress_packets made.egress_packets; free = c.in_ok-free.ensures.made m p.free made.free },
       record {
         config = ap (λ a. a.side.config) is ∙ ap (λ (s : Shared). s.config) c.in_ok-shared.ensures;
-        taker = subst (λ (t : Taker (SlowPathRequest kinds)). IsTakerOf p.middle t) (sym taker) (refl, refl, refl);
-        links = subst (λ xs. AreEndsOf m p.outer (senders xs)) (sym (ap (λ a. a.side.links) is)) (outlets_of _ m p.outer _ ends);
-        fresh = subst (λ xs. AreFresh xs) (sym (ap (λ a. a.side.links) is)) (outlets_fresh _ 0 m p.outer _ ends).1;
+        taker = subst (λ (t : Taker (SlowPathRequest kinds)). IsTakerOf p.requests t) (sym taker) (refl, refl, refl);
+        links = subst (λ xs. AreEndsOf m p.egress_packets (senders xs)) (sym (ap (λ a. a.side.links) is)) (outlets_of _ m p.egress_packets _ ends);
+        fresh = subst (λ xs. AreFresh xs) (sym (ap (λ a. a.side.links) is)) (outlets_fresh _ 0 m p.egress_packets _ ends).1;
         free = ap (λ a. a.side.free) is ∙ c.in_ok-free.ensures.ends m p.free made.free;
       },
     )

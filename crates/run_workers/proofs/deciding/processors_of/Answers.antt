@@ -9,7 +9,7 @@ use Rattle.run_workers.specs.Kits.{IsWorkingThere}
 use Rattle.run_workers.specs.Shares.{HaveGone}
 use Rattle.run_workers.proofs.Making.{all_made, all_none, all_pushed, all_taken, next_new, none_gone, one_gone, pushed_long, taker_new, taker_of}
 use Rattle.run_workers.proofs.RestLemmas.{rest_first, rest_next}
-use Rattle.run_workers.proofs.middle.processors_of.Goals as goal
+use Rattle.run_workers.proofs.deciding.processors_of.Goals as goal
 
 pub loop-index-init : goal.loop-index-init
 loop-index-init g c =
@@ -17,7 +17,7 @@ loop-index-init g c =
     record {
       count = (ap length c.in_ok-made.ensures.items, let r = c.in_ok-made.ensures.capacity in let f = c.from.ensures in omega arith);
       shares = none_gone config.processors c.args.shares.now c.requires.shares;
-      made = λ p made takers. (all_none (IsWorkingThere config p) 0 c.in_ok-made.made.items c.in_ok-made.ensures.items, made, takers_are p.inner config.processors c.of-takers.result (c.of-takers.ensures ∙ takers) made.piping.processors);
+      made = λ p made takers. (all_none (IsWorkingThere config p) 0 c.in_ok-made.made.items c.in_ok-made.ensures.items, made, takers_are p.packets config.processors c.of-takers.result (c.of-takers.ensures ∙ takers) made.piping.processors);
     }
 
 pub next-taker-requires : goal.next-taker-requires
@@ -44,8 +44,8 @@ pub processor_of-requires-clause-taker : goal.processor_of-requires-clause-taker
 processor_of-requires-clause-taker g c =
     let at = c.loop-index in
     let was = c.requires.pipes in
-    let there = rest_first (IsTakerThere was.0.inner) at.index _ at.takers c.next-taker.new.self c.next-taker.result c.next-taker.ensures (at.invariant.made was.0 was.1 was.2).2 in
-    taker_new (link_count (arc_value c.args.common.now.shared).config) was.0.inner at.index c.next-taker.result was.1.piping.inner there
+    let there = rest_first (IsTakerThere was.0.packets) at.index _ at.takers c.next-taker.new.self c.next-taker.result c.next-taker.ensures (at.invariant.made was.0 was.1 was.2).2 in
+    taker_new (link_count (arc_value c.args.common.now.shared).config) was.0.packets at.index c.next-taker.result was.1.piping.packets there
 
 pub processor_of-requires-clause-share : goal.processor_of-requires-clause-share
 processor_of-requires-clause-share g c = next_new c.loop-index.index c.args.shares.now c.loop-index.shares c.next-share.new.self c.next-share.result c.next-share.ensures c.loop-index.invariant.shares
@@ -64,12 +64,12 @@ loop-index-preserved g c =
       shares = one_gone at.index c.args.shares.now at.shares c.next-share.new.self c.next-share.result c.next-share.ensures inv.shares;
       made = λ p made takers.
           let was = inv.made p made takers in
-          let there : IsTakerThere p.inner at.index c.next-taker.result = rest_first (IsTakerThere p.inner) at.index _ at.takers c.next-taker.new.self c.next-taker.result c.next-taker.ensures was.2 in
+          let there : IsTakerThere p.packets at.index c.next-taker.result = rest_first (IsTakerThere p.packets) at.index _ at.takers c.next-taker.new.self c.next-taker.result c.next-taker.ensures was.2 in
           let does = c.in_ok-processor.ensures p was.1 in
           let works : IsWorkingThere config p at.index w = record { own = there.own; there = there.there; works = does.1 there.own (taker_of there.own c.next-taker.result c.next-taker.result refl there.fresh) } in (
             all_pushed (IsWorkingThere config p) at.index at.made.items c.push_reserved.new.self.items w c.push_reserved.ensures.items was.0 inv.count.0 works,
             does.0,
-            rest_next (IsTakerThere p.inner) at.index _ at.takers c.next-taker.new.self c.next-taker.result c.next-taker.ensures was.2,
+            rest_next (IsTakerThere p.packets) at.index _ at.takers c.next-taker.new.self c.next-taker.result c.next-taker.ensures was.2,
           );
     }
 

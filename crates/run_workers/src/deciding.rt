@@ -41,9 +41,9 @@ fn processor_of<N: RunBrand, G: Gate + Drop>(
     ensures { let c = (arc_value common.now.shared).config in IfOk result (λ w. (p : Piping) → HaveProcessors c index p pipes.old → HaveProcessors c (index + 1) p pipes.new × ((own : Shape) → IsTakerOf own taker → IsWorkingAt c p index own w)) }
 {
     let producers = link_count(&common.shared.config);
-    let asking = pipes.middle.producer(alloc)?;
+    let asking = pipes.requests.producer(alloc)?;
     let events = common.events.forwarders.as_slice();
-    let links = outlets(alloc, &mut pipes.outer, events, 2)?;
+    let links = outlets(alloc, &mut pipes.egress_packets, events, 2)?;
     let free = next_producers(alloc, &mut pipes.free)?;
     let event = Arc::try_clone(&common.events.slow)?;
     let shared = Arc::try_clone(&common.shared);
@@ -64,10 +64,10 @@ pub fn processors_of<N: RunBrand, G: Gate + Drop>(
     shares: &mut Line<Share<N>>,
 ) -> Result<Vec<Processor<N, G>>, AllocError>
     requires config { N.config ≡ Some (arc_value common.now.shared).config }
-    requires pipes { (p : Piping) × HaveProcessors (arc_value common.now.shared).config 0 p pipes.old × (takers.items ≡ new_takers p.inner) }
+    requires pipes { (p : Piping) × HaveProcessors (arc_value common.now.shared).config 0 p pipes.old × (takers.items ≡ new_takers p.packets) }
     requires shares { AreNewShares (arc_value common.now.shared).config.processors shares.old }
     ensures shares { IfOk result (λ _. HaveGone (arc_value common.now.shared).config.processors shares.old shares.new) }
-    ensures made { let c = (arc_value common.now.shared).config in IfOk result (λ v. (p : Piping) → HaveProcessors c 0 p pipes.old → takers.items ≡ new_takers p.inner → HaveProcessors c c.processors p pipes.new × IsRest (IsWorkingThere c p) 0 c.processors v.items) }
+    ensures made { let c = (arc_value common.now.shared).config in IfOk result (λ v. (p : Piping) → HaveProcessors c 0 p pipes.old → takers.items ≡ new_takers p.packets → HaveProcessors c c.processors p pipes.new × IsRest (IsWorkingThere c p) 0 c.processors v.items) }
 {
     let count = common.shared.config.processors;
     let mut made = Vec::with_capacity(alloc, usize::from(count))?;
@@ -90,13 +90,13 @@ pub fn slow_path_of<N: RunBrand>(
     share: Share<N>,
 ) -> Result<SlowPath<N>, AllocError>
     requires config { N.config ≡ Some (arc_value common.now.shared).config }
-    requires pipes { (p : Piping) × HaveProcessors (arc_value common.now.shared).config (arc_value common.now.shared).config.processors p pipes.old × (taker ≡ taker_of p.middle) }
+    requires pipes { (p : Piping) × HaveProcessors (arc_value common.now.shared).config (arc_value common.now.shared).config.processors p pipes.old × (taker ≡ taker_of p.requests) }
     requires share { share ≡ new_share }
-    ensures { let c = (arc_value common.now.shared).config in IfOk result (λ a. (p : Piping) → HaveProcessors c c.processors p pipes.old → taker ≡ taker_of p.middle → HaveSlowPath c p pipes.new × IsAnsweringAt c p a) }
+    ensures { let c = (arc_value common.now.shared).config in IfOk result (λ a. (p : Piping) → HaveProcessors c c.processors p pipes.old → taker ≡ taker_of p.requests → HaveSlowPath c p pipes.new × IsAnsweringAt c p a) }
 {
     let processors = usize::from(common.shared.config.processors);
     let events = common.events.forwarders.as_slice();
-    let links = outlets(alloc, &mut pipes.outer, events, 2)?;
+    let links = outlets(alloc, &mut pipes.egress_packets, events, 2)?;
     let free = next_producers(alloc, &mut pipes.free)?;
     let shared = Arc::try_clone(&common.shared)?;
     let from = Inlet::of(taker, processors);

@@ -1,6 +1,6 @@
 use Rattle.std.proofs.Common.{◌∙◌, sym, ap, ℕ}
 use Rattle.ruled_pipe.specs.Consumer.{new_taker}
-use Rattle.run_pipes.proofs.pipes.middle_pipe.Goals as goal
+use Rattle.run_pipes.proofs.pipes.request_pipe.Goals as goal
 
 pub returns-clause-pipe : goal.returns-clause-pipe
 returns-clause-pipe g c = (c.in_ok-made.ensures.keeper.1 ∙ c.from-processors.ensures, c.in_ok-made.ensures.keeper.0)

@@ -7,7 +7,7 @@ use Rattle.run_pipes.specs.Pipes.{HaveProcessors}
 use Rattle.run_pipes.specs.Rest.{IsRest}
 use Rattle.run_workers.specs.Kits.{IsWorkingThere}
 use Rattle.run_workers.specs.Shares.{HaveGone}
-use Rattle.run_workers.proofs.middle.processors_of.Given as goal
+use Rattle.run_workers.proofs.deciding.processors_of.Given as goal
 
 abbrev pub invariant-loop-index : goal.invariant-loop-index
 invariant-loop-index g l =
@@ -15,5 +15,5 @@ invariant-loop-index g l =
     record {
       count : (length l.made.items ≡ l.index) × (l.count ≤ vec_capacity l.made);
       shares : HaveGone l.index l.initial.shares l.shares;
-      made : (p : Piping) → HaveProcessors c 0 p l.initial.pipes → l.fn.takers.items ≡ new_takers p.inner → AllAt (IsWorkingThere c p) 0 l.made.items × HaveProcessors c l.index p l.pipes × IsRest (IsTakerThere p.inner) l.index c.processors l.takers;
+      made : (p : Piping) → HaveProcessors c 0 p l.initial.pipes → l.fn.takers.items ≡ new_takers p.packets → AllAt (IsWorkingThere c p) 0 l.made.items × HaveProcessors c l.index p l.pipes × IsRest (IsTakerThere p.packets) l.index c.processors l.takers;
     }

@@ -1,6 +1,6 @@
 use Rattle.std.proofs.Common.{ℕ, subst}
 use Rattle.run_ends.specs.Opened.{AreNewPipes}
-use Rattle.run_pipes.proofs.pipes.inner_pipes.Goals as goal
+use Rattle.run_pipes.proofs.pipes.packet_pipes.Goals as goal
 
 pub returns : goal.returns
 returns g c =

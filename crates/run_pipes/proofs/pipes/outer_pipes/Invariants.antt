@@ -1,6 +1,0 @@
-use Rattle.run_ends.specs.Opened.{AreNewPipes}
-use Rattle.run_pipes.specs.Piping.{outer_capacity}
-use Rattle.run_pipes.proofs.pipes.outer_pipes.Given as goal
-
-abbrev pub invariant-loop-at : goal.invariant-loop-at
-invariant-loop-at g l = AreNewPipes (outer_capacity l.shared.config) l.producers l.at l.opened.pipes.items l.opened.takers.items
