@@ -6,8 +6,8 @@ mod exits;
 mod processor;
 mod slow_path;
 
-pub use processor::Processor;
-pub use slow_path::SlowPath;
-pub use worker_forwarder::{Band, Forwarder};
+pub use processor::{PartedProcessor, Processor};
+pub use slow_path::{PartedSlowPath, SlowPath};
+pub use worker_forwarder::{Band, Forwarder, PartedForwarder};
 pub use worker_parts::Turn;
-pub use worker_receiver::Receiver;
+pub use worker_receiver::{PartedReceiver, Receiver};

@@ -62,6 +62,17 @@ fn ending(a: bool, b: bool) -> Turn
     if a && b { Turn::Ended } else { Turn::Quiet }
 }
 
+/// A processor, taken apart.
+#[derive(Drop)]
+pub struct PartedProcessor<N: RunBrand, G: Drop> {
+    pub from: Inlet<Packet<N>>,
+    pub links: Vec<Outlet<EgressPacket<N>>>,
+    pub slow: Outlet<SlowPathRequest<N>>,
+    pub free: Vec<Producer<Buffer>>,
+    pub share: Share<N>,
+    pub gate: Arc<G, Global>,
+}
+
 impl<N: RunBrand, G: Gate> Processor<N, G> {
     /// The processor of a number, which takes from its pipe, one producer a link, and offers to two pipes
     /// a link and to the slow path's; buffers go back by one pipe a link.
@@ -131,17 +142,8 @@ impl<N: RunBrand, G: Gate> Processor<N, G> {
 
 impl<N: RunBrand, G: Gate + Drop> Processor<N, G> {
     /// Its ends of pipes and its counts, which tell what it did, and its gate.
-    pub fn into_parts(
-        self,
-    ) -> (
-        Inlet<Packet<N>>,
-        Vec<Outlet<EgressPacket<N>>>,
-        Outlet<SlowPathRequest<N>>,
-        Vec<Producer<Buffer>>,
-        Share<N>,
-        Arc<G, Global>,
-    )
-        ensures parts { (result.0 ≡ self.taker) × (result.1.items ≡ self.side.links) × (result.2 ≡ self.slow) × (result.3.items ≡ self.side.free) × (result.4 ≡ self.side.share) × (arc_value result.5 ≡ self.gate) }
+    pub fn into_parts(self) -> PartedProcessor<N, G>
+        ensures parts { (result.from ≡ self.taker) × (result.links.items ≡ self.side.links) × (result.slow ≡ self.slow) × (result.free.items ≡ self.side.free) × (result.share ≡ self.side.share) × (arc_value result.gate ≡ self.gate) }
         ensures law { IsWorking self.side.config self.taker self.hand (senders self.side.links) self.slow.sender self.side.share }
     {
         let Processor {
@@ -153,7 +155,14 @@ impl<N: RunBrand, G: Gate + Drop> Processor<N, G> {
             exits,
         } = self;
         let (links, free, share) = exits.into_parts();
-        (from, links, slow, free, share, gate)
+        PartedProcessor {
+            from,
+            links,
+            slow,
+            free,
+            share,
+            gate,
+        }
     }
 }
 

@@ -43,6 +43,15 @@ impl<N: RunBrand> Drop for SlowPath<N> {
     }
 }
 
+/// The slow path, taken apart.
+#[derive(Drop)]
+pub struct PartedSlowPath<N: RunBrand> {
+    pub from: Inlet<SlowPathRequest<N>>,
+    pub links: Vec<Outlet<EgressPacket<N>>>,
+    pub free: Vec<Producer<Buffer>>,
+    pub share: Share<N>,
+}
+
 impl<N: RunBrand> SlowPath<N> {
     /// The slow path, which takes from its pipe, one producer a processor, and offers to two pipes a
     /// link; buffers go back by one pipe a link.
@@ -70,20 +79,18 @@ impl<N: RunBrand> SlowPath<N> {
     }
 
     /// Its ends of pipes and its counts, which tell what it did.
-    pub fn into_parts(
-        self,
-    ) -> (
-        Inlet<SlowPathRequest<N>>,
-        Vec<Outlet<EgressPacket<N>>>,
-        Vec<Producer<Buffer>>,
-        Share<N>,
-    )
-        ensures parts { (result.0 ≡ self.taker) × (result.1.items ≡ self.side.links) × (result.2.items ≡ self.side.free) × (result.3 ≡ self.side.share) }
+    pub fn into_parts(self) -> PartedSlowPath<N>
+        ensures parts { (result.from ≡ self.taker) × (result.links.items ≡ self.side.links) × (result.free.items ≡ self.side.free) × (result.share ≡ self.side.share) }
         ensures law { IsAnswering self.side.config self.taker (senders self.side.links) self.side.share }
     {
         let SlowPath { from, exits } = self;
         let (links, free, share) = exits.into_parts();
-        (from, links, free, share)
+        PartedSlowPath {
+            from,
+            links,
+            free,
+            share,
+        }
     }
 
     // Tries the end marks that are owed.

@@ -19,7 +19,10 @@ ghost use Rattle.run_ends.specs.TakenBack.{HaveBack};
 ghost use Rattle.run_report.specs.Crew.{takers_of};
 
 use packet_ledger::Share;
-use router_stages::{Forwarder, Processor, Receiver, SlowPath};
+use router_stages::{
+    Forwarder, PartedForwarder, PartedProcessor, PartedReceiver, PartedSlowPath, Processor,
+    Receiver, SlowPath,
+};
 use ruled_pipe::{Consumer, Keeper};
 use run_ends::{Line, Shutter};
 use run_pipes::{Pipes, take_back};
@@ -55,7 +58,12 @@ pub fn part_receivers<N: RunBrand, S: Source>(
     let mut receivers = Line::of(receivers);
     for k in 0..count {
         let receiver = receivers.next();
-        let (source, processors, _, share) = receiver.into_parts();
+        let PartedReceiver {
+            source,
+            processors,
+            free: _,
+            share,
+        } = receiver.into_parts();
         take_back(&mut pipes.packets, processors);
         sources.push_reserved(source);
         shares.push_reserved(share);
@@ -93,7 +101,14 @@ pub fn part_processors<N: RunBrand, G: Gate + Drop>(
     let mut processors = Line::of(processors);
     for k in 0..count {
         let processor = processors.next();
-        let (from, links, slow, _, share, _) = processor.into_parts();
+        let PartedProcessor {
+            from,
+            links,
+            slow,
+            free: _,
+            share,
+            gate: _,
+        } = processor.into_parts();
         takers.push_reserved(from.into_consumer());
         pipes.requests.absorb(slow.into_producer());
         take_back(&mut pipes.egress_packets, links);
@@ -127,7 +142,12 @@ pub fn part_slow_path<N: RunBrand>(
     ensures marking { AreMarking shutters.items }
 {
     let mut shares = shares;
-    let (from, links, _, share) = slow.into_parts();
+    let PartedSlowPath {
+        from,
+        links,
+        free: _,
+        share,
+    } = slow.into_parts();
     take_back(pipes, links);
     take_back(pipes, shutters);
     shares.push_reserved(share);
@@ -172,7 +192,13 @@ pub fn part_forwarders<N: RunBrand, K: Sink>(
     let mut forwarders = Line::of(forwarders);
     for k in 0..count {
         let forwarder = forwarders.next();
-        let (sink, low, high, _, share) = forwarder.into_parts();
+        let PartedForwarder {
+            sink,
+            low,
+            high,
+            free: _,
+            share,
+        } = forwarder.into_parts();
         takers.push_reserved(low);
         takers.push_reserved(high);
         sinks.push_reserved(sink);

@@ -80,20 +80,20 @@ impl<N: RunBrand> Workers<N, ListSource, ListSink> {
 }
 
 fn share_of_receiver<N: RunBrand>(worker: Receiver<N, ListSource>) -> Share<N> {
-    worker.into_parts().3
+    worker.into_parts().share
 }
 
 fn share_of_processor<N: RunBrand>(worker: Processor<N, Open>) -> Share<N> {
-    worker.into_parts().4
+    worker.into_parts().share
 }
 
 fn share_of_slow_path<N: RunBrand>(worker: SlowPath<N>) -> Share<N> {
-    worker.into_parts().3
+    worker.into_parts().share
 }
 
 fn sink_and_share<N: RunBrand>(worker: Forwarder<N, ListSink>) -> (ListSink, Share<N>) {
-    let (sink, _, _, _, share) = worker.into_parts();
-    (sink, share)
+    let parts = worker.into_parts();
+    (parts.sink, parts.share)
 }
 
 // What is left of the workers: the sink and their counts.

@@ -87,7 +87,7 @@ fn tenths<N: RunBrand, R: Abort + Wait + Clock>(
 
 // The sum of what left by a forwarder.
 fn sum_of<N: RunBrand>(forwarder: Forwarder<N, Sums>) -> u64 {
-    let (sink, _, _, _, _) = forwarder.into_parts();
+    let sink = forwarder.into_parts().sink;
     sink.sum()
 }
 

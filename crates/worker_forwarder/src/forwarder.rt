@@ -52,6 +52,16 @@ impl<N: RunBrand, K: Sink + Drop> Drop for Forwarder<N, K> {
     }
 }
 
+/// A forwarder, taken apart.
+#[derive(Drop)]
+pub struct PartedForwarder<N: RunBrand, K> {
+    pub sink: K,
+    pub low: Consumer<EgressPacket<N>>,
+    pub high: Consumer<EgressPacket<N>>,
+    pub free: Vec<Producer<Buffer>>,
+    pub share: Share<N>,
+}
+
 impl<N: RunBrand, K: Sink> Forwarder<N, K> {
     /// The forwarder of a link, over a sink that was handed nothing yet. Buffers go back
     /// by one pipe a link. Of a link with one band the high band's pipe isn't used.
@@ -89,16 +99,8 @@ impl<N: RunBrand, K: Sink> Forwarder<N, K> {
     }
 
     /// Its sink, its ends of pipes and its counts, which tell what it did.
-    pub fn into_parts(
-        self,
-    ) -> (
-        K,
-        Consumer<EgressPacket<N>>,
-        Consumer<EgressPacket<N>>,
-        Vec<Producer<Buffer>>,
-        Share<N>,
-    )
-        ensures parts { (result.0 ≡ self.side.sink) × (result.1 ≡ self.low.taker) × (result.2 ≡ self.high.taker) × (result.3.items ≡ self.side.free) × (result.4 ≡ self.side.share) }
+    pub fn into_parts(self) -> PartedForwarder<N, K>
+        ensures parts { (result.sink ≡ self.side.sink) × (result.low ≡ self.low.taker) × (result.high ≡ self.high.taker) × (result.free.items ≡ self.side.free) × (result.share ≡ self.side.share) }
         ensures law { IsForwarding told_of self.low.taker self.high.taker self.low.shut self.high.shut (K.told self.side.sink) self.began (K.failed self.side.sink) self.side.share }
     {
         let Forwarder {
@@ -109,7 +111,13 @@ impl<N: RunBrand, K: Sink> Forwarder<N, K> {
             delivery,
         } = self;
         let (sink, free, share) = delivery.into_parts();
-        (sink, low.into_consumer(), high.into_consumer(), free, share)
+        PartedForwarder {
+            sink,
+            low: low.into_consumer(),
+            high: high.into_consumer(),
+            free,
+            share,
+        }
     }
 
     // Whether each end mark of its pipes was taken.

@@ -5,5 +5,5 @@ mod band;
 mod delivery;
 mod forwarder;
 
-pub use band::Band;
-pub use forwarder::Forwarder;
+pub use band::{Band, Taken};
+pub use forwarder::{Forwarder, PartedForwarder};

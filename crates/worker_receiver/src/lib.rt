@@ -5,4 +5,4 @@ mod intake;
 mod pool;
 mod receiver;
 
-pub use receiver::Receiver;
+pub use receiver::{PartedReceiver, Receiver};

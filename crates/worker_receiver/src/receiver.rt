@@ -55,6 +55,15 @@ impl<N: RunBrand, S: Source + Drop> Drop for Receiver<N, S> {
     }
 }
 
+/// A receiver, taken apart.
+#[derive(Drop)]
+pub struct PartedReceiver<N: RunBrand, S> {
+    pub source: S,
+    pub processors: Vec<Outlet<Packet<N>>>,
+    pub free: Consumer<Buffer>,
+    pub share: Share<N>,
+}
+
 impl<N: RunBrand, S: Source> Receiver<N, S> {
     /// The receiver of a link, over a source that gave nothing yet. It reads into a first
     /// buffer, takes others from the pipe of the link's free ones, and offers to one pipe a processor.
@@ -97,8 +106,8 @@ impl<N: RunBrand, S: Source> Receiver<N, S> {
     }
 
     /// Its source, its ends of pipes and its counts, which tell what it did.
-    pub fn into_parts(self) -> (S, Vec<Outlet<Packet<N>>>, Consumer<Buffer>, Share<N>)
-        ensures parts { (result.0 ≡ self.source) × (result.1.items ≡ self.side.processors) × (result.2 ≡ self.side.stock.free) × (result.3 ≡ self.side.share) }
+    pub fn into_parts(self) -> PartedReceiver<N, S>
+        ensures parts { (result.source ≡ self.source) × (result.processors.items ≡ self.side.processors) × (result.free ≡ self.side.stock.free) × (result.share ≡ self.side.share) }
         ensures law { IsReceiving self.side.config self.side.link self.side.interface self.number (S.told self.source) self.side.stock.free.looks (senders self.side.processors) self.side.share }
         ensures quiet { self.ended ≡ true → EndsQuietly self.number (S.told self.source) }
     {
@@ -110,7 +119,12 @@ impl<N: RunBrand, S: Source> Receiver<N, S> {
             ended: _,
         } = self;
         let (processors, free, share) = intake.into_parts();
-        (source, processors, free, share)
+        PartedReceiver {
+            source,
+            processors,
+            free,
+            share,
+        }
     }
 }
 

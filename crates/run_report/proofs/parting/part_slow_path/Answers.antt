@@ -18,8 +18,8 @@ take_back-requires g c =
 pub take_back-requires-2 : goal.take_back-requires-2
 take_back-requires-2 g c =
     let was = c.requires.back in
-    let rows = was.0 ++ senders c.into_parts-from.result.1.items ∷ [] in
-    (rows, was.1, c.take_back.ensures.back was.0 was.1 was.2, ends_as_next rows (length was.0 + 1) was.1 _ _ (omega (arith, length-append was.0 (senders c.into_parts-from.result.1.items ∷ []))) refl was.4)
+    let rows = was.0 ++ senders c.into_parts-from.result.links.items ∷ [] in
+    (rows, was.1, c.take_back.ensures.back was.0 was.1 was.2, ends_as_next rows (length was.0 + 1) was.1 _ _ (omega (arith, length-append was.0 (senders c.into_parts-from.result.links.items ∷ []))) refl was.4)
 
 pub returns-clause-back : goal.returns-clause-back
 returns-clause-back g c = λ ls ss was.
