@@ -24,6 +24,7 @@ use Rattle.run_pipes.specs.Pipes.{piping_of}
 use Rattle.run_pipes.specs.declared.pipes.Pipes.{Pipes}
 use Rattle.run_workers.specs.Kits.{Entry, Exit, IsEnteringAt, IsLeavingAt, IsWorkingAt, IsWorkingThere, forwarding_over, forwardings, paired, receiving_over, receivings}
 use Rattle.router_run.specs.BareWorkers.{AreBareWorkers}
+use Rattle.router_run.specs.declared.bare_workers.BareWorkers.{BareWorkers}
 use Rattle.router_run.specs.Run.{Run}
 use Rattle.run_report.specs.Crew.{crew_of}
 use Rattle.router_run.specs.Starting.{Begins, GivesBack, IsOneALink}
@@ -106,10 +107,15 @@ module _ {G : Type 0} (c : Config) (p : Piping) where
         working_at (i + 1) ss ws all.1 (omega arith) (λ j x got. let e : i + suc j ≡ i + 1 + j = omega arith in subst (λ (k : ℕ). slice_get p.packets k ≡ Some x) e (at (suc j) x got)),
       )
 
-pub is_crew : {N S G K : Type 0} (failed : K → ℕ) (c : Config) (k : Pipes N) (es : List Entry) (ws : List (Working G)) (a : Answering) (xs : List Exit) (hs : List (Shutting (Outgoing kinds))) (gs : List (Sender (List ℕ))) (ss : List S) (ks : List K)
-    → AreBareWorkers c k es ws a xs hs gs → length ss ≡ link_count c → length ks ≡ link_count c → IsCrew c (piping_of k) (crew_of (receivings es ss) ws (a ∷ []) (forwardings failed xs ks) hs)
-is_crew failed c k es ws a xs hs gs ss ks m sources sinks =
-    let p = piping_of k in
+pub is_crew : {N S G K : Type 0} (failed : K → ℕ) (c : Config) (w : BareWorkers N G) (ss : List S) (ks : List K)
+    → AreBareWorkers c w → length ss ≡ link_count c → length ks ≡ link_count c
+    → IsCrew c (piping_of w.pipes) (crew_of (receivings w.receivers.items ss) w.processors.items (w.slow ∷ []) (forwardings failed w.forwarders.items ks) w.shutters.items)
+is_crew failed c w ss ks m sources sinks =
+    let p = piping_of w.pipes in
+    let es = w.receivers.items in
+    let ws = w.processors.items in
+    let xs = w.forwarders.items in
+    let hs = w.shutters.items in
     let entries : length es ≡ link_count c = let q = m.entering.count in omega arith in
     let exits : length xs ≡ link_count c = let q = m.after.leaving.count in omega arith in
     let works : length ws ≡ c.processors = let q = m.after.working.count in omega arith in
@@ -158,6 +164,5 @@ starts failed a b ss ks (Ok x) e one ran = subst (λ (c : Config). Begins failed
 starts {S = S} {K = K} failed a b ss ks (Err f) e one ran = subst (λ (x : StartFault S K). GivesBack (link_count b) x ss ks) (sym ran) one
 
 -- what stands ready, by another name of its configuration
-pub parts_as : {N G : Type 0} (a b : Config) (k : Pipes N) (es : List Entry) (ws : List (Working G)) (s : Answering) (xs : List Exit) (hs : List (Shutting (Outgoing kinds))) (gs : List (Sender (List ℕ)))
-    → a ≡ b → AreBareWorkers b k es ws s xs hs gs → AreBareWorkers a k es ws s xs hs gs
-parts_as a b k es ws s xs hs gs e are = subst (λ (c : Config). AreBareWorkers c k es ws s xs hs gs) (sym e) are
+pub parts_as : {N G : Type 0} (a b : Config) (w : BareWorkers N G) → a ≡ b → AreBareWorkers b w → AreBareWorkers a w
+parts_as a b w e are = subst (λ (c : Config). AreBareWorkers c w) (sym e) are

@@ -10,6 +10,7 @@ use Rattle.run_ends.specs.Rows.{fresh_ends}
 use Rattle.run_ends.specs.Shutting.{AreNew, Shutting}
 use Rattle.router_rules.specs.Links.{link_count}
 use Rattle.worker_parts.specs.Outlets.{are_used}
+use Rattle.router_run.specs.declared.bare_workers.BareWorkers.{BareWorkers}
 use Rattle.run_workers.specs.Kits.{Entry, Exit, IsAnsweringAt, IsEnteringAt, IsLeavingAt, IsWorkingThere}
 use Rattle.run_pipes.specs.Filling.{AreFilled}
 use Rattle.run_pipes.specs.Piping.{Piping}
@@ -35,5 +36,5 @@ pub record AreOver {N G : Type 0} (p : Piping) (c : Config) (k : Pipes N) (recei
   pub after : AreAfterReceivers c p processors slow forwarders shutters
   pub filled : AreFilled (c.processors + 1 + link_count c) (c.buffers - 1) p.free fillers
 
-abbrev pub AreBareWorkers : {N G : Type 0} → Config → Pipes N → List Entry → List (Working G) → Answering → List Exit → List (Shutting (Outgoing kinds)) → List (Sender (List ℕ)) → Type 0
-AreBareWorkers c k receivers processors slow forwarders shutters fillers = AreOver (piping_of k) c k receivers processors slow forwarders shutters fillers
+abbrev pub AreBareWorkers : {N G : Type 0} → Config → BareWorkers N G → Type 0
+AreBareWorkers c w = AreOver (piping_of w.pipes) c w.pipes w.receivers.items w.processors.items w.slow w.forwarders.items w.shutters.items w.fillers.items

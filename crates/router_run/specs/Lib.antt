@@ -5,3 +5,4 @@ pub mod Promises
 pub mod Run
 pub mod Starting
 pub mod Teams
+pub mod Prepared

@@ -84,7 +84,7 @@ pub fn make_all<N: RunBrand, G: Gate + Drop, R: Wait>(
 ) -> Result<BareWorkers<N, G>, AllocError>
     requires config { N.config ≡ Some (arc_value common.now.shared).config }
     requires shares { AreNewShares (2 * link_count (arc_value common.now.shared).config + (arc_value common.now.shared).config.processors + 1) shares.items }
-    ensures { IfOk result (λ m. AreBareWorkers (arc_value common.now.shared).config m.pipes m.receivers.items m.processors.items m.slow m.forwarders.items m.shutters.items m.fillers.items) }
+    ensures { IfOk result (λ m. AreBareWorkers (arc_value common.now.shared).config m) }
 {
     let (mut pipes, takers) = open_all(alloc, &common.shared)?;
     let Takers {

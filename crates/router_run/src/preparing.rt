@@ -4,9 +4,7 @@ ghost use Rattle.std.specs.Prelude.{◌≡◌, ◌+◌, ◌*◌, ◌≤◌, IfOk
 ghost use Rattle.std.specs.Arc.{arc_value};
 ghost use Rattle.router_rules.specs.Links.{link_count};
 ghost use Rattle.run_workers.specs.Shares.{AreNewShares};
-ghost use Rattle.router_run.specs.Teams.{AreTeamsFor};
-ghost use Rattle.run_report.specs.Room.{HaveSpace};
-ghost use Rattle.router_run.specs.BareWorkers.{AreBareWorkers};
+ghost use Rattle.router_run.specs.Prepared.{IsPrepared};
 
 use crate::bare_workers::{BareWorkers, make_all};
 use crate::teams::{Teams, teams_for};
@@ -140,9 +138,7 @@ where
     requires config { N.config ≡ Some config }
     requires workers { N.workers ≡ 2 * link_count config + config.processors + 1 }
     ensures shared { IfOk result (λ p. (arc_value p.base.common.shared).config ≡ config) }
-    ensures bare_workers { IfOk result (λ p. AreBareWorkers config p.bare_workers.pipes p.bare_workers.receivers.items p.bare_workers.processors.items p.bare_workers.slow p.bare_workers.forwarders.items p.bare_workers.shutters.items p.bare_workers.fillers.items) }
-    ensures teams { IfOk result (λ p. AreTeamsFor (link_count config) config.processors p.teams.receivers p.teams.processors p.teams.slow p.teams.forwarders) }
-    ensures space { IfOk result (λ p. HaveSpace (link_count config) config.processors p.space) }
+    ensures prepared { IfOk result (λ p. IsPrepared config p.bare_workers p.teams.receivers p.teams.processors p.teams.slow p.teams.forwarders p.space) }
 {
     let links = link_count(&config);
     let processors = usize::from(config.processors);

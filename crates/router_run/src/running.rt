@@ -7,9 +7,7 @@ ghost use Rattle.worker_order.specs.Heard.{ToldNothing};
 ghost use Rattle.router_rules.specs.Links.{link_count};
 ghost use Rattle.run_pipes.specs.Closing.{Closing};
 ghost use Rattle.router_run.specs.Run.{RouterHasRun, IsSameRun};
-ghost use Rattle.router_run.specs.BareWorkers.{AreBareWorkers};
-ghost use Rattle.router_run.specs.Teams.{AreTeamsFor};
-ghost use Rattle.run_report.specs.Room.{HaveSpace};
+ghost use Rattle.router_run.specs.Prepared.{IsPrepared};
 ghost use Rattle.router_run.specs.Starting.{Begins, GivesBack, IsOneALink};
 
 use crate::bare_workers::BareWorkers;
@@ -58,21 +56,17 @@ where
     K: Sink,
     G: Gate,
 {
-    ghost use Rattle.std.specs.Prelude.{◌≡◌, ◌+◌, ◌*◌};
     ghost use Rattle.std.specs.Arc.{arc_value};
-    ghost use Rattle.router_rules.specs.Links.{link_count};
-    ghost use Rattle.router_run.specs.Wiring.{IsCrew};
     ghost use Rattle.run_pipes.specs.Pipes.{piping_of};
-    ghost use Rattle.run_report.specs.Room.{HaveSpace};
+    ghost use Rattle.router_run.specs.Prepared.{IsRunning};
     ghost use Rattle.router_run.specs.Run.{Run};
-    ghost use Rattle.router_run.specs.BareWorkers.{AllMade};
     ghost use Rattle.run_report.specs.Crew.{crew_of};
 
     ghost Value = { Run S G K };
 
     ghost view = { λ r. record { config = (arc_value r.controller.shared).config; pipes = piping_of r.pipes; fillers = r.fillers.items; crew = crew_of r.threads.receivers r.threads.processors r.threads.slow r.threads.forwarders r.controller.shutters.items } };
 
-    ghost invariant = { λ r. (N.workers ≡ 2 * link_count (arc_value r.controller.shared).config + (arc_value r.controller.shared).config.processors + 1) × IsCrew (arc_value r.controller.shared).config (piping_of r.pipes) (crew_of r.threads.receivers r.threads.processors r.threads.slow r.threads.forwarders r.controller.shutters.items) × AllMade (arc_value r.controller.shared).config (piping_of r.pipes) r.pipes × HaveSpace (link_count (arc_value r.controller.shared).config) (arc_value r.controller.shared).config.processors r.space };
+    ghost invariant = { λ r. IsRunning N.workers (arc_value r.controller.shared).config r.pipes (crew_of r.threads.receivers r.threads.processors r.threads.slow r.threads.forwarders r.controller.shutters.items) r.space };
 }
 
 // Whether there is one source and one sink a link.
@@ -134,9 +128,7 @@ where
     K: Sink + Send + Drop + 'static,
     G: Gate + Send + Sync + Drop + 'static,
     R: Threads + Wait + Clock + Copy + Send + 'static,
-    requires bare_workers { AreBareWorkers (arc_value prepared.base.common.shared).config prepared.bare_workers.pipes prepared.bare_workers.receivers.items prepared.bare_workers.processors.items prepared.bare_workers.slow prepared.bare_workers.forwarders.items prepared.bare_workers.shutters.items prepared.bare_workers.fillers.items }
-    requires teams { AreTeamsFor (link_count (arc_value prepared.base.common.shared).config) (arc_value prepared.base.common.shared).config.processors prepared.teams.receivers prepared.teams.processors prepared.teams.slow prepared.teams.forwarders }
-    requires space { HaveSpace (link_count (arc_value prepared.base.common.shared).config) (arc_value prepared.base.common.shared).config.processors prepared.space }
+    requires prepared { IsPrepared (arc_value prepared.base.common.shared).config prepared.bare_workers prepared.teams.receivers prepared.teams.processors prepared.teams.slow prepared.teams.forwarders prepared.space }
     requires workers { N.workers ≡ 2 * link_count (arc_value prepared.base.common.shared).config + (arc_value prepared.base.common.shared).config.processors + 1 }
     requires sources { Each (λ s. ToldNothing (S.told s)) sources.items × (length sources.items ≡ link_count (arc_value prepared.base.common.shared).config) }
     requires sinks { Each (λ k. ToldNothing (K.told k)) sinks.items × (length sinks.items ≡ link_count (arc_value prepared.base.common.shared).config) }

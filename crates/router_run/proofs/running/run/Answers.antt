@@ -6,28 +6,28 @@ use Rattle.router_run.proofs.Begin.{begins, crew_by, is_crew}
 use Rattle.router_run.proofs.running.run.Goals as goal
 
 pub start_front-receivers-requires-clause-count : goal.start_front-receivers-requires-clause-count
-start_front-receivers-requires-clause-count g c = let a = c.requires.sources.1 in let b = c.requires.bare_workers.entering.count in omega arith
+start_front-receivers-requires-clause-count g c = let a = c.requires.sources.1 in let b = c.requires.prepared.bare_workers.entering.count in omega arith
 
 pub start_front-receivers-requires-clause-untold : goal.start_front-receivers-requires-clause-untold
 start_front-receivers-requires-clause-untold g c κs within = c.requires.sources.0
 
 pub start_front-receivers-requires-clause-receiving : goal.start_front-receivers-requires-clause-receiving
-start_front-receivers-requires-clause-receiving g c κs within = for_as _ (length c.args.prepared.bare_workers.receivers.items) _ c.requires.teams.0 (let n = c.requires.bare_workers.entering.count in omega arith)
+start_front-receivers-requires-clause-receiving g c κs within = for_as _ (length c.args.prepared.bare_workers.receivers.items) _ c.requires.prepared.teams.0 (let n = c.requires.prepared.bare_workers.entering.count in omega arith)
 
 pub start_front-receivers-requires-clause-working : goal.start_front-receivers-requires-clause-working
-start_front-receivers-requires-clause-working g c κs within = for_as _ (length c.args.prepared.bare_workers.processors.items) _ c.requires.teams.1 (let n = c.requires.bare_workers.after.working.count in omega arith)
+start_front-receivers-requires-clause-working g c κs within = for_as _ (length c.args.prepared.bare_workers.processors.items) _ c.requires.prepared.teams.1 (let n = c.requires.prepared.bare_workers.after.working.count in omega arith)
 
 pub start_rear-slow-requires-clause-count : goal.start_rear-slow-requires-clause-count
-start_rear-slow-requires-clause-count g c = let a = c.requires.sinks.1 in let b = c.requires.bare_workers.after.leaving.count in omega arith
+start_rear-slow-requires-clause-count g c = let a = c.requires.sinks.1 in let b = c.requires.prepared.bare_workers.after.leaving.count in omega arith
 
 pub start_rear-slow-requires-clause-untold : goal.start_rear-slow-requires-clause-untold
 start_rear-slow-requires-clause-untold g c κs within = c.requires.sinks.0
 
 pub start_rear-slow-requires-clause-answering : goal.start_rear-slow-requires-clause-answering
-start_rear-slow-requires-clause-answering g c κs within = c.requires.teams.2
+start_rear-slow-requires-clause-answering g c κs within = c.requires.prepared.teams.2
 
 pub start_rear-slow-requires-clause-forwarding : goal.start_rear-slow-requires-clause-forwarding
-start_rear-slow-requires-clause-forwarding g c κs within = for_as _ (length c.args.prepared.bare_workers.forwarders.items) _ c.requires.teams.3 (let n = c.requires.bare_workers.after.leaving.count in omega arith)
+start_rear-slow-requires-clause-forwarding g c κs within = for_as _ (length c.args.prepared.bare_workers.forwarders.items) _ c.requires.prepared.teams.3 (let n = c.requires.prepared.bare_workers.after.leaving.count in omega arith)
 
 pub invariant_of-result : goal.invariant_of-result
 invariant_of-result g c =
@@ -37,9 +37,9 @@ invariant_of-result g c =
       c.requires.workers,
       crew_by (arc_value c.args.prepared.base.common.shared).config (piping_of made.pipes) _ _ _ _ _ _ _ _ made.shutters.items
           front.0 front.1 rear.1 rear.2
-          (is_crew g.K.Sink.failed _ made.pipes made.receivers.items made.processors.items made.slow made.forwarders.items made.shutters.items made.fillers.items c.args.sources.items c.args.sinks.items c.requires.bare_workers c.requires.sources.1 c.requires.sinks.1),
-      c.requires.bare_workers.made,
-      c.requires.space,
+          (is_crew g.K.Sink.failed _ made c.args.sources.items c.args.sinks.items c.requires.prepared.bare_workers c.requires.sources.1 c.requires.sinks.1),
+      c.requires.prepared.bare_workers.made,
+      c.requires.prepared.room,
     )
 
 pub returns-then-are_all : goal.returns-then-are_all
@@ -52,11 +52,11 @@ returns-then-are_all g c =
     refl
     front.0
     rear.2
-    (let b = c.requires.bare_workers.entering.count in omega arith)
-    (let b = c.requires.bare_workers.after.leaving.count in omega arith)
+    (let b = c.requires.prepared.bare_workers.entering.count in omega arith)
+    (let b = c.requires.prepared.bare_workers.after.leaving.count in omega arith)
     (c.requires.sources.1, c.requires.sinks.1)
     (crew_by config (piping_of made.pipes) _ _ _ _ _ _ _ _ made.shutters.items
     front.0 front.1 rear.1 rear.2
-    (is_crew g.K.Sink.failed _ made.pipes made.receivers.items made.processors.items made.slow made.forwarders.items made.shutters.items made.fillers.items c.args.sources.items c.args.sinks.items c.requires.bare_workers c.requires.sources.1 c.requires.sinks.1))
-    c.requires.bare_workers.after.shutting
-    c.requires.bare_workers.filled
+    (is_crew g.K.Sink.failed _ made c.args.sources.items c.args.sinks.items c.requires.prepared.bare_workers c.requires.sources.1 c.requires.sinks.1))
+    c.requires.prepared.bare_workers.after.shutting
+    c.requires.prepared.bare_workers.filled

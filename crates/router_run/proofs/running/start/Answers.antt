@@ -15,14 +15,15 @@ prepare-requires-clause-config g c = c.requires.config
 pub prepare-requires-clause-workers : goal.prepare-requires-clause-workers
 prepare-requires-clause-workers g c = c.requires.workers
 
-pub run-requires-clause-bare_workers : goal.run-requires-clause-bare_workers
-run-requires-clause-bare_workers g c κs within = parts_as _ _ _ _ _ _ _ _ _ c.in-Ok.ensures.shared c.in-Ok.ensures.bare_workers
-
-pub run-requires-clause-teams : goal.run-requires-clause-teams
-run-requires-clause-teams g c κs within = let same = c.in-Ok.ensures.shared in teams_as _ _ _ _ _ _ _ _ c.in-Ok.ensures.teams (ap link_count same) (ap (λ (k : Config). k.processors) same)
-
-pub run-requires-clause-space : goal.run-requires-clause-space
-run-requires-clause-space g c κs within = space_as _ _ _ c.in-Ok.ensures.shared c.in-Ok.ensures.space
+pub run-requires-clause-prepared : goal.run-requires-clause-prepared
+run-requires-clause-prepared g c κs within =
+    let same = c.in-Ok.ensures.shared in
+    let is = c.in-Ok.ensures.prepared in
+    record {
+      bare_workers = parts_as _ _ _ same is.bare_workers;
+      teams = teams_as _ _ _ _ _ _ _ _ is.teams (ap link_count same) (ap (λ (k : Config). k.processors) same);
+      room = space_as _ _ _ same is.room;
+    }
 
 pub run-requires-clause-sources : goal.run-requires-clause-sources
 run-requires-clause-sources g c κs within = (c.requires.sources, c.if-not-is_one_a_link.ensures.0 ∙ ap link_count (sym c.in-Ok.ensures.shared))
