@@ -10,7 +10,9 @@ use std::thread::Threads;
 use std::time::{Clock, Duration};
 use worker_parts::Stage;
 
-// Joins a worker that was told to run. One that gave up never comes.
+// Joins a worker that was told to run: it comes back, since only one that gave up doesn't. Were that ever
+// broken, the end would wait here for good rather than report a run that isn't whole: a program has no way
+// to abort.
 fn join_worker<W, R>(rt: &R, handle: Handle<W>) -> W
 where
     W: Stage,
