@@ -1,6 +1,7 @@
 -- What the workers that came back give the running theorem.
 use Rattle.std.proofs.Common.{◌≡◌, ℕ, zero, suc, ◌+◌, ◌*◌, true, List, [], ◌∷◌, ◌++◌, map, length, Option, Some, None, slice_get, refl, sym, ◌∙◌, ap, subst, arith}
 use Rattle.std.proofs.lemmas.List.{length-map}
+use Rattle.std.proofs.lemmas.Simd.{map-map}
 use Rattle.order_laws.specs.Deeds.{Each}
 use Rattle.order_laws.specs.Item.{Arrival, Outgoing}
 use Rattle.order_laws.specs.Settled.{SlowPathRequest}
@@ -28,7 +29,6 @@ use Rattle.worker_parts.specs.Back.{AreBack}
 use Rattle.router_stages.specs.SameReceiver.{IsSameReceiver, ReceiverEnded}
 use Rattle.router_stages.specs.SameProcessor.{IsSameProcessor, ProcessorEnded}
 use Rattle.router_stages.specs.SameSlowPath.{IsSameSlowPath, SlowPathEnded}
-use Rattle.router_run.proofs.Devices.{any}
 use Rattle.router_run.specs.Wiring.{AreAnswering, AreForwarding, AreWorking, IsCrew, IsReceivingAt}
 use Rattle.run_report.specs.Crew.{Crew, packet_rows, packet_takers, request_row, egress_rows, takers_of}
 use Rattle.run_workers.specs.Kits.{IsAnsweringAt, IsWorkingAt}
@@ -43,10 +43,6 @@ use Rattle.router_run.proofs.Rows.{back_long, working_long}
 -- ---- lists
 
 module _ {X Y Z : Type 0} where
-  pub map_twice : (f : X → Y) (g : Y → Z) (xs : List X) → map g (map f xs) ≡ map (λ (x : X). g (f x)) xs
-  map_twice f g [] = refl
-  map_twice f g (x ∷ xs) = ap (λ (zs : List Z). g (f x) ∷ zs) (map_twice f g xs)
-
   -- what stands at a place, read otherwise
   read_other : (f : X → Y) (g : X → Z) (h : Y → Z) → ((x : X) → h (f x) ≡ g x) → (xs : List X) (i : ℕ) (y : Y) → slice_get (map f xs) i ≡ Some y → slice_get (map g xs) i ≡ Some (h y)
   read_other f g h same [] i y at = absurd cc
@@ -70,11 +66,11 @@ each_all Q W f go n (x ∷ xs) all = (go n x all.0, each_all Q W f go (n + 1) xs
 
 -- ---- each worker's law, at its number
 
-module _ {S : Type 0} (told : S → Option (List Heard)) (c : Config) (p : Piping) (processors : length p.packets ≡ c.processors) where
+module _ {S : Type 0} (told : S → Option (List Heard)) (same_source : S → S → Type 0) (c : Config) (p : Piping) (processors : length p.packets ≡ c.processors) where
   abbrev KeptIn : Receiving S → Type 0
   KeptIn r = IsReceiving r.side.config r.side.link r.side.interface r.number (told r.source) r.side.stock.free.looks (senders r.side.processors) r.side.share × NeverClosed (senders r.side.processors)
 
-  receiver_kept : (n : ℕ) (a b : Receiving S) → IsReceivingAt c p n a → IsSameReceiver any a b × ReceiverEnded b → KeptIn b → IsBackReceiver c n (receiver_back told b)
+  receiver_kept : (n : ℕ) (a b : Receiving S) → IsReceivingAt c p n a → IsSameReceiver same_source a b × ReceiverEnded b → KeptIn b → IsBackReceiver c n (receiver_back told b)
   receiver_kept n a b is back kept =
       let config : b.side.config ≡ c = back.0.config ∙ is.config in
       let link : b.side.link ≡ n = back.0.link ∙ is.link in
@@ -85,7 +81,7 @@ module _ {S : Type 0} (told : S → Option (List Heard)) (c : Config) (p : Pipin
         ends ∙ processors,
       )
 
-  pub receivers_kept : (n : ℕ) (xs ys : List (Receiving S)) → AllAt (IsReceivingAt c p) n xs → AreBack (λ a b. IsSameReceiver any a b × ReceiverEnded b) xs ys → Each KeptIn ys → AllAt (IsBackReceiver c) n (map (receiver_back told) ys)
+  pub receivers_kept : (n : ℕ) (xs ys : List (Receiving S)) → AllAt (IsReceivingAt c p) n xs → AreBack (λ a b. IsSameReceiver same_source a b × ReceiverEnded b) xs ys → Each KeptIn ys → AllAt (IsBackReceiver c) n (map (receiver_back told) ys)
   receivers_kept n [] [] all back kept = tt
   receivers_kept n [] (y ∷ ys) all back kept = absurd back
   receivers_kept n (x ∷ xs) [] all back kept = absurd back
@@ -160,8 +156,8 @@ module _ {T : Type 0} where
 
 -- ---- all together
 
-module _ {S G K : Type 0} (told : S → Option (List Heard)) (shown : K → Option (List Told)) (failed : K → ℕ) (c : Config) (p : Piping) (old new : Crew S G K) (a : Answering)
-    (is : IsCrew c p old) (back : IsBack any any old new) (kept : HasKept told shown failed new) (settled : HasSettled p new) (one : new.slow ≡ a ∷ []) where
+module _ {S G K : Type 0} (told : S → Option (List Heard)) (shown : K → Option (List Told)) (failed : K → ℕ) (same_source : S → S → Type 0) (same_sink : K → K → Type 0) (c : Config) (p : Piping) (old new : Crew S G K) (a : Answering)
+    (is : IsCrew c p old) (back : IsBack same_source same_sink old new) (kept : HasKept told shown failed new) (settled : HasSettled p new) (one : new.slow ≡ a ∷ []) where
   abbrev b : Returned Told
   b = back_of told shown failed new a
 
@@ -169,19 +165,19 @@ module _ {S G K : Type 0} (told : S → Option (List Heard)) (shown : K → Opti
   slow = slow_kept c p is.pipes.links old.slow new.slow a is.slow back.slow kept.slow one
 
   packet_are : packet_rows new ≡ map (λ (r : ReceiverBack). r.senders) b.receivers
-  packet_are = sym (map_twice (receiver_back told) (λ (r : ReceiverBack). r.senders) new.receivers)
+  packet_are = sym (map-map (λ (r : ReceiverBack). r.senders) (receiver_back told) new.receivers)
 
   egress_are : egress_rows new ≡ link_rows b
   egress_are =
       ap (λ (xs : List Answering). map (λ (w : Working G). senders w.side.links) new.processors ++ (map (λ (x : Answering). senders x.side.links) xs ++ shutter_ends new.shutters ∷ [])) one
-      ∙ ap (λ (ls : List (List (Sender (Outgoing kinds)))). ls ++ (senders a.side.links ∷ shutter_ends new.shutters ∷ [])) (sym (map_twice processor_back (λ (q : ProcessorBack). q.links) new.processors))
+      ∙ ap (λ (ls : List (List (Sender (Outgoing kinds)))). ls ++ (senders a.side.links ∷ shutter_ends new.shutters ∷ [])) (sym (map-map (λ (q : ProcessorBack). q.links) processor_back new.processors))
 
   request_are : request_row new ≡ map (λ (q : ProcessorBack). q.slow) b.processors
-  request_are = sym (map_twice processor_back (λ (q : ProcessorBack). q.slow) new.processors)
+  request_are = sym (map-map (λ (q : ProcessorBack). q.slow) processor_back new.processors)
 
   pub crews_return : HaveReturned told_of c b (closed_at new.shutters)
   crews_return = record {
-    receivers = receivers_kept told c p is.pipes.processors 0 old.receivers new.receivers is.receivers back.receivers kept.receivers;
+    receivers = receivers_kept told same_source c p is.pipes.processors 0 old.receivers new.receivers is.receivers back.receivers kept.receivers;
     processors = processors_kept c p is.pipes.links 0 p.packets old.processors new.processors is.processors back.processors kept.processors;
     slow = slow.0;
     forwarders = each_all _ (IsBackForwarder told_of) (forwarder_back shown failed) (λ n f k. k) 0 new.forwarders kept.forwarders;

@@ -14,7 +14,6 @@ use Rattle.run_ends.specs.Finished.{AreRows, HaveFinished}
 use Rattle.run_ends.specs.Settled.{AreTaken, HasTaken, IsEnded}
 use Rattle.run_ends.specs.Shutting.{shutter_ends}
 use Rattle.worker_parts.specs.Back.{AreBack}
-use Rattle.router_run.proofs.Devices.{any}
 use Rattle.router_run.specs.Wiring.{AreAnswering, IsCrew}
 use Rattle.run_report.specs.Crew.{Crew, packet_rows, packet_takers, request_row, request_takers, egress_rows, takers_of}
 use Rattle.run_pipes.specs.Piping.{Piping}
@@ -41,14 +40,14 @@ module _ (c : Config) (p : Piping) where
   request_taken (a ∷ []) (b ∷ d ∷ ys) t are back same = absurd back.1
   request_taken (a ∷ []) (b ∷ []) t are back same = let e : b.taker ≡ t = cc in subst (λ (u : Taker (SlowPathRequest kinds)). HasTaken true p.requests u) e (slow_taken c p a b are back.0)
 
-module _ {S G K : Type 0} (c : Config) (p : Piping) (old new : Crew S G K) (is : IsCrew c p old) (back : IsBack any any old new) (marked : HasMarked new) where
+module _ {S G K : Type 0} (same_source : S → S → Type 0) (same_sink : K → K → Type 0) (c : Config) (p : Piping) (old new : Crew S G K) (is : IsCrew c p old) (back : IsBack same_source same_sink old new) (marked : HasMarked new) where
   worked : length new.processors ≡ c.processors
   worked = back_long (P c p) old.processors new.processors back.processors ∙ (working_long c p 0 p.packets old.processors is.processors ∙ is.pipes.processors)
 
   packet_count : link_count c ≡ length (packet_rows new)
   packet_count =
       let b = length-map new.receivers (λ (r : Receiving S). senders r.side.processors) in
-      let d = back_long (R c p) old.receivers new.receivers back.receivers in
+      let d = back_long (R same_source c p) old.receivers new.receivers back.receivers in
       let e = is.receiver_count in
       omega arith
 
@@ -67,7 +66,7 @@ module _ {S G K : Type 0} (c : Config) (p : Piping) (old new : Crew S G K) (is :
   packets : HaveFinished p.packets (packet_rows new) (packet_takers new)
   packets = record {
     uses = λ j. true;
-    theirs = packet_ended c p 0 old.receivers new.receivers is.receivers back.receivers marked.receivers;
+    theirs = packet_ended same_source c p 0 old.receivers new.receivers is.receivers back.receivers marked.receivers;
     taken = subst (λ (n : ℕ). AreTaken (λ j. true) 0 n p.packets (packet_takers new)) packet_count (packet_taken c p 0 (link_count c) 0 p.packets old.processors new.processors is.pipes.packets is.processors back.processors);
   }
 
@@ -86,7 +85,7 @@ module _ {S G K : Type 0} (c : Config) (p : Piping) (old new : Crew S G K) (is :
       record {
         uses = are_used c;
         theirs = egress_ended c p 0 p.packets old.processors new.processors tail is.processors back.processors marked.processors (subst (λ (m : ℕ). AreRows (are_used c) m p.egress_packets tail) e last);
-        taken = subst (λ (n : ℕ). AreTaken (are_used c) 0 n p.egress_packets (takers_of new.forwarders)) egress_count (egress_taken c p 0 (c.processors + 2) p.egress_packets old.forwarders new.forwarders is.pipes.egress_packets is.forwarders back.forwarders);
+        taken = subst (λ (n : ℕ). AreTaken (are_used c) 0 n p.egress_packets (takers_of new.forwarders)) egress_count (egress_taken same_sink c p 0 (c.processors + 2) p.egress_packets old.forwarders new.forwarders is.pipes.egress_packets is.forwarders back.forwarders);
       }
 
   pub crews_end : PipesEnd p new

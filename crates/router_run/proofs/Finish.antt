@@ -1,6 +1,7 @@
 -- What a run came to, of its parts.
 use Rattle.std.proofs.Common.{◌≡◌, ℕ, ◌+◌, ◌*◌, true, List, [], ◌∷◌, ◌++◌, map, length, Option, refl, sym, ◌∙◌, ap, subst, arith, length-append}
 use Rattle.std.proofs.lemmas.List.{length-map}
+use Rattle.std.proofs.lemmas.Simd.{map-map}
 use Rattle.packet_ledger.specs.Share.{Held, forwarded}
 use Rattle.order_laws.specs.Item.{Arrival, Outgoing}
 use Rattle.order_laws.specs.Settled.{SlowPathRequest}
@@ -23,7 +24,6 @@ use Rattle.worker_parts.specs.Told.{Told, told_of}
 use Rattle.run_ends.specs.Finished.{HaveFinished}
 use Rattle.run_ends.specs.Settled.{AreSettled, IsDone, IsEnded}
 use Rattle.run_report.specs.Parting.{HasEnds, HasKept, IsParted, shares_in}
-use Rattle.router_run.proofs.Devices.{any, without_devices}
 use Rattle.router_run.specs.Back.{HasSettled, back_of, forwarder_back, processor_back, receiver_back, IsBack}
 use Rattle.run_report.specs.Crew.{Crew, packet_rows, request_row, egress_rows}
 use Rattle.router_run.specs.Wiring.{IsCrew}
@@ -32,7 +32,7 @@ use Rattle.run_pipes.specs.declared.pipes.Pipes.{Pipes}
 use Rattle.run_report.specs.Room.{HaveSpace, Space}
 use Rattle.router_run.specs.Run.{RouterHasRun, Run}
 use Rattle.router_run.specs.BareWorkers.{AllMade}
-use Rattle.router_run.proofs.Came.{crews_return, map_twice}
+use Rattle.router_run.proofs.Came.{crews_return}
 use Rattle.router_run.proofs.Crews.{PipesEnd}
 use Rattle.router_run.proofs.Promised.{promised}
 
@@ -42,11 +42,11 @@ one_of (x ∷ []) e = (x, refl)
 one_of (x ∷ y ∷ xs) e = absurd (omega arith)
 
 -- receivers that came back, ended, had asked their sources to the end
-asked_quietly : {S : Type 0} (told : S → Option (List Heard)) (old new : List (Receiving S)) → AreBack (λ a b. IsSameReceiver any a b × ReceiverEnded b) old new
+asked_quietly : {S : Type 0} (told : S → Option (List Heard)) (same_source : S → S → Type 0) (old new : List (Receiving S)) → AreBack (λ a b. IsSameReceiver same_source a b × ReceiverEnded b) old new
     → Each (λ (r : Receiving S). r.ended ≡ true → EndsQuietly r.number (told r.source)) new → Each (λ (r : Receiving S). EndsQuietly r.number (told r.source)) new
-asked_quietly told old [] back quiet = tt
-asked_quietly told [] (y ∷ ys) back quiet = absurd back
-asked_quietly told (x ∷ xs) (y ∷ ys) back quiet = (quiet.0 back.0.1.ended, asked_quietly told xs ys back.1 quiet.1)
+asked_quietly told same_source old [] back quiet = tt
+asked_quietly told same_source [] (y ∷ ys) back quiet = absurd back
+asked_quietly told same_source (x ∷ xs) (y ∷ ys) back quiet = (quiet.0 back.0.1.ended, asked_quietly told same_source xs ys back.1 quiet.1)
 
 -- the only slow path
 pub the_slow : {S G K : Type 0} (p : Piping) (links processors : ℕ) (w : Crew S G K) → HasEnds p links processors w → (a : Answering) × (w.slow ≡ a ∷ [])
@@ -91,9 +91,9 @@ module _ {S G K : Type 0} where
   module _ (told : S → Option (List Heard)) (shown : K → Option (List Told)) (failed : K → ℕ) where
     pub shares_same : (w : Crew S G K) (a : Answering) → w.slow ≡ a ∷ [] → shares_in w ≡ shares_of (back_of told shown failed w a)
     shares_same w a one =
-        let rs = map_twice (receiver_back told) (λ (r : ReceiverBack). r.share) w.receivers in
-        let ps = map_twice processor_back (λ (p : ProcessorBack). p.share) w.processors in
-        let fs = map_twice (forwarder_back shown failed) (λ (f : ForwarderBack Told). f.share) w.forwarders in
+        let rs = map-map (λ (r : ReceiverBack). r.share) (receiver_back told) w.receivers in
+        let ps = map-map (λ (p : ProcessorBack). p.share) processor_back w.processors in
+        let fs = map-map (λ (f : ForwarderBack Told). f.share) (forwarder_back shown failed) w.forwarders in
         let slow : map (λ (x : Answering). x.side.share) w.slow ≡ a.side.share ∷ [] = ap (map (λ (x : Answering). x.side.share)) one in
         ap (λ (xs : List Held). map (λ (r : Receiving S). r.side.share) w.receivers ++ (map (λ (p : Working G). p.side.share) w.processors ++ (xs ++ map (λ (f : Forwarding K). f.side.share) w.forwarders))) slow
         ∙ (ap (λ (xs : List Held). xs ++ (map (λ (p : Working G). p.side.share) w.processors ++ (a.side.share ∷ map (λ (f : Forwarding K). f.side.share) w.forwarders))) (sym rs)
@@ -106,8 +106,7 @@ module _ {S G K : Type 0} where
         → shares ≡ shares_in w → totals ≡ totals_of shares → sent ≡ map (λ (f : Forwarding K). forwarded f.side.share) w.forwarders → sources ≡ map (λ (x : Receiving S). x.source) w.receivers → sinks ≡ map (λ (f : Forwarding K). f.side.sink) w.forwarders
         → RouterHasRun told shown failed same_source same_sink r totals sent sources sinks
     has_run same_source same_sink runs r w a totals shares sent sources sinks is back kept set one same counts sends reads writes =
-        let plain = without_devices same_source same_sink r.crew w back in
-        let ran = runs told_of r.config (back_of told shown failed w a) _ (crews_return told shown failed r.config r.pipes r.crew w a is plain kept set one) in
+        let ran = runs told_of r.config (back_of told shown failed w a) _ (crews_return told shown failed same_source same_sink r.config r.pipes r.crew w a is back kept set one) in
         let totals_are = counts ∙ ap totals_of (same ∙ shares_same w a one) in record {
           promises = promised told shown failed r.config w a r.crew.shutters totals sent sources sinks ran back.shutters totals_are sends reads writes;
           crew = w;
@@ -115,7 +114,7 @@ module _ {S G K : Type 0} where
           one = one;
           back = back;
           settled = set;
-          asked = asked_quietly told r.crew.receivers w.receivers plain.receivers kept.quiet;
+          asked = asked_quietly told same_source r.crew.receivers w.receivers back.receivers kept.quiet;
           ran = ran;
           totals_are = totals_are;
           sent_are = sends;

@@ -8,4 +8,3 @@ pub mod Promised
 pub mod Finish
 pub mod Sized
 pub mod TeamLemmas
-pub mod Devices

@@ -28,7 +28,6 @@ use Rattle.router_stages.specs.SameReceiver.{IsSameReceiver, ReceiverEnded}
 use Rattle.router_stages.specs.SameProcessor.{IsSameProcessor, ProcessorEnded}
 use Rattle.router_stages.specs.SameSlowPath.{IsSameSlowPath, SlowPathEnded}
 use Rattle.router_stages.specs.SameForwarder.{IsSameForwarder}
-use Rattle.router_run.proofs.Devices.{any}
 use Rattle.router_run.specs.Wiring.{IsReceivingAt, AreWorking, AreAnswering, IsForwardingAt, AreForwarding}
 use Rattle.run_pipes.specs.Piping.{Piping}
 use Rattle.run_workers.specs.Kits.{IsWorkingAt, IsAnsweringAt}
@@ -56,9 +55,9 @@ has_taken used s t is all = record { pipe = is.0; producers = is.1; capacity = i
 
 -- ---- receivers and processors' pipes
 
-module _ {S : Type 0} (c : Config) (p : Piping) where
+module _ {S : Type 0} (same_source : S → S → Type 0) (c : Config) (p : Piping) where
   abbrev pub R : Receiving S → Receiving S → Type 0
-  R a b = IsSameReceiver any a b × ReceiverEnded b
+  R a b = IsSameReceiver same_source a b × ReceiverEnded b
 
   receiver_finished : (n : ℕ) (a b : Receiving S) → IsReceivingAt c p n a → R a b → AreMarked b.side.processors → AreFinished (λ j. true) 0 n p.packets (senders b.side.processors)
   receiver_finished n a b is back marked =
@@ -180,9 +179,9 @@ module _ (c : Config) (p : Piping) where
 
 -- ---- forwarders
 
-module _ {K : Type 0} (c : Config) (p : Piping) where
+module _ {K : Type 0} (same_sink : K → K → Type 0) (c : Config) (p : Piping) where
   abbrev pub F : Forwarding K → Forwarding K → Type 0
-  F a b = IsSameForwarder any a b × ForwarderEnded b
+  F a b = IsSameForwarder same_sink a b × ForwarderEnded b
 
   low_taken : (l : ℕ) (low high : Shape) (a b : Forwarding K) → IsForwardingAt c p l low high a → F a b → HasTaken (are_used c (2 * l)) low b.low.taker
   low_taken l low high a b is back = has_taken (are_used c (2 * l)) low b.low.taker (taken_of low a.low.taker b.low.taker is.low back.0.low) (λ u. back.1.0)

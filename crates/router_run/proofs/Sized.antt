@@ -13,7 +13,6 @@ use Rattle.worker_parts.specs.Back.{AreBack}
 use Rattle.router_stages.specs.SameReceiver.{IsSameReceiver, ReceiverEnded}
 use Rattle.router_stages.specs.SameProcessor.{IsSameProcessor, ProcessorEnded}
 use Rattle.router_stages.specs.SameSlowPath.{IsSameSlowPath, SlowPathEnded}
-use Rattle.router_run.proofs.Devices.{any}
 use Rattle.router_run.specs.Wiring.{AreAnswering, AreWorking, IsCrew, IsReceivingAt}
 use Rattle.run_report.specs.Crew.{Crew}
 use Rattle.run_pipes.specs.Piping.{Piping}
@@ -25,8 +24,8 @@ use Rattle.router_run.proofs.Ends.{same_end, same_ends}
 use Rattle.router_run.proofs.Rows.{back_long, working_long}
 use Rattle.run_report.specs.Parting.{HasEnds}
 
-module _ {S : Type 0} (c : Config) (p : Piping) where
-  receivers_have : (n : ℕ) (xs ys : List (Receiving S)) → AllAt (IsReceivingAt c p) n xs → AreBack (λ a b. IsSameReceiver any a b × ReceiverEnded b) xs ys → AllAt (λ a (r : Receiving S). AreEndsOf a p.packets (senders r.side.processors)) n ys
+module _ {S : Type 0} (same_source : S → S → Type 0) (c : Config) (p : Piping) where
+  receivers_have : (n : ℕ) (xs ys : List (Receiving S)) → AllAt (IsReceivingAt c p) n xs → AreBack (λ a b. IsSameReceiver same_source a b × ReceiverEnded b) xs ys → AllAt (λ a (r : Receiving S). AreEndsOf a p.packets (senders r.side.processors)) n ys
   receivers_have n [] [] all back = tt
   receivers_have n [] (y ∷ ys) all back = absurd back
   receivers_have n (x ∷ xs) [] all back = absurd back
@@ -70,11 +69,11 @@ module _ {S G K : Type 0} (c : Config) (p : Piping) (w : Crew S G K) (is : IsCre
   crew_forwarders : length w.forwarders ≡ link_count c
   crew_forwarders = let x = forwarding_long c p 0 p.egress_packets w.forwarders is.forwarders in let y = is.pipes.links in omega arith
 
-pub has_ends : {S G K : Type 0} (c : Config) (p : Piping) (old new : Crew S G K) → IsCrew c p old → IsBack any any old new → HasEnds p (link_count c) c.processors new
-has_ends c p old new is back =
+pub has_ends : {S G K : Type 0} (same_source : S → S → Type 0) (same_sink : K → K → Type 0) (c : Config) (p : Piping) (old new : Crew S G K) → IsCrew c p old → IsBack same_source same_sink old new → HasEnds p (link_count c) c.processors new
+has_ends same_source same_sink c p old new is back =
     let slow = slow_has c p old.slow new.slow is.slow back.slow in
     record {
-      receivers = (receivers_have c p 0 old.receivers new.receivers is.receivers back.receivers, back_long _ old.receivers new.receivers back.receivers ∙ is.receiver_count);
+      receivers = (receivers_have same_source c p 0 old.receivers new.receivers is.receivers back.receivers, back_long _ old.receivers new.receivers back.receivers ∙ is.receiver_count);
       workers = (workers_have c p 0 p.packets old.processors new.processors is.processors back.processors, back_long _ old.processors new.processors back.processors ∙ crew_processors c p old is);
       slow = slow;
       forwarders = back_long _ old.forwarders new.forwarders back.forwarders ∙ crew_forwarders c p old is;

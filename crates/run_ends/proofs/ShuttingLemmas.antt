@@ -1,6 +1,7 @@
 -- The controller's ends.
 use Rattle.std.proofs.Common.{◌≡◌, ℕ, zero, suc, ◌+◌, ◌<◌, Bool, true, false, ◌||◌, List, [], ◌∷◌, ◌++◌, length, MatchBool, slice_get, slice_index_or, slice_set, refl, sym, ap, subst, ◌∙◌, arith}
 use Rattle.std.proofs.Math.Bool.{or-true}
+use Rattle.std.proofs.lemmas.List.{get_or-set_same, length-set}
 use Rattle.order_laws.specs.Deeds.{closes, has_mark, payload_of, payloads}
 use Rattle.ruled_pipe.specs.declared.entry.Entry.{Entry}
 use Rattle.ruled_pipe.specs.declared.entry.Load.TheVariants.{Marked}
@@ -15,11 +16,6 @@ use Rattle.run_ends.specs.Settled.{IsFinal, AreFinished}
 use Rattle.run_ends.specs.Shutting.{AreMarking, AreNew, AreUnended, AreShutters, Closes, ClosesAt, EachEnds, Ends, EndsUpTo, IsSameShutter, IsShutting, IsStill, PushMarks, Shutting, closed_at, shutter_ends, shutting, tried}
 
 module _ {X : Type 0} where
-  index_set : (xs : List X) (at : ℕ) (d x : X) → at < length xs → slice_index_or (slice_set xs at x) at d ≡ x
-  index_set [] at d x lt = absurd (omega arith)
-  index_set (y ∷ xs) zero d x lt = refl
-  index_set (y ∷ xs) (suc at) d x lt = index_set xs at d x (omega arith)
-
   get_set : (xs : List X) (at j : ℕ) (x : X) → (j ≡ at → ⊥) → slice_get (slice_set xs at x) j ≡ slice_get xs j
   get_set [] at j x other = refl
   get_set (y ∷ xs) zero zero x other = absurd (other refl)
@@ -148,11 +144,6 @@ module _ {T : Type 0} where
   set_closed (x ∷ hs) zero h lt = refl
   set_closed (x ∷ hs) (suc at) h lt = set_closed hs at h (omega arith)
 
-  set_long : (hs : List (Shutting T)) (at : ℕ) (h : Shutting T) → length (slice_set hs at h) ≡ length hs
-  set_long [] at h = refl
-  set_long (x ∷ hs) zero h = refl
-  set_long (x ∷ hs) (suc at) h = let e = set_long hs at h in omega arith
-
   same_set : (uses : ℕ → Bool) (k p : ℕ) (ss : List Shape) (hs : List (Shutting T)) (at : ℕ) (d n : Shutting T) → IsSameShutter (slice_index_or hs at d) n → at < length hs → AreShutters uses k p ss hs → AreShutters uses k p ss (slice_set hs at n)
   same_set uses k p [] [] at d n same lt a = tt
   same_set uses k p [] (h ∷ hs) at d n same lt a = absurd a
@@ -192,10 +183,10 @@ module _ {T : Type 0} where
       let same = closes_same is_there s.closed s n (open_at old at d all lt) closes in
       let Q : (ℕ → Bool) → ℕ → ℕ → List Shape → List (Shutting T) → Type 0 = λ u k p ss l. AreShutters u k p ss l in
       record {
-        closes = λ e. subst (λ (h : Shutting T). Closes is_there (slice_index_or old at e) h) (sym (ap (λ (hs : List (Shutting T)). slice_index_or hs at e) is ∙ index_set old at e n lt))
+        closes = λ e. subst (λ (h : Shutting T). Closes is_there (slice_index_or old at e) h) (sym (ap (λ (hs : List (Shutting T)). slice_index_or hs at e) is ∙ get_or-set_same old at n e lt))
             (subst (λ (h : Shutting T). Closes is_there h n) (index_same old at d e lt) closes);
         closed = ap (λ (hs : List (Shutting T)). closed_at hs at) is ∙ (set_closed old at n lt ∙ closes_closed is_there s.closed s n refl closes);
-        long = ap length is ∙ set_long old at n;
+        long = ap length is ∙ length-set old at n;
         others = λ j other. ap (λ (hs : List (Shutting T)). slice_get hs j) is ∙ get_set old at j n other;
         unended = subst (λ (l : List (Shutting T)). AreUnended l) (sym is) (open_set old at n same.1 all);
         same = λ u k p ss a. subst (λ (l : List (Shutting T)). Q u k p ss l) (sym is) (same_set u k p ss old at d n same.0 lt a);

@@ -1,7 +1,7 @@
-//! All ends of many pipes. All pipes of a kind have as many producers, and worker p gets producer p of each pipe;
-//! the pipes take the workers' ends back in this order. One worker may push marks alone. Once the workers have
-//! ended, each pipe is settled with its consumer, which took all that its producers had accepted. Taking back and
-//! settling take no memory.
+//! Pipes of one kind, which all have as many producers. Worker p gets producer p of each pipe, and
+//! the pipes take the workers' ends back in this order. One worker may push marks alone. Once the
+//! workers have ended, each pipe is settled with its consumer, which took all that its producers
+//! had accepted. Settling takes no memory.
 #![tactic(auto)]
 
 mod line;

@@ -21,8 +21,8 @@ pub fn settle<T: Drop>(pipe: Keeper<T>, taker: Consumer<T>)
     let _ = pipe.settle(taker);
 }
 
-/// Settles pipes of one kind, each with its consumer, once all their workers have ended and their producers are back.
-/// It takes no memory.
+/// Settles pipes of one kind, each with its consumer, once all their workers have ended and their
+/// producers are back. It takes no memory.
 pub fn settle_all<T: Drop>(pipes: Vec<Keeper<T>>, takers: Vec<Consumer<T>>)
     requires { (rows : List (List (Sender T))) × (ss : List Shape) × HaveBack rows ss pipes.items × HaveFinished ss rows takers.items }
     ensures { (rows : List (List (Sender T))) (ss : List Shape) → HaveBack rows ss pipes.items → AreSettled 0 rows ss takers.items }

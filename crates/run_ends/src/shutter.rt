@@ -52,13 +52,6 @@ impl<T: Drop> Shutter<T> {
         }
     }
 
-    /// Whether its pipe is used: the high band's of a link with one band isn't.
-    pub fn is_used(&self) -> bool
-        ensures { result ≡ self.now.used }
-    {
-        self.used
-    }
-
     /// Whether its closing mark was pushed.
     pub fn is_closed(&self) -> bool
         ensures { result ≡ self.now.closed }

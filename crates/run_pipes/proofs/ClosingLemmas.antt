@@ -1,6 +1,7 @@
 -- Closing marks, tried one by one.
-use Rattle.std.proofs.Common.{◌≡◌, ℕ, zero, suc, ◌+◌, ◌<◌, ◌≤◌, Bool, true, false, List, [], ◌∷◌, Ok, Err, length, slice_get, slice_index_or, refl, sym, ap, subst, ◌∙◌, arith}
+use Rattle.std.proofs.Common.{◌≡◌, ℕ, zero, suc, ◌+◌, ◌<◌, ◌≤◌, Bool, true, false, List, [], ◌∷◌, Ok, Err, length, slice_get, slice_index_or, Option, unwrap_or, refl, sym, ap, subst, ◌∙◌, arith}
 use Rattle.std.proofs.lemmas.Bool.{cond-false, false≢true}
+use Rattle.std.proofs.lemmas.Option.{unwrap_or-slice_get}
 use Rattle.process_packet.specs.declared.config.Config.{Config}
 use Rattle.ruled_pipe.specs.Pipe.{Shape}
 use Rattle.process_packet.specs.Network.{has_link, network}
@@ -12,13 +13,7 @@ use Rattle.run_pipes.specs.Closing.{AreClosed, ClosesMarks, TriesAt, TriesMarks}
 
 module _ {X : Type 0} where
   index_got : (xs ys : List X) (j : ℕ) (d : X) → slice_get xs j ≡ slice_get ys j → slice_index_or xs j d ≡ slice_index_or ys j d
-  index_got [] [] j d same = refl
-  index_got [] (y ∷ ys) zero d same = absurd cc
-  index_got [] (y ∷ ys) (suc j) d same = index_got [] ys j d same
-  index_got (x ∷ xs) [] zero d same = absurd cc
-  index_got (x ∷ xs) [] (suc j) d same = index_got xs [] j d same
-  index_got (x ∷ xs) (y ∷ ys) zero d same = cc
-  index_got (x ∷ xs) (y ∷ ys) (suc j) d same = index_got xs ys j d same
+  index_got xs ys j d same = sym (unwrap_or-slice_get xs j d) ∙ (ap (λ (o : Option X). unwrap_or o d) same ∙ unwrap_or-slice_get ys j d)
 
 module _ {T : Type 0} where
   closed_index : (hs : List (Shutting T)) (j : ℕ) (d : Shutting T) → j < length hs → closed_at hs j ≡ (slice_index_or hs j d).closed

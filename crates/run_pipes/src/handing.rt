@@ -54,8 +54,8 @@ impl<'a, T: Drop> EndMaker<T, Outlet<T>> for Waking<'a> {
     }
 }
 
-/// A worker's next ends, one of each pipe. Each notifies the event of its pipe's consumer, where each consumer has
-/// this number of pipes; none where there is no such event.
+/// A worker's next ends, one of each pipe. Each notifies the event of its pipe's consumer, where
+/// each consumer has this number of pipes; none where there is no such event.
 pub fn outlets<T: Drop>(
     alloc: Global,
     pipes: &mut Vec<Keeper<T>>,
@@ -78,7 +78,8 @@ pub fn outlets<T: Drop>(
     Ok(ends)
 }
 
-// Whether the pipe at this place is used: the low band's of a link, or the high band's of one with two.
+// Whether the pipe at this place is used: the low band's of a link, or the high band's of one with
+// two.
 pub(crate) fn is_used(shared: &Shared, at: usize) -> bool
     requires { at < 66 }
     ensures { result ≡ are_used shared.now.config at }
@@ -119,8 +120,8 @@ impl<'a, T: Drop> EndMaker<T, Shutter<T>> for Shutting<'a> {
     }
 }
 
-/// The controller's ends of the links' pipes, two of each link. Of a link with one band the high band's pipe is not
-/// used.
+/// The controller's ends of the links' pipes, two of each link. Of a link with one band the high
+/// band's pipe is not used.
 pub fn shutters<T: Drop>(
     alloc: Global,
     shared: &Shared,

@@ -43,8 +43,8 @@ fn capacity_at(shared: &Shared, at: usize) -> usize
     }
 }
 
-// The links' pipes, two of each, with processors, slow path and controller as their producers. The high
-// band's of a link with one band isn't used.
+// The links' pipes, two of each, with processors, slow path and controller as their producers. The
+// high band's of a link with one band isn't used.
 fn egress_pipes<N: RunBrand>(
     alloc: Global,
     shared: &Shared,
@@ -60,8 +60,8 @@ fn egress_pipes<N: RunBrand>(
     Ok(opened)
 }
 
-// The pipes of free buffers, one a link, with processors, slow path, forwarders and whoever fills them as
-// their producers.
+// The pipes of free buffers, one a link, with processors, slow path, forwarders and whoever fills
+// them as their producers.
 fn free_pipes(alloc: Global, shared: &Shared) -> Result<NewPipes<Buffer>, AllocError>
     ensures { IfOk result (λ n. AreNewPipes (λ _. shared.now.config.buffers) (shared.now.config.processors + 2 + link_count shared.now.config) (link_count shared.now.config) n.pipes.items n.takers.items) }
 {
@@ -100,8 +100,8 @@ pub struct Takers<N: RunBrand> {
     pub free_buffers: Vec<Consumer<Buffer>>,
 }
 
-/// The pipes of a router, by kinds. Before a run each worker gets the next of their ends, and after it they take
-/// these back, in the same order.
+/// The pipes of a router, by kinds. Before a run each worker gets the next of their ends, and after
+/// it they take these back, in the same order.
 #[derive(Drop)]
 pub struct Pipes<N: RunBrand> {
     /// Packets, from the receivers to the processors.
@@ -141,8 +141,8 @@ pub fn open_all<N: RunBrand>(
 }
 
 impl<N: RunBrand> Pipes<N> {
-    /// Settles the pipes, each with its consumer, once the workers have ended and their ends are back. It takes no
-    /// memory.
+    /// Settles the pipes, each with its consumer, once the workers have ended and their ends are
+    /// back. It takes no memory.
     pub fn settle(
         self,
         packet_takers: Vec<Consumer<Packet<N>>>,

@@ -18,9 +18,6 @@ module _ {X : Type 0} where
   pub none_left : (k n m : ℕ) (xs : List X) → n ≤ k → n ≡ m → k + length xs ≡ m → length xs ≡ 0
   none_left k n m xs all same left = omega arith
 
-  pub longer : (k : ℕ) (old new : List X) (x : X) → new ≡ old ++ x ∷ [] → length old ≡ k → length new ≡ k + 1
-  longer k old new x e long = let a = ap length e in let b = length-append old (x ∷ []) in omega arith
-
 module _ {X Y : Type 0} where
   -- as it begins
   pub started : (f : X → Y) (done : List Y) (xs ys : List X) → done ≡ [] → xs ≡ ys → done ++ map f xs ≡ map f ys

@@ -4,7 +4,7 @@ use Rattle.packet_ledger.specs.Share.{forwarded}
 use Rattle.router_stages.specs.Working.{Working}
 use Rattle.worker_parts.specs.Outlets.{senders}
 use Rattle.run_ends.proofs.ShuttingLemmas.{push_marks}
-use Rattle.run_report.proofs.PartLemmas.{longer}
+use Rattle.run_workers.proofs.Making.{pushed_long}
 use Rattle.run_report.proofs.PartedLemmas.{ends_as, grew, has_back, has_kept, has_marked, is_parted, le_as, none_long, only_one, shares_parted, slow_next, space_as}
 use Rattle.run_report.proofs.finishing.part_all.Goals as goal
 
@@ -103,7 +103,7 @@ part_forwarders-rear-requires-clause-shares g c =
     let space = space_as _ _ _ _ c.space.view_is c.requires.space in
     let first = grew _ _ _ _ _ _ c.part_receivers-front.ensures.shares.0 (none_long _ c.space.invariant.2) ends.receivers.1 in
     let second = grew _ _ _ _ _ _ c.part_processors-requests.ensures.shares.0 first ends.workers.1 in
-    let third = longer _ _ _ _ c.part_slow_path-rest.ensures.shares.0 second in
+    let third = pushed_long _ _ _ _ c.part_slow_path-rest.ensures.shares.0 second in
     let same = c.part_receivers-front.ensures.shares.1 in
     let still = c.part_processors-requests.ensures.shares.1 in
     let yet = c.part_slow_path-rest.ensures.shares.1 in

@@ -5,7 +5,8 @@ use Rattle.router_rules.specs.Rules.{kinds}
 use Rattle.router_stages.specs.Forwarding.{Forwarding}
 use Rattle.ruled_pipe.specs.Consumer.{Taker}
 use Rattle.run_report.specs.Crew.{takers_of}
-use Rattle.run_report.proofs.PartLemmas.{each_none, each_same, longer, none_left, started, same_after, grown, room_kept, fits_still}
+use Rattle.run_workers.proofs.Making.{pushed_long}
+use Rattle.run_report.proofs.PartLemmas.{each_none, each_same, none_left, started, same_after, grown, room_kept, fits_still}
 use Rattle.run_workers.proofs.RestLemmas.{all_done, each_back, shorter}
 use Rattle.run_report.proofs.parting.part_forwarders.Goals as goal
 
@@ -53,7 +54,7 @@ pub push_reserved-requires : goal.push_reserved-requires
 push_reserved-requires g c = let t = c.loop-k-test.true in let n = c.len-count.ensures in let o = c.args.forwarders.ok in let l = c.loop-k.invariant.left in let r = c.loop-k.invariant.taker_room in let a = r.0 in let b = r.1 in omega arith
 
 pub push_reserved-requires-in-loop-k : goal.push_reserved-requires-in-loop-k
-push_reserved-requires-in-loop-k g c = let t = c.loop-k-test.true in let n = c.len-count.ensures in let o = c.args.forwarders.ok in let l = c.loop-k.invariant.left in let r = c.loop-k.invariant.taker_room in let a = r.0 in let b = r.1 in let p = longer _ _ c.push_reserved.new.self.items _ c.push_reserved.ensures.items r.0 in let q = c.push_reserved.ensures.capacity in omega arith
+push_reserved-requires-in-loop-k g c = let t = c.loop-k-test.true in let n = c.len-count.ensures in let o = c.args.forwarders.ok in let l = c.loop-k.invariant.left in let r = c.loop-k.invariant.taker_room in let a = r.0 in let b = r.1 in let p = pushed_long _ _ c.push_reserved.new.self.items _ c.push_reserved.ensures.items r.0 in let q = c.push_reserved.ensures.capacity in omega arith
 
 pub push_reserved-requires-in-loop-k-2 : goal.push_reserved-requires-in-loop-k-2
 push_reserved-requires-in-loop-k-2 g c = let t = c.loop-k-test.true in let n = c.len-count.ensures in let o = c.args.forwarders.ok in let l = c.loop-k.invariant.left in let r = c.loop-k.invariant.sink_room in let a = r.0 in let b = r.1 in omega arith
@@ -84,9 +85,9 @@ loop-k-preserved g c =
       takers = takers_moved _ low.items takers.items _ _ _ _ _ _ is first.items second.items parts.1 parts.2 inv.takers;
       taker_room = (twice _ _ low.items takers.items _ _ first.items second.items inv.taker_room.0, fits_still _ _ (vec_capacity takers) (second.capacity ∙ first.capacity) inv.taker_room.1);
       sinks = grown _ _ sinks.items _ _ _ _ _ is wrote.items parts.0 inv.sinks;
-      sink_room = (longer _ _ sinks.items _ wrote.items inv.sink_room.0, fits_still _ _ (vec_capacity sinks) wrote.capacity inv.sink_room.1);
+      sink_room = (pushed_long _ _ sinks.items _ wrote.items inv.sink_room.0, fits_still _ _ (vec_capacity sinks) wrote.capacity inv.sink_room.1);
       sent = grown _ _ sent.items _ _ _ _ _ is counted.items (c.forwarded.ensures ∙ ap forwarded parts.4) inv.sent;
-      sent_room = (longer _ _ sent.items _ counted.items inv.sent_room.0, fits_still _ _ (vec_capacity sent) counted.capacity inv.sent_room.1);
+      sent_room = (pushed_long _ _ sent.items _ counted.items inv.sent_room.0, fits_still _ _ (vec_capacity sent) counted.capacity inv.sent_room.1);
       shares = grown _ _ shares.items _ _ _ _ _ is shared.items parts.4 inv.shares;
       share_room = room_kept _ shares.items _ _ _ _ _ (vec_capacity shares) shared.items is shared.capacity inv.share_room;
       laws = each_back _ _ _ _ _ is inv.laws c.into_parts-sink.ensures.law;

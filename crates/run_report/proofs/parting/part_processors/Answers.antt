@@ -13,7 +13,8 @@ use Rattle.run_pipes.specs.Pipes.{HaveAllBack}
 use Rattle.run_pipes.proofs.HandingLemmas.{never_closed}
 use Rattle.run_pipes.proofs.PipesLemmas.{request_next}
 use Rattle.run_ends.specs.Rows.{AreEndsOf}
-use Rattle.run_report.proofs.PartLemmas.{each_same, each_none, ends_as_next, longer, none_left, started, same_after, grown, room_kept, fits_still}
+use Rattle.run_workers.proofs.Making.{pushed_long}
+use Rattle.run_report.proofs.PartLemmas.{each_same, each_none, ends_as_next, none_left, started, same_after, grown, room_kept, fits_still}
 use Rattle.run_workers.proofs.RestLemmas.{all_done, all_next, each_back, shorter}
 use Rattle.run_report.proofs.parting.part_processors.Goals as goal
 
@@ -79,11 +80,11 @@ loop-k-preserved g c =
       ends = λ p all. (all_next (λ i w. AreEndsOf i p.egress_packets (senders w.side.links) × IsEndOf p.requests i w.slow.sender) at.k at.processors c.next-processor.new.self c.next-processor.result is (inv.ends p all)).1;
       back = (
         _,
-        longer _ ms.0 _ _ refl ms.1,
+        pushed_long _ ms.0 _ _ refl ms.1,
         grown _ ms.0 _ _ _ _ _ _ is refl asked ms.2,
         (
           _,
-          longer _ ls.0 _ _ refl ls.1,
+          pushed_long _ ls.0 _ _ refl ls.1,
           grown _ ls.0 _ _ _ _ _ _ is refl ends ls.2,
           (λ rs p back. let was = ls.3 rs p back in record {
             packets = was.packets;
@@ -93,7 +94,7 @@ loop-k-preserved g c =
         ),
       );
       takers = grown _ _ takers.items _ _ _ _ _ is took.items (c.into_consumer.ensures ∙ parts.0) inv.takers;
-      taker_room = (longer _ _ takers.items _ took.items inv.taker_room.0, fits_still _ _ (vec_capacity takers) took.capacity inv.taker_room.1);
+      taker_room = (pushed_long _ _ takers.items _ took.items inv.taker_room.0, fits_still _ _ (vec_capacity takers) took.capacity inv.taker_room.1);
       shares = grown _ _ shares.items _ _ _ _ _ is shared.items parts.4 inv.shares;
       share_room = (room_kept _ shares.items _ _ _ _ _ (vec_capacity shares) shared.items is shared.capacity inv.share_room.0, shared.capacity ∙ inv.share_room.1);
       laws = each_back _ _ _ _ _ is inv.laws (c.into_parts-from.ensures.law, subst (λ xs. NeverClosed xs) ends (never_closed _ c.take_back.ensures.told));

@@ -9,7 +9,8 @@ use Rattle.run_pipes.specs.Handing.{AreMarked, NeverClosed}
 use Rattle.run_pipes.specs.Pipes.{HaveAllBack}
 use Rattle.run_pipes.proofs.HandingLemmas.{never_closed}
 use Rattle.run_ends.specs.Rows.{AreEndsOf}
-use Rattle.run_report.proofs.PartLemmas.{each_same, each_none, ends_as_next, longer, none_left, started, same_after, grown, room_kept, fits_still}
+use Rattle.run_workers.proofs.Making.{pushed_long}
+use Rattle.run_report.proofs.PartLemmas.{each_same, each_none, ends_as_next, none_left, started, same_after, grown, room_kept, fits_still}
 use Rattle.run_workers.proofs.RestLemmas.{all_done, all_next, each_back, shorter}
 use Rattle.run_report.proofs.parting.part_receivers.Goals as goal
 
@@ -61,9 +62,9 @@ loop-k-preserved g c =
     record {
       left = shorter _ _ _ _ _ is inv.left;
       ends = λ p all. (all_next (λ a r. AreEndsOf a p.packets (senders r.side.processors)) at.k at.receivers c.next-receiver.new.self c.next-receiver.result is (inv.ends p all)).1;
-      back = (_, longer _ inv.back.0 _ _ refl inv.back.1, grown _ inv.back.0 _ _ _ _ _ _ is refl ends inv.back.2, λ p back. let was = inv.back.3 p back in record { packets = taken.back inv.back.0 p.packets was.packets; requests = was.requests; egress_packets = was.egress_packets });
+      back = (_, pushed_long _ inv.back.0 _ _ refl inv.back.1, grown _ inv.back.0 _ _ _ _ _ _ is refl ends inv.back.2, λ p back. let was = inv.back.3 p back in record { packets = taken.back inv.back.0 p.packets was.packets; requests = was.requests; egress_packets = was.egress_packets });
       sources = grown _ _ sources.items _ _ _ _ _ is read.items parts.0 inv.sources;
-      source_room = (longer _ _ sources.items _ read.items inv.source_room.0, fits_still _ _ (vec_capacity sources) read.capacity inv.source_room.1);
+      source_room = (pushed_long _ _ sources.items _ read.items inv.source_room.0, fits_still _ _ (vec_capacity sources) read.capacity inv.source_room.1);
       shares = grown _ _ shares.items _ _ _ _ _ is shared.items parts.3 inv.shares;
       share_room = (room_kept _ shares.items _ _ _ _ _ (vec_capacity shares) shared.items is shared.capacity inv.share_room.0, shared.capacity ∙ inv.share_room.1);
       laws = each_back _ _ _ _ _ is inv.laws (c.into_parts-source.ensures.law, subst (λ xs. NeverClosed xs) ends (never_closed _ taken.told));

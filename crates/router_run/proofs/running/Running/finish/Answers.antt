@@ -4,7 +4,6 @@ use Rattle.run_pipes.proofs.PipesLemmas.{none_are_all_back}
 use Rattle.router_run.proofs.Finish.{has_run, ready, run_as, settled, shares_count, the_slow}
 use Rattle.run_report.proofs.PartedLemmas.{own_ends, own_space}
 use Rattle.router_run.proofs.Crews.{crews_end}
-use Rattle.router_run.proofs.Devices.{without_devices}
 use Rattle.router_run.proofs.Sized.{has_ends}
 use Rattle.router_run.proofs.running.Running.finish.Goals as goal
 
@@ -13,33 +12,32 @@ join_workers-joined-requires g c = record { unmarked = c.self.invariant.1.unende
 
 pub part_all-takers-requires-clause-ends : goal.part_all-takers-requires-clause-ends
 part_all-takers-requires-clause-ends g c =
-    let back = without_devices g.S.Source.same g.K.Sink.same _ _ c.join_workers-joined.ensures in
-    (_, none_are_all_back _ _ _ _ c.self.invariant.2, own_ends _ _ _ _ (has_ends _ _ _ _ c.self.invariant.1 back))
+    let back = c.join_workers-joined.ensures in
+    (_, none_are_all_back _ _ _ _ c.self.invariant.2, own_ends _ _ _ _ (has_ends g.S.Source.same g.K.Sink.same _ _ _ _ c.self.invariant.1 back))
 
 pub part_all-takers-requires-clause-space : goal.part_all-takers-requires-clause-space
-part_all-takers-requires-clause-space g c = own_space _ _ _ _ _ (has_ends _ _ _ _ c.self.invariant.1 (without_devices g.S.Source.same g.K.Sink.same _ _ c.join_workers-joined.ensures)) c.self.invariant.3
+part_all-takers-requires-clause-space g c = own_space _ _ _ _ _ (has_ends g.S.Source.same g.K.Sink.same _ _ _ _ c.self.invariant.1 c.join_workers-joined.ensures) c.self.invariant.3
 
 pub settle-requires : goal.settle-requires
 settle-requires g c =
-    let back = without_devices g.S.Source.same g.K.Sink.same _ _ c.join_workers-joined.ensures in
-    let slow = the_slow _ _ _ _ (has_ends _ _ _ _ c.self.invariant.1 back) in
+    let back = c.join_workers-joined.ensures in
+    let slow = the_slow _ _ _ _ (has_ends g.S.Source.same g.K.Sink.same _ _ _ _ c.self.invariant.1 back) in
     let parted = c.part_all-takers.ensures in
-    let r = ready _ _ _ _ parted.takers _ slow.0 slow.1 (crews_end _ _ _ _ c.self.invariant.1 back parted.marks) in
+    let r = ready _ _ _ _ parted.takers _ slow.0 slow.1 (crews_end g.S.Source.same g.K.Sink.same _ _ _ _ c.self.invariant.1 back parted.marks) in
     (_, _, _, _, parted.back _ (none_are_all_back _ _ _ _ c.self.invariant.2), r.0, r.1, r.2)
 
 pub report_of-requires : goal.report_of-requires
 report_of-requires g c =
-    let ends = has_ends _ _ _ _ c.self.invariant.1 (without_devices g.S.Source.same g.K.Sink.same _ _ c.join_workers-joined.ensures) in
+    let ends = has_ends g.S.Source.same g.K.Sink.same _ _ _ _ c.self.invariant.1 c.join_workers-joined.ensures in
     ap length c.part_all-takers.ensures.shares ∙ (shares_count _ _ _ _ ends ∙ sym c.self.invariant.0)
 
 pub returns : goal.returns
 returns g c =
-    let came = c.join_workers-joined.ensures in
-    let back = without_devices g.S.Source.same g.K.Sink.same _ _ came in
-    let slow = the_slow _ _ _ _ (has_ends _ _ _ _ c.self.invariant.1 back) in
+    let back = c.join_workers-joined.ensures in
+    let slow = the_slow _ _ _ _ (has_ends g.S.Source.same g.K.Sink.same _ _ _ _ c.self.invariant.1 back) in
     let parted = c.part_all-takers.ensures in
     let report = c.report_of.ensures in
     let set = settled _ _ _ _ parted.takers _ slow.0 slow.1 (c.settle.ensures _ _ _ _ (parted.back _ (none_are_all_back _ _ _ _ c.self.invariant.2))) in
     run_as g.S.Source.told g.K.Sink.told g.K.Sink.failed g.S.Source.same g.K.Sink.same _ _ _ _ _ _ c.self.view_is
     (has_run g.S.Source.told g.K.Sink.told g.K.Sink.failed g.S.Source.same g.K.Sink.same (runs_as_told c.rules_are_lawful.ensures c.links_stand_in_order.ensures c.causes_are_apart.ensures)
-    _ _ slow.0 _ _ _ _ _ c.self.invariant.1 came parted.kept set slow.1 parted.shares report.totals (report.sent ∙ parted.sent) (report.sources ∙ parted.sources) (report.sinks ∙ parted.sinks))
+    _ _ slow.0 _ _ _ _ _ c.self.invariant.1 back parted.kept set slow.1 parted.shares report.totals (report.sent ∙ parted.sent) (report.sources ∙ parted.sources) (report.sinks ∙ parted.sinks))
