@@ -29,7 +29,8 @@ use Rattle.run_report.specs.Crew.{Crew, packet_rows, request_row, egress_rows}
 use Rattle.router_run.specs.Wiring.{IsCrew}
 use Rattle.run_pipes.specs.Piping.{Piping}
 use Rattle.run_pipes.specs.declared.pipes.Pipes.{Pipes}
-use Rattle.run_report.specs.Room.{HaveSpace, Space}
+use Rattle.run_report.specs.Room.{HaveSpace}
+use Rattle.run_report.specs.declared.space.Space.{Space}
 use Rattle.router_run.specs.Run.{RouterHasRun, Run}
 use Rattle.router_run.specs.BareWorkers.{AllMade}
 use Rattle.router_run.proofs.Came.{crews_return}
@@ -136,5 +137,5 @@ crew_as a b p w e is = subst (λ (c : Config). IsCrew c p w) (sym e) is
 pub all_made_as : {N : Type 0} (a b : Config) (p : Piping) (k : Pipes N) → a ≡ b → AllMade b p k → AllMade a p k
 all_made_as a b p k e made = subst (λ (c : Config). AllMade c p k) (sym e) made
 
-pub space_as : (a b : Config) (r : Space) → a ≡ b → HaveSpace (link_count b) b.processors r → HaveSpace (link_count a) a.processors r
+pub space_as : {N S K : Type 0} (a b : Config) (r : Space N S K) → a ≡ b → HaveSpace (link_count b) b.processors r → HaveSpace (link_count a) a.processors r
 space_as a b r e have = subst (λ (c : Config). HaveSpace (link_count c) c.processors r) (sym e) have

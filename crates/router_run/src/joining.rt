@@ -2,7 +2,7 @@
 
 ghost use Rattle.run_ends.specs.Shutting.{AreUnended, EachEnds};
 ghost use Rattle.router_run.specs.Back.{IsBack};
-ghost use Rattle.run_report.specs.Crew.{crew_of};
+ghost use Rattle.run_report.specs.Crew.{crew_in, crew_of};
 
 use crate::threads::Threaded;
 use packet_ledger::Book;
@@ -44,7 +44,7 @@ where
     G: Gate,
     R: Threads + Wait + Clock,
     requires unmarked { AreUnended controller.shutters.items }
-    ensures { IsBack S.same K.same (crew_of threads.receivers threads.processors threads.slow threads.forwarders controller.shutters.items) result }
+    ensures { IsBack S.same K.same (crew_of threads.receivers threads.processors threads.slow threads.forwarders controller.shutters.items) (crew_in result) }
 {
     let Threaded {
         receivers,

@@ -11,6 +11,7 @@ use Rattle.worker_parts.specs.Outlets.{senders}
 use Rattle.run_ends.specs.Shutting.{shutter_ends, Shutting}
 use Rattle.order_laws.specs.Item.{Outgoing, Arrival}
 use Rattle.ruled_pipe.specs.Producer.{Sender}
+use Rattle.run_report.specs.declared.joined.Joined.{Joined}
 
 -- the workers, and the controller's ends
 pub record Crew (S G K : Type 0) : Type 0 where
@@ -22,6 +23,10 @@ pub record Crew (S G K : Type 0) : Type 0 where
 
 abbrev pub crew_of : {S G K : Type 0} → List (Receiving S) → List (Working G) → List Answering → List (Forwarding K) → List (Shutting (Outgoing kinds)) → Crew S G K
 crew_of receivers processors slow forwarders shutters = record { receivers = receivers; processors = processors; slow = slow; forwarders = forwarders; shutters = shutters }
+
+-- those that came back
+abbrev pub crew_in : {N S K G : Type 0} → Joined N S K G → Crew S G K
+crew_in j = crew_of j.receivers.items j.processors.items j.slow.items j.forwarders.items j.shutters.items
 
 module _ {S G K : Type 0} where
   -- the workers' ends, by workers, and the consumers, by pipes

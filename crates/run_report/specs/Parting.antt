@@ -23,6 +23,15 @@ use Rattle.ruled_pipe.specs.Pipe.{IsEndOf}
 use Rattle.worker_parts.specs.Outlet.{IsMarked}
 use Rattle.packet_ledger.specs.Share.{Held}
 
+-- a receiver, or a processor, that kept its law, closed no pipe, and pushed an end mark only last; a receiver that ended did so quietly
+abbrev pub KeptReceiver : {S : Type 0} → (S → Option (List Heard)) → Receiving S → Type 0
+KeptReceiver told r =
+    (IsReceiving r.side.config r.side.link r.side.interface r.number (told r.source) r.side.stock.free.looks (senders r.side.processors) r.side.share × NeverClosed (senders r.side.processors))
+    × AreMarked r.side.processors × (r.ended ≡ true → EndsQuietly r.number (told r.source))
+
+abbrev pub KeptProcessor : {G : Type 0} → Working G → Type 0
+KeptProcessor w = (IsWorking w.side.config w.taker w.hand (senders w.side.links) w.slow.sender w.side.share × NeverClosed (senders w.side.links)) × AreMarked w.side.links × IsMarked w.slow.sender w.slow.ended
+
 -- How many workers of each kind there are, and that each has its ends of these pipes.
 pub record HasEnds {S G K : Type 0} (p : Piping) (links processors : ℕ) (w : Crew S G K) : Type 0 where
   pub receivers : AllAt (λ a (r : Receiving S). AreEndsOf a p.packets (senders r.side.processors)) 0 w.receivers × (length w.receivers ≡ links)

@@ -1,11 +1,11 @@
 //! The end of a run, once its workers came back: they are taken apart, and the counts summed up.
 
-ghost use Rattle.std.specs.Prelude.{◌≡◌, [], map, length};
+ghost use Rattle.std.specs.Prelude.{◌≡◌, ℕ, [], map, length};
 ghost use Rattle.packet_ledger.specs.Share.{forwarded};
 ghost use Rattle.worker_order.specs.Totals.{totals_of};
 ghost use Rattle.run_pipes.specs.Piping.{Piping};
 ghost use Rattle.run_pipes.specs.Pipes.{HaveAllBack};
-ghost use Rattle.run_report.specs.Crew.{packet_rows, request_row, egress_rows};
+ghost use Rattle.run_report.specs.Crew.{crew_in, packet_rows, request_row, egress_rows};
 ghost use Rattle.run_report.specs.Parting.{HasEnds, HasKept, HasMarked, IsParted, shares_in};
 ghost use Rattle.run_report.specs.Room.{HaveSpace};
 
@@ -61,16 +61,15 @@ where
     S: Source,
     K: Sink,
     G: Gate + Drop,
-    requires ends { (p : Piping) × HaveAllBack [] [] [] p pipes.old × HasEnds p (length joined.receivers) (length joined.processors) joined }
-    requires space { HaveSpace (length joined.receivers) (length joined.processors) space }
-    ensures back { (p : Piping) → HaveAllBack [] [] [] p pipes.old → HaveAllBack (packet_rows joined) (request_row joined) (egress_rows joined) p pipes.new }
-    ensures takers { IsParted joined result.0.packets.items result.0.requests result.0.egress_packets.items }
-    ensures marks { HasMarked joined }
-    ensures kept { HasKept S.told K.told K.failed joined }
-    ensures shares { result.1.shares.items ≡ shares_in joined }
-    ensures sent { result.1.sent.items ≡ map (λ f. forwarded f.side.share) joined.forwarders }
-    ensures sources { result.1.sources.items ≡ map (λ r. r.source) joined.receivers }
-    ensures sinks { result.1.sinks.items ≡ map (λ f. f.side.sink) joined.forwarders }
+    requires { (p : Piping) × (links : ℕ) × (processors : ℕ) × HaveAllBack [] [] [] p pipes.old × HasEnds p links processors (crew_in joined) × HaveSpace links processors space }
+    ensures back { (p : Piping) → HaveAllBack [] [] [] p pipes.old → HaveAllBack (packet_rows (crew_in joined)) (request_row (crew_in joined)) (egress_rows (crew_in joined)) p pipes.new }
+    ensures takers { IsParted (crew_in joined) result.0.packets.items result.0.requests result.0.egress_packets.items }
+    ensures marks { HasMarked (crew_in joined) }
+    ensures kept { HasKept S.told K.told K.failed (crew_in joined) }
+    ensures shares { result.1.shares.items ≡ shares_in (crew_in joined) }
+    ensures sent { result.1.sent.items ≡ map (λ f. forwarded f.side.share) joined.forwarders.items }
+    ensures sources { result.1.sources.items ≡ map (λ r. r.source) joined.receivers.items }
+    ensures sinks { result.1.sinks.items ≡ map (λ f. f.side.sink) joined.forwarders.items }
 {
     let Joined {
         receivers,

@@ -1,13 +1,11 @@
 //! Workers that came back, taken apart: the pipes take back their ends.
 
-ghost use Rattle.std.specs.Prelude.{◌≡◌, ◌≤◌, ◌<◌, ◌+◌, ◌*◌, ◌++◌, ◌∷◌, ℕ, List, [], length, map, true, vec_capacity};
+ghost use Rattle.std.specs.Prelude.{◌≡◌, ◌≤◌, ◌<◌, ◌+◌, ◌*◌, ◌++◌, ◌∷◌, ℕ, List, [], length, map, vec_capacity};
 ghost use Rattle.packet_ledger.specs.Share.{forwarded};
 ghost use Rattle.order_laws.specs.Deeds.{Each};
 ghost use Rattle.ruled_pipe.specs.Pipe.{IsEndOf, Shape};
-ghost use Rattle.worker_order.specs.Keeping.{IsAnswering, IsForwarding, IsReceiving, IsWorking};
+ghost use Rattle.worker_order.specs.Keeping.{IsAnswering, IsForwarding};
 ghost use Rattle.worker_order.specs.Returned.{AllAt};
-ghost use Rattle.router_stages.specs.Receiving.{EndsQuietly};
-ghost use Rattle.worker_parts.specs.Outlet.{IsMarked};
 ghost use Rattle.worker_parts.specs.Outlets.{senders};
 ghost use Rattle.worker_parts.specs.Told.{told_of};
 ghost use Rattle.run_pipes.specs.Handing.{AreMarked, NeverClosed};
@@ -17,6 +15,7 @@ ghost use Rattle.run_ends.specs.Rows.{AreEndsOf};
 ghost use Rattle.run_ends.specs.Shutting.{AreMarking, shutter_ends};
 ghost use Rattle.run_ends.specs.TakenBack.{HaveBack};
 ghost use Rattle.run_report.specs.Crew.{takers_of};
+ghost use Rattle.run_report.specs.Parting.{KeptProcessor, KeptReceiver};
 
 use packet_ledger::Share;
 use router_stages::{
@@ -48,9 +47,7 @@ pub fn part_receivers<N: RunBrand, S: Source>(
     ensures back { (p : Piping) → HaveAllBack [] [] [] p pipes.old → HaveAllBack (map (λ r. senders r.side.processors) receivers.items) [] [] p pipes.new }
     ensures sources { result.sources.items ≡ map (λ r. r.source) receivers.items }
     ensures shares { (result.shares.items ≡ shares.items ++ map (λ r. r.side.share) receivers.items) × (vec_capacity result.shares ≡ vec_capacity shares) }
-    ensures laws { Each (λ r. IsReceiving r.side.config r.side.link r.side.interface r.number (S.told r.source) r.side.stock.free.looks (senders r.side.processors) r.side.share × NeverClosed (senders r.side.processors)) receivers.items }
-    ensures marks { Each (λ r. AreMarked r.side.processors) receivers.items }
-    ensures quiet { Each (λ r. r.ended ≡ true → EndsQuietly r.number (S.told r.source)) receivers.items }
+    ensures kept { Each (λ r. KeptReceiver S.told r) receivers.items }
 {
     let mut sources = sources;
     let mut shares = shares;
@@ -92,8 +89,7 @@ pub fn part_processors<N: RunBrand, G: Gate + Drop>(
     ensures back { (rs : ReceiverRows) (p : Piping) → HaveAllBack rs [] [] p pipes.old → HaveAllBack rs (map (λ w. w.slow.sender) processors.items) (map (λ w. senders w.side.links) processors.items) p pipes.new }
     ensures takers { result.takers.items ≡ map (λ w. w.taker) processors.items }
     ensures shares { (result.shares.items ≡ shares.items ++ map (λ w. w.side.share) processors.items) × (vec_capacity result.shares ≡ vec_capacity shares) }
-    ensures laws { Each (λ w. IsWorking w.side.config w.taker w.hand (senders w.side.links) w.slow.sender w.side.share × NeverClosed (senders w.side.links)) processors.items }
-    ensures marks { Each (λ w. AreMarked w.side.links × IsMarked w.slow.sender w.slow.ended) processors.items }
+    ensures kept { Each (λ w. KeptProcessor w) processors.items }
 {
     let mut takers = takers;
     let mut shares = shares;

@@ -1,12 +1,11 @@
 //! Room for what comes back with the workers, taken before the first thread is made.
 
-ghost use Rattle.std.specs.Prelude.{◌≡◌, ◌≤◌, ◌+◌, ◌*◌, IfOk, [], length, vec_capacity};
+ghost use Rattle.std.specs.Prelude.{◌≤◌, IfOk};
 ghost use Rattle.run_report.specs.Room.{HaveSpace};
 
 use packet_ledger::Share;
 use ruled_pipe::Consumer;
 use std::alloc::{AllocError, Global};
-use std::marker::Model;
 use worker_parts::{EgressPacket, Packet, RunBrand};
 
 /// Room for the consumers of the processors' and the links' pipes, for the shares, for what each link sent, and
@@ -19,17 +18,6 @@ pub struct Space<N: RunBrand, S, K> {
     pub sent: Vec<u128>,
     pub sources: Vec<S>,
     pub sinks: Vec<K>,
-}
-
-impl<N: RunBrand, S, K> Model for Space<N, S, K> {
-    ghost use Rattle.std.specs.Prelude.{◌≡◌, [], vec_capacity};
-    ghost use Rattle.run_report.specs.Room.{Space as Seen};
-
-    ghost Value = { Seen };
-
-    ghost view = { λ r. record { packets = vec_capacity r.packets; egress_packets = vec_capacity r.egress_packets; shares = vec_capacity r.shares; sent = vec_capacity r.sent; sources = vec_capacity r.sources; sinks = vec_capacity r.sinks } };
-
-    ghost invariant = { λ r. (r.packets.items ≡ []) × (r.egress_packets.items ≡ []) × (r.shares.items ≡ []) × (r.sent.items ≡ []) × (r.sources.items ≡ []) × (r.sinks.items ≡ []) };
 }
 
 /// Room for what comes back of a router with these numbers of links and processors.

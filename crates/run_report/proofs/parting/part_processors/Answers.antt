@@ -29,8 +29,7 @@ loop-k-init g c =
       taker_room = (ap length c.requires.takers.0, c.requires.takers.1);
       shares = same_after _ _ _ _ e;
       share_room = (let a = ap length e in let r = c.requires.shares in omega arith, refl);
-      laws = λ all. each_same _ _ _ (sym e) all;
-      marks = λ all. each_same _ _ _ (sym e) all;
+      kept = λ all. each_same _ _ _ (sym e) all;
     }
 
 pub next-processor-requires : goal.next-processor-requires
@@ -97,8 +96,7 @@ loop-k-preserved g c =
       taker_room = (pushed_long _ _ takers.items _ took.items inv.taker_room.0, fits_still _ _ (vec_capacity takers) took.capacity inv.taker_room.1);
       shares = grown _ _ shares.items _ _ _ _ _ is shared.items parts.4 inv.shares;
       share_room = (room_kept _ shares.items _ _ _ _ _ (vec_capacity shares) shared.items is shared.capacity inv.share_room.0, shared.capacity ∙ inv.share_room.1);
-      laws = each_back _ _ _ _ _ is inv.laws (c.into_parts-from.ensures.law, subst (λ xs. NeverClosed xs) ends (never_closed _ c.take_back.ensures.told));
-      marks = each_back _ _ _ _ _ is inv.marks (subst (λ xs. AreMarked xs) parts.1 c.take_back.ensures.told, subst (λ (o : Offering _). IsMarked o.sender o.ended) parts.2 (subst (λ (s : Sender _). IsMarked s c.into_parts-from.result.2.ended) c.into_producer.ensures.same c.into_producer.ensures.marks));
+      kept = each_back _ _ _ _ _ is inv.kept ((c.into_parts-from.ensures.law, subst (λ xs. NeverClosed xs) ends (never_closed _ c.take_back.ensures.told)), subst (λ xs. AreMarked xs) parts.1 c.take_back.ensures.told, subst (λ (o : Offering _). IsMarked o.sender o.ended) parts.2 (subst (λ (s : Sender _). IsMarked s c.into_parts-from.result.2.ended) c.into_producer.ensures.same c.into_producer.ensures.marks));
     }
 
 pub destroy_empty-requires : goal.destroy_empty-requires
@@ -119,8 +117,5 @@ returns-clause-takers g c = all_done _ _ _ _ (none_left _ _ _ _ c.loop-k-test.fa
 pub returns-clause-shares : goal.returns-clause-shares
 returns-clause-shares g c = (all_done _ _ _ _ (none_left _ _ _ _ c.loop-k-test.false (c.len-count.ensures ∙ c.args.processors.ok.0) c.loop-k.invariant.left) c.loop-k.invariant.shares, c.loop-k.invariant.share_room.1)
 
-pub returns-clause-laws : goal.returns-clause-laws
-returns-clause-laws g c = c.loop-k.invariant.laws (each_none _ _ (none_left _ _ _ _ c.loop-k-test.false (c.len-count.ensures ∙ c.args.processors.ok.0) c.loop-k.invariant.left))
-
-pub returns-clause-marks : goal.returns-clause-marks
-returns-clause-marks g c = c.loop-k.invariant.marks (each_none _ _ (none_left _ _ _ _ c.loop-k-test.false (c.len-count.ensures ∙ c.args.processors.ok.0) c.loop-k.invariant.left))
+pub returns-clause-kept : goal.returns-clause-kept
+returns-clause-kept g c = c.loop-k.invariant.kept (each_none _ _ (none_left _ _ _ _ c.loop-k-test.false (c.len-count.ensures ∙ c.args.processors.ok.0) c.loop-k.invariant.left))

@@ -4,15 +4,13 @@ use Rattle.order_laws.specs.Item.{Arrival, Outgoing}
 use Rattle.order_laws.specs.Settled.{SlowPathRequest}
 use Rattle.ruled_pipe.specs.Pipe.{IsEndOf}
 use Rattle.ruled_pipe.specs.Producer.{Sender}
-use Rattle.worker_order.specs.Keeping.{IsWorking}
 use Rattle.worker_order.specs.Returned.{AllAt}
 use Rattle.router_rules.specs.Rules.{kinds}
-use Rattle.worker_parts.specs.Outlet.{IsMarked}
 use Rattle.worker_parts.specs.Outlets.{senders}
-use Rattle.run_pipes.specs.Handing.{AreMarked, NeverClosed}
 use Rattle.run_pipes.specs.Piping.{Piping}
 use Rattle.run_pipes.specs.Pipes.{HaveAllBack}
 use Rattle.run_ends.specs.Rows.{AreEndsOf}
+use Rattle.run_report.specs.Parting.{KeptProcessor}
 use Rattle.run_report.proofs.parting.part_processors.Given as goal
 
 abbrev pub invariant-loop-k : goal.invariant-loop-k
@@ -26,7 +24,5 @@ invariant-loop-k g l = record {
   taker_room : (length l.takers.items ≡ l.k) × (length l.fn.processors.items ≤ vec_capacity l.takers);
   shares : l.shares.items ++ map (λ w. w.side.share) l.processors ≡ l.fn.shares.items ++ map (λ w. w.side.share) l.fn.processors.items;
   share_room : (length l.shares.items + length l.processors ≤ vec_capacity l.shares) × (vec_capacity l.shares ≡ vec_capacity l.fn.shares);
-  laws : Each (λ w. IsWorking w.side.config w.taker w.hand (senders w.side.links) w.slow.sender w.side.share × NeverClosed (senders w.side.links)) l.processors
-      → Each (λ w. IsWorking w.side.config w.taker w.hand (senders w.side.links) w.slow.sender w.side.share × NeverClosed (senders w.side.links)) l.fn.processors.items;
-  marks : Each (λ w. AreMarked w.side.links × IsMarked w.slow.sender w.slow.ended) l.processors → Each (λ w. AreMarked w.side.links × IsMarked w.slow.sender w.slow.ended) l.fn.processors.items;
+  kept : Each (λ w. KeptProcessor w) l.processors → Each (λ w. KeptProcessor w) l.fn.processors.items;
 }

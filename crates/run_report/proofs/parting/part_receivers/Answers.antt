@@ -25,9 +25,7 @@ loop-k-init g c =
       source_room = (ap length c.requires.sources.0, c.requires.sources.1);
       shares = same_after _ _ _ _ e;
       share_room = (let a = ap length e in let r = c.requires.shares in omega arith, refl);
-      laws = λ all. each_same _ _ _ (sym e) all;
-      quiet = λ all. each_same _ _ _ (sym e) all;
-      marks = λ all. each_same _ _ _ (sym e) all;
+      kept = λ all. each_same _ _ _ (sym e) all;
     }
 
 pub next-receiver-requires : goal.next-receiver-requires
@@ -67,9 +65,7 @@ loop-k-preserved g c =
       source_room = (pushed_long _ _ sources.items _ read.items inv.source_room.0, fits_still _ _ (vec_capacity sources) read.capacity inv.source_room.1);
       shares = grown _ _ shares.items _ _ _ _ _ is shared.items parts.3 inv.shares;
       share_room = (room_kept _ shares.items _ _ _ _ _ (vec_capacity shares) shared.items is shared.capacity inv.share_room.0, shared.capacity ∙ inv.share_room.1);
-      laws = each_back _ _ _ _ _ is inv.laws (c.into_parts-source.ensures.law, subst (λ xs. NeverClosed xs) ends (never_closed _ taken.told));
-      quiet = each_back _ _ _ _ _ is inv.quiet c.into_parts-source.ensures.quiet;
-      marks = each_back _ _ _ _ _ is inv.marks (subst (λ xs. AreMarked xs) parts.1 taken.told);
+      kept = each_back _ _ _ _ _ is inv.kept ((c.into_parts-source.ensures.law, subst (λ xs. NeverClosed xs) ends (never_closed _ taken.told)), subst (λ xs. AreMarked xs) parts.1 taken.told, c.into_parts-source.ensures.quiet);
     }
 
 pub destroy_empty-requires : goal.destroy_empty-requires
@@ -88,11 +84,5 @@ returns-clause-sources g c = all_done _ _ _ _ (none_left _ _ _ _ c.loop-k-test.f
 pub returns-clause-shares : goal.returns-clause-shares
 returns-clause-shares g c = (all_done _ _ _ _ (none_left _ _ _ _ c.loop-k-test.false (c.len-count.ensures ∙ c.args.receivers.ok.0) c.loop-k.invariant.left) c.loop-k.invariant.shares, c.loop-k.invariant.share_room.1)
 
-pub returns-clause-laws : goal.returns-clause-laws
-returns-clause-laws g c = c.loop-k.invariant.laws (each_none _ _ (none_left _ _ _ _ c.loop-k-test.false (c.len-count.ensures ∙ c.args.receivers.ok.0) c.loop-k.invariant.left))
-
-pub returns-clause-quiet : goal.returns-clause-quiet
-returns-clause-quiet g c = c.loop-k.invariant.quiet (each_none _ _ (none_left _ _ _ _ c.loop-k-test.false (c.len-count.ensures ∙ c.args.receivers.ok.0) c.loop-k.invariant.left))
-
-pub returns-clause-marks : goal.returns-clause-marks
-returns-clause-marks g c = c.loop-k.invariant.marks (each_none _ _ (none_left _ _ _ _ c.loop-k-test.false (c.len-count.ensures ∙ c.args.receivers.ok.0) c.loop-k.invariant.left))
+pub returns-clause-kept : goal.returns-clause-kept
+returns-clause-kept g c = c.loop-k.invariant.kept (each_none _ _ (none_left _ _ _ _ c.loop-k-test.false (c.len-count.ensures ∙ c.args.receivers.ok.0) c.loop-k.invariant.left))

@@ -1,16 +1,14 @@
-use Rattle.std.proofs.Common.{◌≡◌, ◌+◌, ◌++◌, ◌≤◌, [], List, length, map, true, vec_capacity}
+use Rattle.std.proofs.Common.{◌≡◌, ◌+◌, ◌++◌, ◌≤◌, [], List, length, map, vec_capacity}
 use Rattle.order_laws.specs.Deeds.{Each}
 use Rattle.order_laws.specs.Item.{Arrival}
 use Rattle.ruled_pipe.specs.Producer.{Sender}
-use Rattle.worker_order.specs.Keeping.{IsReceiving}
 use Rattle.worker_order.specs.Returned.{AllAt}
 use Rattle.router_rules.specs.Rules.{kinds}
-use Rattle.router_stages.specs.Receiving.{EndsQuietly}
 use Rattle.worker_parts.specs.Outlets.{senders}
-use Rattle.run_pipes.specs.Handing.{AreMarked, NeverClosed}
 use Rattle.run_pipes.specs.Piping.{Piping}
 use Rattle.run_pipes.specs.Pipes.{HaveAllBack}
 use Rattle.run_ends.specs.Rows.{AreEndsOf}
+use Rattle.run_report.specs.Parting.{KeptReceiver}
 use Rattle.run_report.proofs.parting.part_receivers.Given as goal
 
 abbrev pub invariant-loop-k : goal.invariant-loop-k
@@ -22,8 +20,5 @@ invariant-loop-k g l = record {
   source_room : (length l.sources.items ≡ l.k) × (length l.fn.receivers.items ≤ vec_capacity l.sources);
   shares : l.shares.items ++ map (λ r. r.side.share) l.receivers ≡ l.fn.shares.items ++ map (λ r. r.side.share) l.fn.receivers.items;
   share_room : (length l.shares.items + length l.receivers ≤ vec_capacity l.shares) × (vec_capacity l.shares ≡ vec_capacity l.fn.shares);
-  laws : Each (λ r. IsReceiving r.side.config r.side.link r.side.interface r.number (g.S.Source.told r.source) r.side.stock.free.looks (senders r.side.processors) r.side.share × NeverClosed (senders r.side.processors)) l.receivers
-      → Each (λ r. IsReceiving r.side.config r.side.link r.side.interface r.number (g.S.Source.told r.source) r.side.stock.free.looks (senders r.side.processors) r.side.share × NeverClosed (senders r.side.processors)) l.fn.receivers.items;
-  quiet : Each (λ r. r.ended ≡ true → EndsQuietly r.number (g.S.Source.told r.source)) l.receivers → Each (λ r. r.ended ≡ true → EndsQuietly r.number (g.S.Source.told r.source)) l.fn.receivers.items;
-  marks : Each (λ r. AreMarked r.side.processors) l.receivers → Each (λ r. AreMarked r.side.processors) l.fn.receivers.items;
+  kept : Each (λ r. KeptReceiver g.S.Source.told r) l.receivers → Each (λ r. KeptReceiver g.S.Source.told r) l.fn.receivers.items;
 }

@@ -2,7 +2,6 @@ use Rattle.std.proofs.Common.{length, sym, ◌∙◌, ap}
 use Rattle.worker_order.proofs.Returned.{runs_as_told}
 use Rattle.run_pipes.proofs.PipesLemmas.{none_are_all_back}
 use Rattle.router_run.proofs.Finish.{has_run, ready, run_as, settled, shares_count, the_slow}
-use Rattle.run_report.proofs.PartedLemmas.{own_ends, own_space}
 use Rattle.router_run.proofs.Crews.{crews_end}
 use Rattle.router_run.proofs.Sized.{has_ends}
 use Rattle.router_run.proofs.running.Running.finish.Goals as goal
@@ -10,13 +9,10 @@ use Rattle.router_run.proofs.running.Running.finish.Goals as goal
 pub join_workers-joined-requires : goal.join_workers-joined-requires
 join_workers-joined-requires g c = record { unmarked = c.self.invariant.1.unended }
 
-pub part_all-takers-requires-clause-ends : goal.part_all-takers-requires-clause-ends
-part_all-takers-requires-clause-ends g c =
-    let back = c.join_workers-joined.ensures in
-    (_, none_are_all_back _ _ _ _ c.self.invariant.2, own_ends _ _ _ _ (has_ends g.S.Source.same g.K.Sink.same _ _ _ _ c.self.invariant.1 back))
-
-pub part_all-takers-requires-clause-space : goal.part_all-takers-requires-clause-space
-part_all-takers-requires-clause-space g c = own_space _ _ _ _ _ (has_ends g.S.Source.same g.K.Sink.same _ _ _ _ c.self.invariant.1 c.join_workers-joined.ensures) c.self.invariant.3
+pub part_all-takers-requires : goal.part_all-takers-requires
+part_all-takers-requires g c =
+    let ends = has_ends g.S.Source.same g.K.Sink.same _ _ _ _ c.self.invariant.1 c.join_workers-joined.ensures in
+    (_, _, _, none_are_all_back _ _ _ _ c.self.invariant.2, ends, c.self.invariant.3)
 
 pub settle-requires : goal.settle-requires
 settle-requires g c =
