@@ -1,0 +1,109 @@
+//! One request and its response, over any reader and writer.
+
+ghost use Rattle.std.specs.Prelude.{◌≡◌, ◌≤◌, ℕ, List, Option, IfSome, OnOk, length, take};
+ghost use Rattle.std.specs.Io.KnownBytes.{Consumes};
+ghost use Rattle.metrics_server.specs.Exchange.{Heard, Prepares, Tells};
+
+use crate::page::Page;
+use crate::request::{Asked, request_of};
+use crate::response::push_response;
+use std::alloc::{AllocError, Global};
+use std::io::{Read, Write};
+use std::marker::Model;
+
+/// The longest head of a request that is read, in bytes.
+pub const REQUEST_MOST: usize = 8192;
+
+/// Memory for one exchange, which the next one uses again: a request's bytes, the page, and the
+/// response. Contracts see the response.
+#[derive(Drop)]
+pub struct Room {
+    request: Vec<u8>,
+    page: Vec<u8>,
+    response: Vec<u8>,
+}
+
+impl Model for Room {
+    ghost use Rattle.std.specs.Prelude.{◌≡◌, ℕ, List, length};
+
+    ghost Value = { List ℕ };
+
+    ghost view = { λ room. room.response.items };
+
+    ghost invariant = { λ room. length room.request.items ≡ 8192 };
+}
+
+impl Room {
+    /// Room for a request of 8,192 bytes. At `Err` no memory was left.
+    pub fn new(alloc: Global) -> Result<Room, AllocError> {
+        Ok(Room {
+            request: vec![in alloc; 0; REQUEST_MOST]?,
+            page: Vec::new(alloc),
+            response: Vec::new(alloc),
+        })
+    }
+}
+
+// Reads some bytes into a buffer, behind those that were read before. How many are there then; none
+// where the reader ends or fails, or has no room.
+fn read_more<I: Read>(reader: &mut I, buffer: &mut [u8], len: usize) -> Option<usize>
+    requires { len ≤ length buffer.old }
+    ensures same { length buffer.new ≡ length buffer.old }
+    ensures within { IfSome result (λ more. more ≤ length buffer.new) }
+    ensures bytes { IfSome result (λ more. (input : Option (List ℕ)) → Consumes input (I.remaining reader.old) (take len buffer.old)
+        → Consumes input (I.remaining reader.new) (take more buffer.new)) }
+{
+    match reader.read(&mut buffer[len..]) {
+        Ok(0) | Err(_) => None,
+        Ok(count) => Some(len + count),
+    }
+}
+
+// Reads until what came is a request, or none can come of it: where the reader ends or fails, or
+// gives more than the buffer holds.
+fn read_request<I: Read>(reader: &mut I, buffer: &mut [u8]) -> Asked
+    ensures heard { IfSome (I.remaining reader.old) (λ input. Heard (length buffer.old) input result) }
+    ensures same { length buffer.new ≡ length buffer.old }
+{
+    let mut len = 0;
+    for _ in 0..buffer.len() {
+        match read_more(reader, buffer, len) {
+            Some(more) => len = more,
+            None => return Asked::Unreadable,
+        }
+        let so_far = request_of(&buffer[..len]);
+        if so_far != Asked::Unfinished {
+            return so_far;
+        }
+    }
+    Asked::Unreadable
+}
+
+// The response to what was asked for, in the room's response.
+fn prepare<P: Page>(asked: Asked, page: &mut P, room: &mut Room) -> Result<(), AllocError>
+    ensures { OnOk result (Prepares P.shows asked page.old page.new room.new) }
+{
+    room.page.clear();
+    room.response.clear();
+    if asked == Asked::Metrics {
+        page.push(&mut room.page)?;
+    }
+    push_response(&mut room.response, asked, room.page.as_slice())
+}
+
+/// Reads one request from the reader and answers it by the writer, and tells what was asked for.
+/// `None` where it isn't answered, or not to the end: no memory was left, or the writer failed.
+pub fn answer_one<I: Read, O: Write, P: Page>(
+    reader: &mut I,
+    writer: &mut O,
+    page: &mut P,
+    room: &mut Room,
+) -> Option<Asked>
+    ensures heard { IfSome (I.remaining reader.old) (λ input. IfSome result (Heard 8192 input)) }
+    ensures told { IfSome result (λ asked. Tells P.shows asked page.old page.new (O.contents writer.old) (O.contents writer.new)) }
+{
+    let asked = read_request(reader, room.request.as_mut_slice());
+    prepare(asked, page, room).ok()?;
+    writer.write_all(room.response.as_slice()).ok()?;
+    Some(asked)
+}
