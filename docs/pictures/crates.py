@@ -25,7 +25,7 @@ LAYERS = [
     ("workers", "#f8dcd3", "worker_parts worker_receiver worker_forwarder router_stages"),
     ("threads, and the run", "#f8dcd3", "run_ends run_pipes worker_threads run_workers run_report router_run"),
     ("sockets", "#f8dcd3", "udp_devices"),
-    ("text and commands", "#e6def0", "text_values metrics_text metrics_server router_config config_warnings net_check cli_io cli_route cli_replay cli_run udp_router cli_words cli_faults cli_check router_program"),
+    ("text and commands", "#e6def0", "text_values metrics_text metrics_server counts_page router_config config_warnings net_check cli_io cli_route cli_replay cli_run udp_router cli_words cli_faults cli_check router_program"),
 ]
 LEFT_OUT = {"path_trial", "path_probe", "try_net", "key_derivation"}
 
