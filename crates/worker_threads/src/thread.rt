@@ -5,6 +5,7 @@ ghost use Rattle.std.specs.Prelude.{◌≡◌, IfOk, IfSome, true};
 use crate::idle::{Idle, nap};
 use crate::pace::Pace;
 use crate::thread_control::ThreadControl;
+use crossbeam_utils::sync::Key;
 use std::snapshot::Snapshot;
 use std::sync::Wait;
 use std::sync::atomic::{AtomicU64, Ordering};
@@ -63,6 +64,44 @@ fn attempt<B, W: Turns<B>, R: Wait>(rt: &R, worker: &mut W, book: &B, pace: &mut
     turn
 }
 
+// Whoever looks at the book while a worker sleeps is to see all that it counted: so the three ways
+// to sleep ask for a worker that has posted.
+
+// A nap in which items gather.
+fn nap_posted<B, W: Turns<B>, R: Clock>(rt: &R, worker: &W)
+    requires { W.is_drained worker.now }
+{
+    let _ = worker;
+    nap(rt);
+}
+
+// Waits in the worker's own way. Whether it did.
+fn wait_posted<B, W: Turns<B>>(worker: &mut W) -> bool
+    requires { W.is_drained worker.old }
+    ensures { W.same worker.old worker.new }
+{
+    worker.wait()
+}
+
+// Waits in the worker's own way, and else rests.
+fn rest_posted<B, W: Turns<B>, R: Clock>(rt: &R, worker: &mut W, pace: &mut Pace)
+    requires { W.is_drained worker.old }
+    ensures { W.same worker.old worker.new }
+{
+    if !wait_posted(worker) {
+        pace.rest(rt);
+    }
+}
+
+// Sleeps until there is a push, where only one can end the worker's quiet.
+fn sleep_posted<B, W: Turns<B>, R: Wait>(rt: &R, worker: &W, key: Key<'_>)
+    requires { W.is_drained worker.now }
+{
+    if worker.awaits_push() {
+        key.wait(rt);
+    }
+}
+
 // Sleeps until there is a push. Since one may have come before the sleep was announced, there is a turn
 // between, and only where a push is still what ends its quiet it sleeps: the turn may have taken what a
 // gate holds back. Whether the worker has ended.
@@ -80,9 +119,8 @@ fn sleep_on<B, W: Turns<B>, R: Wait>(
     match attempt(rt, worker, book, pace) {
         Turn::Did => false,
         Turn::Quiet => {
-            if worker.awaits_push() {
-                key.wait(rt);
-            }
+            worker.post(rt, book);
+            sleep_posted(rt, worker, key);
             false
         }
         Turn::Ended => true,
@@ -100,7 +138,8 @@ fn pause<B, W: Turns<B>, R: Wait + Clock>(
     ensures ended { result ≡ true → W.has_ended worker.new × W.is_drained worker.new }
 {
     if pace.gathers() {
-        nap(rt);
+        worker.post(rt, &control.book);
+        nap_posted(rt, worker);
         return false;
     }
     if worker.awaits_push() {
@@ -108,9 +147,8 @@ fn pause<B, W: Turns<B>, R: Wait + Clock>(
             return sleep_on(rt, worker, &control.book, pace, event);
         }
     }
-    if !worker.wait() {
-        pace.rest(rt);
-    }
+    worker.post(rt, &control.book);
+    rest_posted(rt, worker, pace);
     false
 }
 
@@ -127,7 +165,8 @@ fn advance<B, W: Turns<B>, R: Wait + Clock>(
     match attempt(rt, worker, &control.book, pace) {
         Turn::Did => {
             if control.event.is_none() && pace.waits_at_once() {
-                let _ = worker.wait();
+                worker.post(rt, &control.book);
+                let _ = wait_posted(worker);
             }
             false
         }

@@ -1,10 +1,14 @@
 use Rattle.std.proofs.Common.{sym, true≢false}
 use Rattle.worker_threads.proofs.thread.advance.Goals as goal
 
+pub wait_posted-requires : goal.wait_posted-requires
+wait_posted-requires g c = (g.met.W.Turns.post_keeps c.attempt.new.worker c.post.new.self c.post.ensures).2
+
 pub returns-then-waits_at_once-clause-same : goal.returns-then-waits_at_once-clause-same
 returns-then-waits_at_once-clause-same g c =
-    let waited = g.met.W.Turns.wait_keeps c.wait.result c.attempt.new.worker c.wait.new.self c.wait.ensures in
-    g.met.W.Turns.same_then c.args.worker.now c.attempt.new.worker c.wait.new.self c.attempt.ensures.same waited
+    let posted = g.met.W.Turns.post_keeps c.attempt.new.worker c.post.new.self c.post.ensures in
+    let waited = g.met.W.Turns.same_then c.attempt.new.worker c.post.new.self c.wait_posted.new.worker posted.0 c.wait_posted.ensures in
+    g.met.W.Turns.same_then c.args.worker.now c.attempt.new.worker c.wait_posted.new.worker c.attempt.ensures.same waited
 
 pub returns-then-waits_at_once-clause-ended : goal.returns-then-waits_at_once-clause-ended
 returns-then-waits_at_once-clause-ended g c = λ e. absurd (true≢false (sym e))

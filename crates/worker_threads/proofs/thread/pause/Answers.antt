@@ -1,8 +1,11 @@
 use Rattle.std.proofs.Common.{sym, true≢false}
 use Rattle.worker_threads.proofs.thread.pause.Goals as goal
 
+pub nap_posted-requires : goal.nap_posted-requires
+nap_posted-requires g c = (g.met.W.Turns.post_keeps c.args.worker.now c.post.new.self c.post.ensures).2
+
 pub returns-then-gathers-clause-same : goal.returns-then-gathers-clause-same
-returns-then-gathers-clause-same g c = g.met.W.Turns.same_self c.args.worker.now
+returns-then-gathers-clause-same g c = (g.met.W.Turns.post_keeps c.args.worker.now c.post.new.self c.post.ensures).0
 
 pub returns-then-gathers-clause-ended : goal.returns-then-gathers-clause-ended
 returns-then-gathers-clause-ended g c = λ e. absurd (true≢false (sym e))
@@ -13,14 +16,13 @@ returns-in-Some-clause-same g c = c.sleep_on.ensures.same
 pub returns-in-Some-clause-ended : goal.returns-in-Some-clause-ended
 returns-in-Some-clause-ended g c = c.sleep_on.ensures.ended
 
-pub returns-then-not-wait-clause-same : goal.returns-then-not-wait-clause-same
-returns-then-not-wait-clause-same g c = g.met.W.Turns.wait_keeps c.wait.result c.args.worker.now c.wait.new.self c.wait.ensures
+pub rest_posted-requires : goal.rest_posted-requires
+rest_posted-requires g c = (g.met.W.Turns.post_keeps c.args.worker.now c.post-2.new.self c.post-2.ensures).2
 
-pub returns-then-not-wait-clause-ended : goal.returns-then-not-wait-clause-ended
-returns-then-not-wait-clause-ended g c = λ e. absurd (true≢false (sym e))
+pub returns-clause-same : goal.returns-clause-same
+returns-clause-same g c =
+    let posted = g.met.W.Turns.post_keeps c.args.worker.now c.post-2.new.self c.post-2.ensures in
+    g.met.W.Turns.same_then c.args.worker.now c.post-2.new.self c.rest_posted.new.worker posted.0 c.rest_posted.ensures
 
-pub returns-else-not-wait-clause-same : goal.returns-else-not-wait-clause-same
-returns-else-not-wait-clause-same g c = g.met.W.Turns.wait_keeps c.wait.result c.args.worker.now c.wait.new.self c.wait.ensures
-
-pub returns-else-not-wait-clause-ended : goal.returns-else-not-wait-clause-ended
-returns-else-not-wait-clause-ended g c = λ e. absurd (true≢false (sym e))
+pub returns-clause-ended : goal.returns-clause-ended
+returns-clause-ended g c = λ e. absurd (true≢false (sym e))

@@ -7,17 +7,16 @@ returns-in-Did-clause-same g c = c.attempt.ensures.same
 pub returns-in-Did-clause-ended : goal.returns-in-Did-clause-ended
 returns-in-Did-clause-ended g c = λ e. absurd (true≢false (sym e))
 
-pub returns-then-awaits_push-clause-same : goal.returns-then-awaits_push-clause-same
-returns-then-awaits_push-clause-same g c = c.attempt.ensures.same
+pub sleep_posted-requires : goal.sleep_posted-requires
+sleep_posted-requires g c = (g.met.W.Turns.post_keeps c.attempt.new.worker c.post.new.self c.post.ensures).2
 
-pub returns-then-awaits_push-clause-ended : goal.returns-then-awaits_push-clause-ended
-returns-then-awaits_push-clause-ended g c = λ e. absurd (true≢false (sym e))
+pub returns-in-Quiet-clause-same : goal.returns-in-Quiet-clause-same
+returns-in-Quiet-clause-same g c =
+    let posted = g.met.W.Turns.post_keeps c.attempt.new.worker c.post.new.self c.post.ensures in
+    g.met.W.Turns.same_then c.args.worker.now c.attempt.new.worker c.post.new.self c.attempt.ensures.same posted.0
 
-pub returns-else-awaits_push-clause-same : goal.returns-else-awaits_push-clause-same
-returns-else-awaits_push-clause-same g c = c.attempt.ensures.same
-
-pub returns-else-awaits_push-clause-ended : goal.returns-else-awaits_push-clause-ended
-returns-else-awaits_push-clause-ended g c = λ e. absurd (true≢false (sym e))
+pub returns-in-Quiet-clause-ended : goal.returns-in-Quiet-clause-ended
+returns-in-Quiet-clause-ended g c = λ e. absurd (true≢false (sym e))
 
 pub returns-in-Ended-clause-same : goal.returns-in-Ended-clause-same
 returns-in-Ended-clause-same g c = c.attempt.ensures.same
