@@ -141,7 +141,8 @@ pub fn all_entering<N: RunBrand>(
         let taker = free.next();
         let share = shares.next();
         let link = LinkIndex::of(link as u16);
-        made.push_reserved(entering_at(alloc, common, link, processors, taker, share)?);
+        let entering = entering_at(alloc, common, link, processors, taker, share)?;
+        made.push_reserved(entering);
     }
     Ok(made)
 }
