@@ -312,6 +312,7 @@ def file_of(*path):
 
 
 SAMPLE = ["--config", file_of("examples", "border-router.toml")]
+THREE_ASES = [file_of("examples", "three-ases", f"{name}.toml") for name in ("first", "core-1", "core-2", "last")]
 FIRST_ON_LINK_1 = [*SAMPLE, "--link", "1", "--now", "1694499816"]
 
 
@@ -331,6 +332,7 @@ LACKS = ("config 9", "memory")
 
 TRIALS = {
     "check": lambda: of_router("check", SAMPLE, "config 9", may=LACKS),
+    "check-net": lambda: of_router("check", ["--net", *THREE_ASES], "memory"),
     "route": lambda: of_router("route", FIRST_ON_LINK_1, *LACKS, given=datagrams()),
     "replay": lambda: of_router("replay", SAMPLE, *LACKS, given=bytes_of("examples", "replay.txt")),
     "run": lambda: of_router("run", ["--config", file_of("tests", "faults", "router.toml")], "start 1", "start 3", *LACKS),

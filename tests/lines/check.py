@@ -33,6 +33,9 @@ REPLAY = ["replay", "--config", "c"]
 CHECK = ["check", "--config", "c"]
 RUN = ["run", "--config", "c"]
 
+# The routers of examples/three-ases, in the order of a path.
+NET = ["first.toml", "core-1.toml", "core-2.toml", "last.toml"]
+
 
 # Tables.
 
@@ -193,6 +196,39 @@ def try_sockets(trial):
     lines = "".join(f"socket {link} at 192\\.0\\.2\\.1{link}1:[34]0000: [^\n]+\n" for link in range(4))
     unbound = (1, b"", f"{lines}fault: socket 0\n".encode())
     trial.compare("--bind", unbound, [*CHECK, "--bind"], config)
+
+
+# Nets of configurations.
+
+
+def net_of(changes):
+    """The texts of the four configurations of examples/three-ases, with changes."""
+    texts = {}
+    for name in NET:
+        with open(os.path.join(TOP, "examples", "three-ases", name), encoding="utf-8") as file:
+            texts[name] = file.read()
+    texts["copy.toml"] = texts["core-1.toml"]
+    for change in [] if changes == "-" else changes.split(" & "):
+        name, change = change.split(": ", 1)
+        old, _, new = change.partition(" ->")
+        texts[name] = changed(texts[name], old, new.removeprefix(" "))
+    return texts
+
+
+def try_nets(trial):
+    for row in rows_of("nets.txt"):
+        told, end = row.split(" => ", 1)
+        files, _, changes = told[1:].partition("] ") if told.startswith("[") else (" ".join(NET), "", told)
+        for name, text in net_of(changes).items():
+            with open(os.path.join(trial.folder, name), "w", encoding="utf-8") as file:
+                file.write(text)
+        first, *others = end.split("⏎")
+        if first == "ok":
+            wanted = 0, b"ok\n", re.escape("".join(f"{line}\n" for line in others).encode())
+        else:
+            pattern = re.escape(first[:-2]) + "[^\n]*" if first.endswith("..") else re.escape(first)
+            wanted = 1, b"", f"fault: net: {pattern}\n".encode()
+        trial.compare(row, wanted, ["check", "--net", *files.split()], None)
 
 
 # Worked datagrams.
@@ -560,6 +596,7 @@ def main():
         try_fault_words(trial)
         try_warnings(trial)
         try_sockets(trial)
+        try_nets(trial)
         try_datagrams(trial)
         try_one_hops(trial)
         try_bfd(trial)

@@ -26,7 +26,7 @@ fn told(alloc: Global, fault: ConfigFault, text: &str) -> Fault {
 }
 
 /// The configuration that a text is.
-fn config_of(alloc: Global, text: &str) -> Result<Config, Fault> {
+pub(crate) fn config_of(alloc: Global, text: &str) -> Result<Config, Fault> {
     match read_config(alloc, text) {
         Ok(config) => Ok(config),
         Err(fault) => Err(told(alloc, fault, text)),

@@ -31,6 +31,9 @@ pub enum Fault {
     /// The configuration is none, in words: where it isn't, what is there, and what is wanted.
     #[error("config {number}: {1}", number = .0.number())]
     Told(ConfigFault, String),
+    /// The routers of several configurations don't fit one another, or one of these is none; in words.
+    #[error("net: {0}")]
+    Net(String),
     /// Something in the configuration will hurt, and that is to be a fault.
     #[error("warnings")]
     Warned,

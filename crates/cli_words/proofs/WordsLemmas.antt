@@ -1,7 +1,12 @@
 -- What the getters of a parse's matches read of the subcommand that was entered.
-use Rattle.std.proofs.Common.{◌≡◌, ◌≤◌, ℕ, List, Option, Some, None, Result, Ok, Err, option_map, Bor, sym, ap, ◌∙◌, codes, decimal, refl, true, subst, [], inl, inr}
-use Rattle.std.specs.Prelude.{◌≢◌, IfOk, IfSome, IfNone}
+use Rattle.std.proofs.Common.{◌≡◌, ◌≤◌, ℕ, List, Option, Some, None, Result, Ok, Err, option_map, Bor, sym, ap, ap₂, ◌∙◌, codes, decimal, refl, true, false, subst, [], inl, inr}
+use Rattle.std.specs.Prelude.{◌≢◌, IfErr, IfOk, IfSome, IfNone}
 use Rattle.std.specs.Option.{IsSomeAnd}
+use Rattle.std.specs.List.{list_all}
+use Rattle.std.specs.declared.alloc.Global.{Global}
+use Rattle.std.specs.Str.{bytes_eq}
+use Rattle.std.proofs.lemmas.List.{length-map}
+use Rattle.std.proofs.lemmas.List.Folds.{list_all-map}
 use Rattle.std.specs.declared.alloc.AllocError.{AllocError}
 use Rattle.clap.specs.declared.builder.command.Command.{Command}
 use Rattle.clap.specs.declared.builder.command.Command.TheViews.{out-Command as fields_of}
@@ -22,10 +27,10 @@ use Rattle.clap.proofs.OnLiterals.{clap_on_literals}
 use Rattle.clap.specs.declared.parser.matches.SubCommand.{SubCommand}
 use Rattle.clap.specs.declared.parser.matches.ArgMatches.TheViews.{out-SubCommand}
 use Rattle.std.specs.Box.{box_value}
-use Rattle.std.specs.Prelude.{Box}
+use Rattle.std.specs.Prelude.{Box, String, Bool, ◌==◌, ◌&&◌, not, if◌then◌else◌, length, map, string_bytes}
 use Rattle.clap.proofs.WalkLemmas.{first_value-rows}
 use Rattle.process_packet.specs.declared.underlay.Underlay.{Underlay}
-use Rattle.cli_words.specs.Words.{Asked, Routes, Replays, Runs, Checks, Asks, AsksOf, AsksRoute, asked_of, from_of, is_given, router}
+use Rattle.cli_words.specs.Words.{Asked, Routes, Replays, Runs, Checks, ChecksNet, Asks, AsksOf, AsksRoute, Orders, OrdersBy, OrdersByGrammar, are_net, asked_of, files_of, from_of, is_file, is_given, net_files, router}
 use Rattle.cli_words.specs.declared.words.Subcommand.{Subcommand}
 
 -- names that differ
@@ -61,24 +66,28 @@ route_asked rows (Routes config link now from) none asks = none config link now 
 route_asked rows (Replays config) none asks = route_replay asks.0
 route_asked rows (Runs config) none asks = route_run asks.0
 route_asked rows (Checks config strict bind) none asks = route_check asks.0
+route_asked rows (ChecksNet files) none asks = asks
 
 replay_asked : (rows : List Row) (asked : Asked) → ((config : Text) → first_of (codes "config") rows ≢ Some config) → ¬ Asks (codes "replay", rows) asked
 replay_asked rows (Routes config link now from) none asks = route_replay (sym asks.0)
 replay_asked rows (Replays config) none asks = none config asks.1
 replay_asked rows (Runs config) none asks = replay_run asks.0
 replay_asked rows (Checks config strict bind) none asks = replay_check asks.0
+replay_asked rows (ChecksNet files) none asks = asks
 
 run_asked : (rows : List Row) (asked : Asked) → ((config : Text) → first_of (codes "config") rows ≢ Some config) → ¬ Asks (codes "run", rows) asked
 run_asked rows (Routes config link now from) none asks = route_run (sym asks.0)
 run_asked rows (Replays config) none asks = replay_run (sym asks.0)
 run_asked rows (Runs config) none asks = none config asks.1
 run_asked rows (Checks config strict bind) none asks = run_check asks.0
+run_asked rows (ChecksNet files) none asks = asks
 
 check_asked : (rows : List Row) (asked : Asked) → ((config : Text) → first_of (codes "config") rows ≢ Some config) → ¬ Asks (codes "check", rows) asked
 check_asked rows (Routes config link now from) none asks = route_check (sym asks.0)
 check_asked rows (Replays config) none asks = replay_check (sym asks.0)
 check_asked rows (Runs config) none asks = run_check (sym asks.0)
 check_asked rows (Checks config strict bind) none asks = none config asks.1.config_is
+check_asked rows (ChecksNet files) none asks = asks
 
 pub name_read : {Z : Type 0} → (o : Option (Box SubCommand Z)) → option_map (λ (p : Text × List Row). p.0) (subcommand_rows o) ≡ option_map (λ (b : Box SubCommand Z). (out-SubCommand (box_value b)).name.now) o
 name_read None = refl
@@ -145,6 +154,46 @@ no_order (Some p) name named route replay run check (Routes config link now from
 no_order (Some p) name named route replay run check (Replays config) asks = replay (sym named ∙ ap (λ (n : Text). Some n) asks.0)
 no_order (Some p) name named route replay run check (Runs config) asks = run (sym named ∙ ap (λ (n : Text). Some n) asks.0)
 no_order (Some p) name named route replay run check (Checks config strict bind) asks = check (sym named ∙ ap (λ (n : Text). Some n) asks.0)
+no_order (Some p) name named route replay run check (ChecksNet files) asks = absurd asks
+
+-- ---- `check --net`
+
+abbrev Word : Type 0
+Word = String Global
+
+abbrev texts_of : List Word → List Text
+texts_of words = map (λ (w : Word). string_bytes w) words
+
+abbrev is_net : Text → Text → List Word → Bool
+is_net command option files =
+    bytes_eq command (codes "check") && bytes_eq option (codes "--net") && not (length files == 0) && list_all (λ (w : Word). is_file (string_bytes w)) files
+
+same_test : (command option : Text) (files : List Word) → is_net command option files ≡ are_net command option (texts_of files)
+same_test command option files =
+    ap₂ (λ (n : ℕ) (all : Bool). bytes_eq command (codes "check") && bytes_eq option (codes "--net") && not (n == 0) && all)
+    (sym (length-map files (λ (w : Word). string_bytes w))) (sym (list_all-map is_file (λ (w : Word). string_bytes w) files))
+
+pub files_taken : (command option : Text) (files : List Word) (b : Bool) → b ≡ is_net command option files → b ≡ true → Some (texts_of files) ≡ files_of command option (texts_of files)
+files_taken command option files b test is = sym (ap (λ (t : Bool). if t then Some (texts_of files) else None) (sym (test ∙ same_test command option files) ∙ is))
+
+pub files_left : (command option : Text) (files : List Word) (b : Bool) → b ≡ is_net command option files → b ≡ false → None ≡ files_of command option (texts_of files)
+files_left command option files b test is = sym (ap (λ (t : Bool). if t then Some (texts_of files) else None) (sym (test ∙ same_test command option files) ∙ is))
+
+pub net_ordered : (words files : List Text) → Some files ≡ net_files words → Orders words (ChecksNet files)
+net_ordered words files is = subst (λ (o : Option (List Text)). OrdersBy o words (ChecksNet files)) is refl
+
+-- what the grammar orders is ordered, where the words name no files so
+pub grammar_ordered : {E : Type 0} (r : Result Subcommand E) (words : List Text) → None ≡ net_files words → IfOk r (λ o. OrdersByGrammar words (asked_of o)) → IfOk r (λ o. Orders words (asked_of o))
+grammar_ordered (Ok o) words is ordered = subst (λ (files : Option (List Text)). OrdersBy files words (asked_of o)) is ordered
+grammar_ordered (Err e) words is ordered = tt
+
+pub by_grammar : (words : List Text) (asked : Asked) → None ≡ net_files words → Orders words asked → OrdersByGrammar words asked
+by_grammar words asked is orders = subst (λ (files : Option (List Text)). OrdersBy files words asked) (sym is) orders
+
+pub grammar_refused : {A E : Type 0} (P : E → Type 0) (r : Result A E) (words : List Text) → None ≡ net_files words → IfErr r (λ e. (asked : Asked) → OrdersByGrammar words asked → P e)
+    → IfErr r (λ e. (asked : Asked) → Orders words asked → P e)
+grammar_refused P (Ok x) words is refused = tt
+grammar_refused P (Err e) words is refused = λ asked orders. refused asked (by_grammar words asked is orders)
 
 -- ---- the parse of the words
 

@@ -1,6 +1,7 @@
 -- What the words of a command line ask for, by what a parse of them finds.
 use Rattle.std.specs.Str.{bytes_eq}
-use Rattle.std.specs.Prelude.{◌≡◌, ◌≤◌, ℕ, Bool, List, [], Option, Some, None, Result, IfOk, true, false, codes, decimal, option_map}
+use Rattle.std.specs.List.{list_all}
+use Rattle.std.specs.Prelude.{◌≡◌, ◌≤◌, ◌==◌, ◌&&◌, not, ℕ, Bool, List, [], ◌∷◌, Option, Some, None, Result, IfOk, true, false, codes, decimal, if◌then◌else◌, length, map, option_map, string_bytes}
 use Rattle.clap.specs.Faults.{fault_of}
 use Rattle.clap.specs.Simple.{App, app_of, new_app, new_rule, on_top, subcommand_of, with_rule, with_subcommand}
 use Rattle.clap.specs.Walk.{Row, Rule, Text, first_of}
@@ -70,12 +71,14 @@ pub data Asked : Type 0 where
   Replays : Text → Asked  -- the configuration
   Runs : Text → Asked
   Checks : Text → Bool → Bool → Asked  -- the configuration, whether a warning is a fault, whether sockets are opened
+  ChecksNet : List Text → Asked  -- the configurations
 
 abbrev pub asked_of : Subcommand → Asked
 asked_of (order.Route config link now from) = Routes config.now link now from
 asked_of (order.Replay config) = Replays config.now
 asked_of (order.Run config) = Runs config.now
 asked_of (order.Check config strict bind) = Checks config.now strict bind
+asked_of (order.CheckNet files) = ChecksNet (map string_bytes files.now)
 
 -- The options of `route` have these values. A number stands there as its decimal digits.
 pub record AsksRoute (rows : List Row) (config : Text) (link now : ℕ) (from : Option Underlay) : Type 0 where
@@ -98,12 +101,42 @@ Asks entered (Routes config link now from) = (entered.0 ≡ codes "route") × As
 Asks entered (Replays config) = (entered.0 ≡ codes "replay") × (first_of (codes "config") entered.1 ≡ Some config)
 Asks entered (Runs config) = (entered.0 ≡ codes "run") × (first_of (codes "config") entered.1 ≡ Some config)
 Asks entered (Checks config strict bind) = (entered.0 ≡ codes "check") × AsksCheck entered.1 config strict bind
+Asks entered (ChecksNet files) = ⊥
 
 abbrev pub AsksOf : Option (Text × List Row) → Asked → Type 0
 AsksOf None asked = ⊥
 AsksOf (Some entered) asked = Asks entered asked
 
+-- ---- `check --net FILE..`, which is read before the grammar
+
+-- a word that is no option
+abbrev pub is_file : Text → Bool
+is_file [] = false
+is_file (byte ∷ bytes) = not (byte == 45)
+
+abbrev pub are_net : Text → Text → List Text → Bool
+are_net command option files = bytes_eq command (codes "check") && bytes_eq option (codes "--net") && not (length files == 0) && list_all is_file files
+
+abbrev pub files_of : Text → Text → List Text → Option (List Text)
+files_of command option files = if are_net command option files then Some files else None
+
+-- the files that the words name so
+abbrev pub net_files : List Text → Option (List Text)
+net_files [] = None
+net_files (command ∷ []) = None
+net_files (command ∷ (option ∷ files)) = files_of command option files
+
+-- ---- all words
+
 -- The words are taken by the grammar, and ask for it.
-pub record Orders (words : List Text) (asked : Asked) : Type 0 where
+pub record OrdersByGrammar (words : List Text) (asked : Asked) : Type 0 where
   pub taken : fault_of router words ≡ []
   pub asks : AsksOf (subcommand_of router words) asked
+
+abbrev pub OrdersBy : Option (List Text) → List Text → Asked → Type 0
+OrdersBy None words asked = OrdersByGrammar words asked
+OrdersBy (Some files) words asked = asked ≡ ChecksNet files
+
+-- The words ask for it.
+abbrev pub Orders : List Text → Asked → Type 0
+Orders words asked = OrdersBy (net_files words) words asked

@@ -1,12 +1,14 @@
 //! The command line.
-ghost use Rattle.std.specs.Prelude.{◌≡◌, ◌≢◌, ℕ, List, Option, Some, codes, map, option_map, string_bytes, false, IfErr, IfNone, IfOk, IfSome};
+ghost use Rattle.std.specs.Prelude.{◌≡◌, ◌≢◌, ◌==◌, ◌&&◌, not, ℕ, List, Option, Some, codes, length, map, option_map, string_bytes, false, IfErr, IfNone, IfOk, IfSome};
+ghost use Rattle.std.specs.List.{list_all};
+ghost use Rattle.std.specs.Str.{bytes_eq};
 ghost use Rattle.clap.specs.Simple.{App, app_of, subcommand_rows_of, with_rule, with_subcommand};
 ghost use Rattle.clap.specs.Values.{kind_of};
 ghost use Rattle.clap.specs.Matches.{found_of};
 ghost use Rattle.clap.specs.Walk.{first_of, rows_of, rule_of};
 ghost use Rattle.clap.specs.declared.error.kind.ErrorKind.TheVariants.{OutOfMemory};
 ghost use Rattle.process_packet.specs.declared.underlay.Underlay.{Underlay as Address};
-ghost use Rattle.cli_words.specs.Words.{Asked, Asks, AsksOf, AsksRoute, IsGrammar, Orders, alone, asked_of, check, flag, from_of, is_given, offered, route, router, wanted};
+ghost use Rattle.cli_words.specs.Words.{Asked, Asks, AsksOf, AsksRoute, IsGrammar, Orders, OrdersByGrammar, alone, asked_of, check, files_of, flag, from_of, is_file, is_given, net_files, offered, route, router, wanted};
 ghost use Rattle.cli_words.specs.declared.words.WordsFault.TheVariants.{Memory, Told};
 
 use clap::error::ErrorKind;
@@ -38,7 +40,8 @@ const RUN_ABOUT: &str =
     "Runs the router over its sockets until its standard input ends, and reports";
 
 const CHECK_ABOUT: &str =
-    "Tells whether a configuration is good, and else where it isn't; and warns of what will hurt";
+    "Tells whether a configuration is good, and else where it isn't; and warns of what will hurt. \
+     `check --net FILE..` tells whether several fit one another, and else the first two that don't";
 
 /// The help of the other options of `check`.
 const STRICT_HELP: &str = "Takes a warning for a fault";
@@ -78,6 +81,11 @@ pub enum Subcommand<'a> {
         strict: bool,
         /// Whether its sockets are opened too.
         bind: bool,
+    },
+    /// To tell whether the routers of several configurations fit one another, and else the first that don't.
+    CheckNet {
+        /// The paths of the configurations, at least one.
+        files: &'a [String],
     },
 }
 
@@ -347,8 +355,8 @@ fn wrong_value(command: &mut Command<'_>) -> WordsFault {
 /// The order that the words give by the program's grammar.
 fn parse<'a>(command: &mut Command<'a>, words: &'a [String]) -> Result<Subcommand<'a>, WordsFault>
     requires { app_of command.old ≡ router }
-    ensures order { IfOk result (λ order. Orders (map string_bytes words.now) (asked_of order)) }
-    ensures fault { IfErr result (λ fault. (asked : Asked) → Orders (map string_bytes words.now) asked → fault ≡ Memory) }
+    ensures order { IfOk result (λ order. OrdersByGrammar (map string_bytes words.now) (asked_of order)) }
+    ensures fault { IfErr result (λ fault. (asked : Asked) → OrdersByGrammar (map string_bytes words.now) asked → fault ≡ Memory) }
 {
     let matches = match command.try_get_matches_from_mut(words) {
         Ok(matches) => matches,
@@ -360,16 +368,74 @@ fn parse<'a>(command: &mut Command<'a>, words: &'a [String]) -> Result<Subcomman
     }
 }
 
-/// The order that the words after the program's name give.
-///
-/// Each option is named once, by `--name VALUE` or `--name=VALUE`. Numbers are plain decimals:
-/// digits with no sign and no leading zero.
-pub fn read_words<'a>(alloc: Global, words: &'a [String]) -> Result<Subcommand<'a>, WordsFault>
-    ensures order { IfOk result (λ order. Orders (map string_bytes words.now) (asked_of order)) }
-    ensures fault { IfErr result (λ fault. (asked : Asked) → Orders (map string_bytes words.now) asked → fault ≡ Memory) }
+/// Whether a word is no option.
+fn is_file(word: &str) -> bool
+    ensures { result ≡ is_file word.now }
+{
+    match word.as_bytes().first() {
+        Some(byte) => *byte != b'-',
+        None => false,
+    }
+}
+
+/// Whether none of the words is an option.
+fn are_files(words: &[String]) -> bool
+    ensures { result ≡ list_all (λ word. is_file (string_bytes word)) words.now }
+{
+    words.iter().all(|word| is_file(word.as_str()))
+}
+
+/// Whether the words are `check --net FILE..`, with at least one file.
+fn are_net(command: &str, option: &str, files: &[String]) -> bool
+    ensures { result ≡ (bytes_eq command.now (codes "check") && bytes_eq option.now (codes "--net")
+        && not (length files.now == 0) && list_all (λ word. is_file (string_bytes word)) files.now) }
+{
+    command == "check" && option == "--net" && !files.is_empty() && are_files(files)
+}
+
+/// The files of `check --net FILE..`, if the words are these.
+fn files_of<'a>(command: &str, option: &str, files: &'a [String]) -> Option<&'a [String]>
+    ensures { option_map (λ files. map string_bytes files.now) result
+        ≡ files_of command.now option.now (map string_bytes files.now) }
+{
+    if are_net(command, option, files) {
+        Some(files)
+    } else {
+        None
+    }
+}
+
+/// The files of `check --net FILE..`, if the words are these. They stay a part of the words, so that they take no
+/// memory.
+fn net_files<'a>(words: &'a [String]) -> Option<&'a [String]>
+    ensures { option_map (λ files. map string_bytes files.now) result ≡ net_files (map string_bytes words.now) }
+{
+    let (command, rest) = words.split_first()?;
+    let (option, files) = rest.split_first()?;
+    files_of(command.as_str(), option.as_str(), files)
+}
+
+/// The order that the words give, where they aren't `check --net FILE..`.
+fn read_by_grammar<'a>(alloc: Global, words: &'a [String]) -> Result<Subcommand<'a>, WordsFault>
+    ensures order { IfOk result (λ order. OrdersByGrammar (map string_bytes words.now) (asked_of order)) }
+    ensures fault { IfErr result (λ fault. (asked : Asked) → OrdersByGrammar (map string_bytes words.now) asked → fault ≡ Memory) }
 {
     let mut command = grammar(alloc)?;
     let order = parse(&mut command, words);
     drop(command);
     order
+}
+
+/// The order that the words after the program's name give.
+///
+/// Each option is named once, by `--name VALUE` or `--name=VALUE`. Numbers are plain decimals:
+/// digits with no sign and no leading zero. `check --net` takes the words after it, none of which is an option.
+pub fn read_words<'a>(alloc: Global, words: &'a [String]) -> Result<Subcommand<'a>, WordsFault>
+    ensures order { IfOk result (λ order. Orders (map string_bytes words.now) (asked_of order)) }
+    ensures fault { IfErr result (λ fault. (asked : Asked) → Orders (map string_bytes words.now) asked → fault ≡ Memory) }
+{
+    match net_files(words) {
+        Some(files) => Ok(Subcommand::CheckNet { files }),
+        None => read_by_grammar(alloc, words),
+    }
 }

@@ -1,11 +1,12 @@
 //! A SCION border router: `router run --config FILE` runs it over its sockets; `router route --config FILE
 //! --link N --now S [--from ADDR]` answers datagrams, one a line in hex; `router replay --config FILE` makes
-//! steps of the pipeline, one a line; `router check --config FILE` tells whether a configuration is good.
+//! steps of the pipeline, one a line; `router check --config FILE` tells whether a configuration is good, and
+//! `router check --net FILE..` whether the routers of several fit one another.
 #![tactic(auto)]
 
 ghost use Rattle.std.specs.Prelude.{◌≡◌, true, false};
 
-use cli_check::check_config;
+use cli_check::{check_config, check_net};
 use cli_faults::Fault;
 use cli_io::{ArrivalContext, usual_source};
 use cli_replay::replay_lines;
@@ -157,6 +158,7 @@ where
             strict,
             bind,
         } => check_config(rt, config, strict, bind),
+        Subcommand::CheckNet { files } => check_net(rt, files),
     }
 }
 
