@@ -1,0 +1,11 @@
+pub mod Address
+pub mod Bfd
+pub mod Entry
+pub mod Interface
+pub mod LeftOut
+pub mod Outcome
+pub mod Place
+pub mod PortRange
+pub mod Routers
+pub mod Servers
+pub mod Topology
