@@ -96,7 +96,7 @@ loop-k-preserved g c =
       taker_room = (pushed_long _ _ takers.items _ took.items inv.taker_room.0, fits_still _ _ (vec_capacity takers) took.capacity inv.taker_room.1);
       shares = grown _ _ shares.items _ _ _ _ _ is shared.items parts.4 inv.shares;
       share_room = (room_kept _ shares.items _ _ _ _ _ (vec_capacity shares) shared.items is shared.capacity inv.share_room.0, shared.capacity ∙ inv.share_room.1);
-      kept = each_back _ _ _ _ _ is inv.kept ((c.into_parts-from.ensures.law, subst (λ xs. NeverClosed xs) ends (never_closed _ c.take_back.ensures.told)), subst (λ xs. AreMarked xs) parts.1 c.take_back.ensures.told, subst (λ (o : Offering _). IsMarked o.sender o.ended) parts.2 (subst (λ (s : Sender _). IsMarked s c.into_parts-from.result.2.ended) c.into_producer.ensures.same c.into_producer.ensures.marks));
+      kept = each_back _ _ _ _ _ is inv.kept ((c.into_parts-from.ensures.law, subst (λ xs. NeverClosed xs) ends (never_closed _ c.take_back.ensures.told)), subst (λ xs. AreMarked xs) parts.1 c.take_back.ensures.told, subst (λ (o : Offering _). IsMarked o.sender o.ended) parts.2 (subst (λ (s : Sender _). IsMarked s c.into_parts-from.result.slow.ended) c.into_producer.ensures.same c.into_producer.ensures.marks));
     }
 
 pub destroy_empty-requires : goal.destroy_empty-requires
