@@ -20,9 +20,9 @@ run-requires-clause-prepared g c κs within =
     let same = c.in-Ok.ensures.shared in
     let is = c.in-Ok.ensures.prepared in
     record {
-      bare_workers = parts_as _ _ _ same is.bare_workers;
+      bare_workers = parts_as _ _ c.in-Ok.prepared.bare_workers same is.bare_workers;
       teams = teams_as _ _ _ _ _ _ _ _ is.teams (ap link_count same) (ap (λ (k : Config). k.processors) same);
-      room = space_as _ _ _ same is.room;
+      room = space_as _ _ c.in-Ok.prepared.space same is.room;
     }
 
 pub run-requires-clause-sources : goal.run-requires-clause-sources
