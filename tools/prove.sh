@@ -1,9 +1,11 @@
 #!/bin/sh
 # Proves a crate and all that it stands on, so many side by side, and tells once a minute how far it is.
-# Use: tools/prove.sh CRATE JOBS, with the kit's command in RT if it isn't `rt`.
+# Use: tools/prove.sh CRATE LANES, with the kit's command in RT if it isn't `rt`.
 set -eu
 
-crate=$1 jobs=$2
+crate=$1
+# A crate that waits for those below it has a place too: with as many places as lanes a third of the time went by unused.
+jobs=$((2 * $2))
 top=$(cd "$(dirname "$0")/.." && pwd)
 log=$(mktemp)
 ticker=
