@@ -10,10 +10,9 @@ use std::thread::Threads;
 use std::time::{Clock, Duration};
 use worker_parts::Stage;
 
-// Joins a worker that was told to run: it comes back, since only one that gave up doesn't. Were that ever
-// broken, the end would wait here for good rather than report a run that isn't whole: a program has no way
-// to abort.
-fn join_worker<W, R>(rt: &R, handle: Handle<W>) -> W
+/// Joins a worker that was told to run: it comes back, since only one that gave up doesn't. It has ended, and is
+/// the same as when its thread was made.
+pub fn join_worker<W, R>(rt: &R, handle: Handle<W>) -> W
 where
     W: Stage,
     R: Threads + Wait + Clock,
@@ -22,6 +21,8 @@ where
     if let Some(worker) = handle.join(rt) {
         return worker;
     }
+    // Were that ever broken, the end would wait here for good rather than report a run that isn't whole: a
+    // program has no way to abort.
     for _ in rt.forever() {
         thread::sleep(rt, Duration::from_secs(1));
     }

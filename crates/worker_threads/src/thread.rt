@@ -223,13 +223,9 @@ fn work_once_told<B, W: Turns<B> + Drop, R: Wait + Clock>(
 /// A thread of a worker, which holds until it is told to run, and what it promises.
 pub type Handle<W> = PromisedHandle<Option<W>, WillEnd<W>>;
 
-// A thread of the worker's own, which waits until it is told to run; none where no thread could be made. It takes no memory of the
-// allocator.
-pub(crate) fn start_worker<B, W, R>(
-    rt: R,
-    control: ThreadControl<B>,
-    worker: W,
-) -> Option<Handle<W>>
+/// A thread of the worker's own, which holds until it is told to run; none where no thread could be made. It takes no memory of the
+/// allocator.
+pub fn start_worker<B, W, R>(rt: R, control: ThreadControl<B>, worker: W) -> Option<Handle<W>>
 where
     B: Drop + Send + Sync + 'static,
     W: Turns<B> + Send + Drop + 'static,
