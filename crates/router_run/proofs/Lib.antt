@@ -1,10 +1,9 @@
+pub mod Lists
 pub mod Ends
-pub mod Rows
 pub mod Crews
 pub mod Came
 pub mod Begin
 pub mod CrewLemmas
 pub mod Promised
 pub mod Finish
-pub mod Sized
 pub mod TeamLemmas

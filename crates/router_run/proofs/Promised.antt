@@ -7,7 +7,6 @@ use Rattle.worker_order.specs.Heard.{Heard, TellsOf}
 use Rattle.worker_order.specs.Returned as returned
 use Rattle.worker_order.specs.Totals.{totals_of}
 use Rattle.router_rules.specs.Links.{interface_at}
-use Rattle.router_stages.specs.Answering.{Answering}
 use Rattle.router_stages.specs.Forwarding.{Forwarding}
 use Rattle.router_stages.specs.Receiving.{Receiving}
 use Rattle.run_promises.specs.Promises.{KeepsPromises}
@@ -18,7 +17,7 @@ use Rattle.run_ends.specs.Shutting.{EachEnds, Shutting, closed_at}
 use Rattle.run_report.specs.Crew.{Crew}
 use Rattle.router_run.specs.Back.{back_of, forwarder_back, receiver_back}
 use Rattle.router_run.specs.Promises.{KeepsItsPromises}
-use Rattle.router_run.proofs.Came.{found_at}
+use Rattle.router_run.proofs.Lists.{found_at}
 
 -- end marks close nothing
 same_closed : {T : Type 0} (old new : List (Shutting T)) → EachEnds old new → (j : ℕ) → closed_at new j ≡ closed_at old j
@@ -29,13 +28,13 @@ same_closed (s ∷ ss) (t ∷ ts) e zero = e.0.closed
 same_closed (s ∷ ss) (t ∷ ts) e (suc j) = same_closed ss ts e.1 j
 
 module _ {S G K : Type 0} (told : S → Option (List Heard)) (shown : K → Option (List Told)) (failed : K → ℕ) where
-  pub promised : (c : Config) (w : Crew S G K) (a : Answering) (old : List (Shutting _)) (totals : Totals) (sent : List ℕ) (sources : List S) (sinks : List K)
-      → returned.WorkersHaveRun told_of c (back_of told shown failed w a) (closed_at w.shutters) → EachEnds old w.shutters
-      → totals ≡ totals_of (returned.shares_of (back_of told shown failed w a)) → sent ≡ map (λ (f : Forwarding K). forwarded f.side.share) w.forwarders
+  pub promised : (c : Config) (w : Crew S G K) (old : List (Shutting _)) (totals : Totals) (sent : List ℕ) (sources : List S) (sinks : List K)
+      → returned.WorkersHaveRun told_of c (back_of told shown failed w) (closed_at w.shutters) → EachEnds old w.shutters
+      → totals ≡ totals_of (returned.shares_of (back_of told shown failed w)) → sent ≡ map (λ (f : Forwarding K). forwarded f.side.share) w.forwarders
       → sources ≡ map (λ (x : Receiving S). x.source) w.receivers → sinks ≡ map (λ (f : Forwarding K). f.side.sink) w.forwarders
       → KeepsItsPromises told shown c (closed_at old) totals sent sources sinks
-  promised c w a old totals sent sources sinks ran ends counts sends reads writes =
-      let is = promises_are_kept told_of c (back_of told shown failed w a) (closed_at w.shutters) ran in
+  promised c w old totals sent sources sinks ran ends counts sends reads writes =
+      let is = promises_are_kept told_of c (back_of told shown failed w) (closed_at w.shutters) ran in
       record {
         received = is.received;
         handed = is.handed;

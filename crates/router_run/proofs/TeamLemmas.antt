@@ -6,5 +6,5 @@ use Rattle.worker_threads.specs.Teams.{IsFor, Seated}
 pub for_as : {W : Type 0} (n m : ℕ) (t : Seated W) → IsFor n t → m ≡ n → IsFor m t
 for_as n m t is e = (is.0, is.1 ∙ sym e, is.2 ∙ sym e)
 
-pub teams_as : {A B C D : Type 0} (links links' processors processors' : ℕ) (a : Seated A) (b : Seated B) (c : Seated C) (d : Seated D) → AreTeamsFor links processors a b c d → links' ≡ links → processors' ≡ processors → AreTeamsFor links' processors' a b c d
-teams_as links links' processors processors' a b c d are l p = (for_as links links' a are.0 l, for_as processors processors' b are.1 p, are.2, for_as links links' d are.3 l)
+pub teams_as : {A B C : Type 0} (links links' processors processors' : ℕ) (a : Seated A) (b : Seated B) (c : Seated C) → AreTeamsFor links processors a b c → links' ≡ links → processors' ≡ processors → AreTeamsFor links' processors' a b c
+teams_as links links' processors processors' a b c are l p = (for_as links links' a are.0 l, for_as processors processors' b are.1 p, for_as links links' c are.2 l)

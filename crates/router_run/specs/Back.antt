@@ -1,8 +1,5 @@
 -- A router's workers as they came back.
-use Rattle.std.specs.Prelude.{◌≡◌, ℕ, List, [], ◌∷◌, map, Option}
-use Rattle.order_laws.specs.Settled.{SlowPathRequest}
-use Rattle.ruled_pipe.specs.Consumer.{Taker}
-use Rattle.router_rules.specs.Rules.{kinds}
+use Rattle.std.specs.Prelude.{ℕ, List, map, Option}
 use Rattle.worker_order.specs.Heard.{Heard}
 use Rattle.worker_order.specs.Returned.{ReceiverBack, ProcessorBack, SlowBack, ForwarderBack, Returned}
 use Rattle.router_stages.specs.Answering.{Answering}
@@ -13,7 +10,7 @@ use Rattle.worker_parts.specs.Outlets.{senders}
 use Rattle.worker_parts.specs.Told.{Told}
 use Rattle.run_ends.specs.Settled.{AreSettled, IsDone}
 use Rattle.run_ends.specs.Shutting.{shutter_ends, EachEnds}
-use Rattle.run_report.specs.Crew.{Crew, packet_rows, packet_takers, request_row, request_takers, egress_rows, takers_of}
+use Rattle.run_report.specs.Crew.{Crew, packet_rows, packet_takers, request_row, egress_rows, takers_of}
 use Rattle.run_pipes.specs.Piping.{Piping}
 use Rattle.worker_parts.specs.Back.{AreBack}
 use Rattle.router_stages.specs.SameReceiver.{IsSameReceiver, ReceiverEnded}
@@ -25,14 +22,14 @@ use Rattle.router_stages.specs.SameForwarder.{IsSameForwarder}
 pub record IsBack {S G K : Type 0} (same_source : S → S → Type 0) (same_sink : K → K → Type 0) (old new : Crew S G K) : Type 0 where
   pub receivers : AreBack (λ a b. IsSameReceiver same_source a b × ReceiverEnded b) old.receivers new.receivers
   pub processors : AreBack (λ a b. IsSameProcessor a b × ProcessorEnded b) old.processors new.processors
-  pub slow : AreBack (λ a b. IsSameSlowPath a b × SlowPathEnded b) old.slow new.slow
+  pub slow : IsSameSlowPath old.slow new.slow × SlowPathEnded new.slow
   pub forwarders : AreBack (λ a b. IsSameForwarder same_sink a b × ForwarderEnded b) old.forwarders new.forwarders
   pub shutters : EachEnds old.shutters new.shutters
 
 -- All pipes were gathered.
 pub record HasSettled {S G K : Type 0} (p : Piping) (w : Crew S G K) : Type 0 where
   pub packets : AreSettled 0 (packet_rows w) p.packets (packet_takers w)
-  pub requests : (t : Taker (SlowPathRequest kinds)) → request_takers w ≡ t ∷ [] → IsDone p.requests (request_row w) t
+  pub requests : IsDone p.requests (request_row w) w.slow.taker
   pub egress_packets : AreSettled 0 (egress_rows w) p.egress_packets (takers_of w.forwarders)
 
 module _ {S : Type 0} (told : S → Option (List Heard)) where
@@ -50,12 +47,12 @@ abbrev pub slow_back : Answering → SlowBack
 slow_back a = record { taker = a.taker; links = senders a.side.links; share = a.side.share }
 
 module _ {S G K : Type 0} (told : S → Option (List Heard)) (shown : K → Option (List Told)) (failed : K → ℕ) where
-  -- the workers with this slow path, as the theorem sees them
-  abbrev pub back_of : Crew S G K → Answering → Returned Told
-  back_of w a = record {
+  -- the workers, as the theorem sees them
+  abbrev pub back_of : Crew S G K → Returned Told
+  back_of w = record {
     receivers = map (receiver_back told) w.receivers;
     processors = map processor_back w.processors;
-    slow = slow_back a;
+    slow = slow_back w.slow;
     forwarders = map (forwarder_back shown failed) w.forwarders;
     controller = shutter_ends w.shutters;
   }

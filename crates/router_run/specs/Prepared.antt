@@ -13,10 +13,10 @@ use Rattle.router_run.specs.Teams.{AreTeamsFor}
 use Rattle.router_run.specs.Wiring.{IsCrew}
 use Rattle.router_run.specs.declared.bare_workers.BareWorkers.{BareWorkers}
 
--- the workers over their pipes, a team for each kind of them, and room for what comes back
-pub record IsPrepared {N G A B C D S K : Type 0} (c : Config) (w : BareWorkers N G) (receivers : Seated A) (processors : Seated B) (slow : Seated C) (forwarders : Seated D) (space : Space N S K) : Type 0 where
+-- the workers over their pipes, a team for each kind of which there are many, and room for what comes back
+pub record IsPrepared {N G A B C S K : Type 0} (c : Config) (w : BareWorkers N G) (receivers : Seated A) (processors : Seated B) (forwarders : Seated C) (space : Space N S K) : Type 0 where
   pub bare_workers : AreBareWorkers c w
-  pub teams : AreTeamsFor (link_count c) c.processors receivers processors slow forwarders
+  pub teams : AreTeamsFor (link_count c) c.processors receivers processors forwarders
   pub room : HaveSpace (link_count c) c.processors space
 
 -- There are so many workers, each with its own ends of the pipes, of which all were made and none is back; and there is room for what

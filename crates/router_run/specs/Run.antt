@@ -1,12 +1,11 @@
 -- A run: what it began with, and what it came to.
-use Rattle.std.specs.Prelude.{◌≡◌, ℕ, List, [], ◌∷◌, map, Option}
+use Rattle.std.specs.Prelude.{◌≡◌, ℕ, List, map, Option}
 use Rattle.packet_ledger.specs.Share.{forwarded}
 use Rattle.process_packet.specs.declared.config.Config.{Config}
 use Rattle.process_packet.specs.declared.totals.Totals.{Totals}
 use Rattle.worker_order.specs.Heard.{Heard}
 use Rattle.worker_order.specs.Returned as returned
 use Rattle.worker_order.specs.Totals.{totals_of}
-use Rattle.router_stages.specs.Answering.{Answering}
 use Rattle.router_stages.specs.Forwarding.{Forwarding}
 use Rattle.router_stages.specs.Receiving.{EndsQuietly, Receiving}
 use Rattle.ruled_pipe.specs.Producer.{Sender}
@@ -43,14 +42,12 @@ module _ {S G K : Type 0} (told : S → Option (List Heard)) (shown : K → Opti
     -- to be read aloud; what follows is finer
     pub promises : KeepsItsPromises told shown r.config (closed_at r.crew.shutters) totals sent sources sinks
     pub crew : Crew S G K
-    pub slow : Answering
-    pub one : crew.slow ≡ slow ∷ []
     pub back : IsBack same_source same_sink r.crew crew
     pub settled : HasSettled r.pipes crew
     -- each source that tells was asked to an answer that is no datagram, or gave 2^56 datagrams
     pub asked : Each (λ (w : Receiving S). EndsQuietly w.number (told w.source)) crew.receivers
-    pub ran : returned.WorkersHaveRun told_of r.config (back_of told shown failed crew slow) (closed_at crew.shutters)
-    pub totals_are : totals ≡ totals_of (returned.shares_of (back_of told shown failed crew slow))
+    pub ran : returned.WorkersHaveRun told_of r.config (back_of told shown failed crew) (closed_at crew.shutters)
+    pub totals_are : totals ≡ totals_of (returned.shares_of (back_of told shown failed crew))
     pub sent_are : sent ≡ map (λ (f : Forwarding K). forwarded f.side.share) crew.forwarders
     pub sources_are : sources ≡ map (λ (w : Receiving S). w.source) crew.receivers
     pub sinks_are : sinks ≡ map (λ (f : Forwarding K). f.side.sink) crew.forwarders

@@ -3,5 +3,5 @@ use Rattle.std.specs.Prelude.{ℕ}
 use Rattle.worker_threads.specs.Teams.{IsFor, Seated}
 
 -- no worker yet of a router with these numbers of links and processors, and room for all
-abbrev pub AreTeamsFor : {A B C D : Type 0} → ℕ → ℕ → Seated A → Seated B → Seated C → Seated D → Type 0
-AreTeamsFor links processors a b c d = IsFor links a × IsFor processors b × IsFor 1 c × IsFor links d
+abbrev pub AreTeamsFor : {A B C : Type 0} → ℕ → ℕ → Seated A → Seated B → Seated C → Type 0
+AreTeamsFor links processors a b c = IsFor links a × IsFor processors b × IsFor links c

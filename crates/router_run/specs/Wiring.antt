@@ -1,64 +1,40 @@
 -- A router's workers over their pipes, as they begin.
-use Rattle.std.specs.Prelude.{◌≡◌, ℕ, List, [], ◌∷◌, ◌+◌, length}
+use Rattle.std.specs.Prelude.{◌≡◌, ℕ, ◌+◌}
 use Rattle.process_packet.specs.declared.config.Config.{Config}
-use Rattle.worker_order.specs.Returned.{AllAt}
-use Rattle.router_stages.specs.Answering.{Answering}
 use Rattle.router_stages.specs.Forwarding.{Forwarding}
 use Rattle.router_stages.specs.Receiving.{Receiving}
-use Rattle.router_stages.specs.Working.{Working}
-use Rattle.worker_parts.specs.Outlets.{senders, are_used}
+use Rattle.worker_parts.specs.Outlets.{are_used}
 use Rattle.run_ends.specs.Shutting.{AreUnended, AreShutters}
 use Rattle.run_report.specs.Crew.{Crew}
-use Rattle.run_pipes.specs.Piping.{Piping, IsPiping, IsTakerThere}
-use Rattle.ruled_pipe.specs.Pipe.{Shape, IsTakerOf}
+use Rattle.run_pipes.specs.Piping.{Piping, IsPiping}
+use Rattle.run_pipes.specs.Rest.{IsRest}
 use Rattle.router_rules.specs.Links.{interface_at, link_count}
-use Rattle.run_ends.specs.Rows.{AreEndsOf, fresh_ends}
-use Rattle.run_workers.specs.Kits.{IsAnsweringAt, IsWorkingAt}
+use Rattle.run_workers.specs.Kits.{Entry, Exit, IsAnsweringAt, IsEnteringAt, IsLeavingAt, IsWorkingThere}
 
 module _ {S : Type 0} where
-  -- the receiver of a link has the producers of its number of the processors' pipes, and takes from the link's pipe of free buffers
-  pub record IsReceivingAt (c : Config) (p : Piping) (a : ℕ) (r : Receiving S) : Type 0 where
-    pub config : r.side.config ≡ c
-    pub link : r.side.link ≡ a
-    pub interface : r.side.interface ≡ interface_at c a
-    pub processors : AreEndsOf a p.packets (senders r.side.processors)
-    pub free : IsTakerThere p.free a r.side.stock.free
+  -- a receiver without its source
+  abbrev pub entry_of : Receiving S → Entry
+  entry_of r = record { config = r.side.config; link = r.side.link; free = r.side.stock.free; processors = r.side.processors }
 
-module _ {G : Type 0} where
-  -- the processors from number i on, one a pipe
-  abbrev pub AreWorking : Config → Piping → ℕ → List Shape → List (Working G) → Type 0
-  AreWorking c p i [] [] = Unit {0}
-  AreWorking c p i (s ∷ ss) (w ∷ ws) = IsWorkingAt c p i s w × AreWorking c p (i + 1) ss ws
-  AreWorking c p i _ _ = ⊥
-
--- there is one
-abbrev pub AreAnswering : Config → Piping → List Answering → Type 0
-AreAnswering c p [] = ⊥
-AreAnswering c p (a ∷ []) = IsAnsweringAt c p a
-AreAnswering c p (a ∷ b ∷ rest) = ⊥
+  -- the receiver of a link has its interface, and the ends that it was made with
+  abbrev pub IsReceivingAt : Config → Piping → ℕ → Receiving S → Type 0
+  IsReceivingAt c p a r = IsEnteringAt c p a (entry_of r) × (r.side.interface ≡ interface_at c a)
 
 module _ {K : Type 0} where
-  -- a forwarder takes from both pipes of its link, and has the producers after the slow path's of the pipes of free buffers
-  pub record IsForwardingAt (c : Config) (p : Piping) (l : ℕ) (first second : Shape) (f : Forwarding K) : Type 0 where
-    pub config : f.side.config ≡ c
-    pub link : f.link ≡ l
-    pub low : IsTakerOf first f.low.taker
-    pub high : IsTakerOf second f.high.taker
-    pub free : f.side.free ≡ fresh_ends (c.processors + 1 + l) p.free
+  -- a forwarder without its sink
+  abbrev pub exit_of : Forwarding K → Exit
+  exit_of f = record { config = f.side.config; link = f.link; low = f.low; high = f.high; free = f.side.free }
 
-  -- the forwarders from link l on
-  abbrev pub AreForwarding : Config → Piping → ℕ → List Shape → List (Forwarding K) → Type 0
-  AreForwarding c p l [] [] = Unit {0}
-  AreForwarding c p l (low ∷ high ∷ ss) (f ∷ fs) = IsForwardingAt c p l low high f × AreForwarding c p (l + 1) ss fs
-  AreForwarding c p l _ _ = ⊥
+  -- the forwarder of a link has the ends that it was made with
+  abbrev pub IsForwardingAt : Config → Piping → ℕ → Forwarding K → Type 0
+  IsForwardingAt c p l f = IsLeavingAt c p l (exit_of f)
 
--- Each worker has its ends of these pipes.
+-- Each worker has its ends of these pipes: one receiver and one forwarder a link, the processors by their numbers.
 pub record IsCrew {S G K : Type 0} (c : Config) (p : Piping) (w : Crew S G K) : Type 0 where
   pub pipes : IsPiping c p
-  pub receivers : AllAt (IsReceivingAt c p) 0 w.receivers
-  pub receiver_count : length w.receivers ≡ link_count c
-  pub processors : AreWorking c p 0 p.packets w.processors
-  pub slow : AreAnswering c p w.slow
-  pub forwarders : AreForwarding c p 0 p.egress_packets w.forwarders
+  pub receivers : IsRest (IsReceivingAt c p) 0 (link_count c) w.receivers
+  pub processors : IsRest (IsWorkingThere c p) 0 c.processors w.processors
+  pub slow : IsAnsweringAt c p w.slow
+  pub forwarders : IsRest (IsForwardingAt c p) 0 (link_count c) w.forwarders
   pub shutters : AreShutters (are_used c) 0 (c.processors + 1) p.egress_packets w.shutters
   pub unended : AreUnended w.shutters

@@ -13,7 +13,7 @@ use std::rt::Clock;
 use std::sync::Wait;
 use std::thread::Threads;
 use worker_parts::{EgressPacket, Gate, RunBrand, Sink, Source};
-use worker_threads::{ThreadControl, join_all};
+use worker_threads::{ThreadControl, join_all, join_worker};
 
 // Marks the ends of the controller's pipes, and wakes the forwarders.
 fn marked<N: RunBrand, R: Wait>(rt: &R, controller: Controller<N>) -> Vec<Shutter<EgressPacket<N>>>
@@ -44,7 +44,7 @@ where
     G: Gate,
     R: Threads + Wait + Clock,
     requires unmarked { AreUnended controller.shutters.items }
-    ensures { IsBack S.same K.same (crew_of threads.receivers threads.processors threads.slow threads.forwarders controller.shutters.items) (crew_in result) }
+    ensures { IsBack S.same K.same (crew_of threads.receivers threads.processors threads.slow.promise.0.value threads.forwarders controller.shutters.items) (crew_in result) }
 {
     let Threaded {
         receivers,
@@ -55,7 +55,7 @@ where
     control.stop();
     let receivers = join_all(rt, receivers);
     let processors = join_all(rt, processors);
-    let slow = join_all(rt, slow);
+    let slow = join_worker(rt, slow);
     let shutters = marked(rt, controller);
     let forwarders = join_all(rt, forwarders);
     Joined {

@@ -99,38 +99,36 @@ fn base_for<N: RunBrand>(
     Ok((Base { common, control }, shares))
 }
 
-/// All that is ready, for workers of any four kinds over sources `S` and sinks `K`.
+/// All that is ready, for teams of workers of any three kinds over sources `S` and sinks `K`.
 #[derive(Drop)]
-pub struct Prepared<N, G, V, W, X, Y, S, K>
+pub struct Prepared<N, G, V, W, X, S, K>
 where
     N: RunBrand,
     G: Gate,
     V: Stage,
     W: Stage,
     X: Stage,
-    Y: Stage,
 {
     pub base: Base<N>,
     pub bare_workers: BareWorkers<N, G>,
-    pub teams: Teams<Book<N>, V, W, X, Y>,
+    pub teams: Teams<Book<N>, V, W, X>,
     pub space: Space<N, S, K>,
 }
 
 /// It is given no device, so that each stays with the caller where memory runs out.
-pub fn prepare<N, G, V, W, X, Y, S, K, R>(
+pub fn prepare<N, G, V, W, X, S, K, R>(
     rt: &R,
     alloc: Global,
     blank: Blank,
     config: Config,
     gate: G,
-) -> Result<Prepared<N, G, V, W, X, Y, S, K>, AllocError>
+) -> Result<Prepared<N, G, V, W, X, S, K>, AllocError>
 where
     N: RunBrand,
     G: Gate + Drop,
     V: Stage + Drop,
     W: Stage + Drop,
     X: Stage + Drop,
-    Y: Stage + Drop,
     S: Drop,
     K: Drop,
     R: Wait,
@@ -138,7 +136,7 @@ where
     requires config { N.config ≡ Some config }
     requires workers { N.workers ≡ 2 * link_count config + config.processors + 1 }
     ensures shared { IfOk result (λ p. (arc_value p.base.common.shared).config ≡ config) }
-    ensures prepared { IfOk result (λ p. IsPrepared config p.bare_workers p.teams.receivers p.teams.processors p.teams.slow p.teams.forwarders p.space) }
+    ensures prepared { IfOk result (λ p. IsPrepared config p.bare_workers p.teams.receivers p.teams.processors p.teams.forwarders p.space) }
 {
     let links = link_count(&config);
     let processors = usize::from(config.processors);

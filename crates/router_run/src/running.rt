@@ -1,6 +1,6 @@
 //! A router: started by one call, ended by another.
 
-ghost use Rattle.std.specs.Prelude.{◌≡◌, ◌+◌, ◌*◌, ◌∷◌, MatchBool, MatchResult, Some, [], length};
+ghost use Rattle.std.specs.Prelude.{◌≡◌, ◌+◌, ◌*◌, MatchBool, MatchResult, Some, length};
 ghost use Rattle.std.specs.Arc.{arc_value};
 ghost use Rattle.order_laws.specs.Deeds.{Each};
 ghost use Rattle.worker_order.specs.Heard.{ToldNothing};
@@ -18,7 +18,7 @@ use crate::threads::{Threaded, give_up_all, start_front, start_rear};
 use packet_ledger::{Blank, Book};
 use process_packet::Config;
 use router_rules::{causes_are_apart, link_count, links_stand_in_order, rules_are_lawful};
-use router_stages::{Forwarder, Processor, Receiver, SlowPath};
+use router_stages::{Forwarder, Processor, Receiver};
 use ruled_pipe::Producer;
 use run_pipes::{CloseFault, Controller, Events, Pipes};
 use run_report::{Report, Space, part_all, report_of};
@@ -29,7 +29,7 @@ use std::rt::Clock;
 use std::sync::Wait;
 use std::thread::Threads;
 use worker_parts::{Buffer, Event, Gate, RunBrand, Sink, Source};
-use worker_threads::ThreadControl;
+use worker_threads::{ThreadControl, start_worker};
 
 /// A running router. It has no `Drop`: it can only be finished. Contracts see its configuration, its pipes,
 /// the ends that filled those of free buffers, and its workers and the controller's ends as they began.
@@ -64,9 +64,9 @@ where
 
     ghost Value = { Run S G K };
 
-    ghost view = { λ r. record { config = (arc_value r.controller.shared).config; pipes = piping_of r.pipes; fillers = r.fillers.items; crew = crew_of r.threads.receivers r.threads.processors r.threads.slow r.threads.forwarders r.controller.shutters.items } };
+    ghost view = { λ r. record { config = (arc_value r.controller.shared).config; pipes = piping_of r.pipes; fillers = r.fillers.items; crew = crew_of r.threads.receivers r.threads.processors r.threads.slow.promise.0.value r.threads.forwarders r.controller.shutters.items } };
 
-    ghost invariant = { λ r. IsRunning N.workers (arc_value r.controller.shared).config r.pipes (crew_of r.threads.receivers r.threads.processors r.threads.slow r.threads.forwarders r.controller.shutters.items) r.space };
+    ghost invariant = { λ r. IsRunning N.workers (arc_value r.controller.shared).config r.pipes (crew_of r.threads.receivers r.threads.processors r.threads.slow.promise.0.value r.threads.forwarders r.controller.shutters.items) r.space };
 }
 
 // Whether there is one source and one sink a link.
@@ -118,7 +118,7 @@ fn of_forwarders(events: Events) -> Vec<Event> {
 // The workers over their devices, each in a thread of its own.
 fn run<N, S, K, G, R>(
     rt: R,
-    prepared: Prepared<N, G, Receiver<N, S>, Processor<N, G>, SlowPath<N>, Forwarder<N, K>, S, K>,
+    prepared: Prepared<N, G, Receiver<N, S>, Processor<N, G>, Forwarder<N, K>, S, K>,
     sources: Vec<S>,
     sinks: Vec<K>,
 ) -> Result<Running<N, S, K, G, R>, StartFault<S, K>>
@@ -128,7 +128,7 @@ where
     K: Sink + Send + Drop + 'static,
     G: Gate + Send + Sync + Drop + 'static,
     R: Threads + Wait + Clock + Copy + Send + 'static,
-    requires prepared { IsPrepared (arc_value prepared.base.common.shared).config prepared.bare_workers prepared.teams.receivers prepared.teams.processors prepared.teams.slow prepared.teams.forwarders prepared.space }
+    requires prepared { IsPrepared (arc_value prepared.base.common.shared).config prepared.bare_workers prepared.teams.receivers prepared.teams.processors prepared.teams.forwarders prepared.space }
     requires workers { N.workers ≡ 2 * link_count (arc_value prepared.base.common.shared).config + (arc_value prepared.base.common.shared).config.processors + 1 }
     requires sources { Each (λ s. ToldNothing (S.told s)) sources.items × (length sources.items ≡ link_count (arc_value prepared.base.common.shared).config) }
     requires sinks { Each (λ k. ToldNothing (K.told k)) sinks.items × (length sinks.items ≡ link_count (arc_value prepared.base.common.shared).config) }
@@ -168,34 +168,28 @@ where
         teams.receivers,
         teams.processors,
     );
-    let (slow, forwarders, are_all) = start_rear(
-        rt,
-        are_all,
-        slow,
-        forwarders,
-        sinks,
-        teams.slow,
-        teams.forwarders,
-    );
-    let threads = Threaded {
-        receivers,
-        processors,
-        slow,
-        forwarders,
-    };
+    let (forwarders, are_all) = start_rear(rt, are_all, forwarders, sinks, teams.forwarders);
     if are_all {
-        control.run();
-        return Ok(Running {
-            rt,
-            controller,
-            control,
-            threads,
-            pipes,
-            fillers,
-            space,
-        });
+        if let Some(slow) = start_worker(rt, teams.slow, slow) {
+            control.run();
+            let threads = Threaded {
+                receivers,
+                processors,
+                slow,
+                forwarders,
+            };
+            return Ok(Running {
+                rt,
+                controller,
+                control,
+                threads,
+                pipes,
+                fillers,
+                space,
+            });
+        }
     }
-    give_up_all(&rt, &control, threads);
+    give_up_all(&rt, &control, receivers, processors, forwarders);
     drop(pipes);
     drop(fillers);
     drop(space);

@@ -1,6 +1,6 @@
 //! The workers over their devices, each in a thread of its own.
 
-ghost use Rattle.std.specs.Prelude.{◌≡◌, ◌∷◌, [], length, true};
+ghost use Rattle.std.specs.Prelude.{◌≡◌, length, true};
 ghost use Rattle.order_laws.specs.Deeds.{Each};
 ghost use Rattle.worker_order.specs.Heard.{ToldNothing};
 ghost use Rattle.run_workers.specs.Kits.{forwardings, receivings};
@@ -13,7 +13,7 @@ use std::sync::Wait;
 use std::thread::Threads;
 use std::time::Clock;
 use worker_parts::{Gate, RunBrand, Sink, Source};
-use worker_threads::{Started, Team, ThreadControl, give_up, start_each};
+use worker_threads::{Handle, Started, Team, ThreadControl, give_up, start_each};
 
 /// The threads of a router's workers.
 pub struct Threaded<N, S, K, G>
@@ -25,7 +25,7 @@ where
 {
     pub receivers: Started<Receiver<N, S>>,
     pub processors: Started<Processor<N, G>>,
-    pub slow: Started<SlowPath<N>>,
+    pub slow: Handle<SlowPath<N>>,
     pub forwarders: Started<Forwarder<N, K>>,
 }
 
@@ -66,50 +66,40 @@ where
     (receivers, processors, are_all)
 }
 
-/// Threads for the slow path, and for the forwarders over their sinks, where those before them are all there, and whether
-/// these are too.
+/// Threads for the forwarders over their sinks, where those before them are all there, and whether these are too.
 pub fn start_rear<N, K, R>(
     rt: R,
     so_far: bool,
-    slow: SlowPath<N>,
     forwarders: Vec<Leaving<N>>,
     sinks: Vec<K>,
-    answering: Team<Book<N>, SlowPath<N>>,
     forwarding: Team<Book<N>, Forwarder<N, K>>,
-) -> (Started<SlowPath<N>>, Started<Forwarder<N, K>>, bool)
+) -> (Started<Forwarder<N, K>>, bool)
 where
     N: RunBrand + Send + Sync + 'static,
     K: Sink + Send + Drop + 'static,
     R: Threads + Wait + Clock + Copy + Send + 'static,
     requires count { length sinks.items ≡ length forwarders.items }
     requires untold { Each (λ k. ToldNothing (K.told k)) sinks.items }
-    requires answering { IsFor 1 answering }
     requires forwarding { IsFor (length forwarders.items) forwarding }
-    ensures { result.2 ≡ true → (so_far ≡ true) × (result.0 ≡ slow ∷ []) × (result.1 ≡ forwardings K.failed forwarders.items sinks.items) }
+    ensures { result.1 ≡ true → (so_far ≡ true) × (result.0 ≡ forwardings K.failed forwarders.items sinks.items) }
 {
-    let mut answerers = answering.workers;
-    answerers.push_reserved(slow);
-    let answerers = Team {
-        workers: answerers,
-        control: answering.control,
-        room: answering.room,
-    };
     let forwarders = over_each(forwarders, sinks, forwarding.workers);
     let forwarders = Team {
         workers: forwarders,
         control: forwarding.control,
         room: forwarding.room,
     };
-    let (slow, are_all) = start_each(rt, answerers, so_far);
-    let (forwarders, are_all) = start_each(rt, forwarders, are_all);
-    (slow, forwarders, are_all)
+    let (forwarders, are_all) = start_each(rt, forwarders, so_far);
+    (forwarders, are_all)
 }
 
 /// Tells all threads to give up, and joins those that are there.
 pub fn give_up_all<N, S, K, G, R>(
     rt: &R,
     control: &ThreadControl<Book<N>>,
-    threads: Threaded<N, S, K, G>,
+    receivers: Started<Receiver<N, S>>,
+    processors: Started<Processor<N, G>>,
+    forwarders: Started<Forwarder<N, K>>,
 )
 where
     N: RunBrand,
@@ -118,14 +108,7 @@ where
     G: Gate + Drop,
     R: Threads + Wait,
 {
-    let Threaded {
-        receivers,
-        processors,
-        slow,
-        forwarders,
-    } = threads;
     give_up(rt, control, receivers);
     give_up(rt, control, processors);
-    give_up(rt, control, slow);
     give_up(rt, control, forwarders);
 }

@@ -1,2 +1,1 @@
 pub mod PartLemmas
-pub mod PartedLemmas

@@ -1,41 +1,34 @@
 -- Workers taken apart one by one: what was gathered grows at its end, what is left shrinks in front.
-use Rattle.std.proofs.Common.{◌≡◌, ℕ, ◌+◌, ◌≤◌, List, [], ◌∷◌, ◌++◌, map, length, sym, ◌∙◌, ap, subst, arith, length-append}
-use Rattle.order_laws.specs.Deeds.{Each}
-use Rattle.ruled_pipe.specs.Producer.{Sender}
-use Rattle.ruled_pipe.specs.Pipe.{Shape}
-use Rattle.run_ends.specs.Rows.{AreEndsOf}
-use Rattle.run_workers.proofs.RestLemmas.{moved}
+use Rattle.std.proofs.Common.{◌≡◌, ℕ, suc, ◌+◌, ◌≤◌, List, [], ◌∷◌, ◌++◌, map, length, refl, ◌∙◌, ap, arith, append_assoc, length-append}
+use Rattle.std.proofs.lemmas.List.{length-map}
 
 module _ {X : Type 0} where
-  pub each_same : (P : X → Type 0) (xs ys : List X) → xs ≡ ys → Each P ys → Each P xs
-  each_same P xs ys e all = subst (λ (zs : List X). Each P zs) (sym e) all
-
-  pub each_none : (P : X → Type 0) (xs : List X) → length xs ≡ 0 → Each P xs
-  each_none P [] none = tt
-  each_none P (x ∷ xs) none = absurd (omega arith)
-
   -- nothing is left once as many were taken as there were
-  pub none_left : (k n m : ℕ) (xs : List X) → n ≤ k → n ≡ m → k + length xs ≡ m → length xs ≡ 0
-  none_left k n m xs all same left = omega arith
+  pub none_left : (k n m : ℕ) (xs : List X) → n ≤ k → n ≡ m → k + length xs ≡ m → xs ≡ []
+  none_left k n m [] all same left = refl
+  none_left k n m (x ∷ xs) all same left = absurd (omega arith)
+
+  pub shorter : (k n : ℕ) (old new : List X) (x : X) → old ≡ x ∷ new → k + length old ≡ n → (k + 1) + length new ≡ n
+  shorter k n old new x is e = let l = ap length is in omega arith
+
+  -- one more, before those that come after it
+  pub grown : (old mid new tail : List X) (x y : X) → mid ≡ old ++ x ∷ [] → x ≡ y → new ≡ mid ++ tail → new ≡ old ++ y ∷ tail
+  grown old mid new tail x y is same e = e ∙ (ap (λ (zs : List X). zs ++ tail) (is ∙ ap (λ (z : X). old ++ z ∷ []) same) ∙ append_assoc old (y ∷ []) tail)
+
+  pub room_left : (old new : List X) (x : X) (n c d : ℕ) → new ≡ old ++ x ∷ [] → d ≡ c → length old + suc n ≤ c → length new + n ≤ d
+  room_left old new x n c d is same fits = let a = ap length is in let b = length-append old (x ∷ []) in omega arith
+
+  -- after nothing, and after four kinds of workers, the third of them one alone
+  pub from_none : (none all tail : List X) → none ≡ [] → all ≡ none ++ tail → all ≡ tail
+  from_none none all tail is e = e ∙ ap (λ (zs : List X). zs ++ tail) is
+
+  pub all_joined : (none first second third all xs ys zs : List X) (x : X) → none ≡ [] → first ≡ none ++ xs → second ≡ first ++ ys → third ≡ second ++ x ∷ [] → all ≡ third ++ zs → all ≡ xs ++ (ys ++ x ∷ zs)
+  all_joined none first second third all xs ys zs x is a b e d =
+      grown second third all zs x x e refl d
+      ∙ (ap (λ (l : List X). l ++ x ∷ zs) b
+      ∙ (append_assoc first ys (x ∷ zs)
+      ∙ ap (λ (l : List X). l ++ (ys ++ x ∷ zs)) (from_none none first xs is a)))
 
 module _ {X Y : Type 0} where
-  -- as it begins
-  pub started : (f : X → Y) (done : List Y) (xs ys : List X) → done ≡ [] → xs ≡ ys → done ++ map f xs ≡ map f ys
-  started f done xs ys none e = ap (λ (zs : List Y). zs ++ map f xs) none ∙ ap (map f) e
-
-  pub same_after : (f : X → Y) (done : List Y) (xs ys : List X) → xs ≡ ys → done ++ map f xs ≡ done ++ map f ys
-  same_after f done xs ys e = ap (λ (zs : List X). done ++ map f zs) e
-
-  -- one more
-  pub grown : (f : X → Y) (done more : List Y) (old new : List X) (x : X) (y : Y) (all : List Y) → old ≡ x ∷ new → more ≡ done ++ y ∷ [] → y ≡ f x → done ++ map f old ≡ all → more ++ map f new ≡ all
-  grown f done more old new x y all is e same before = ap (λ (zs : List Y). zs ++ map f new) (e ∙ ap (λ (z : Y). done ++ z ∷ []) same) ∙ moved f done old new x all is before
-
-  pub room_kept : (done more : List Y) (y : Y) (old new : List X) (x : X) (n m : ℕ) → more ≡ done ++ y ∷ [] → old ≡ x ∷ new → m ≡ n → length done + length old ≤ n → length more + length new ≤ m
-  room_kept done more y old new x n m e is same fits = let a = ap length e in let b = length-append done (y ∷ []) in let d = ap length is in omega arith
-
-pub fits_still : (k n m : ℕ) → m ≡ n → k ≤ n → k ≤ m
-fits_still k n m same fits = omega arith
-
--- the next worker's ends, by how many rows are back
-pub ends_as_next : {T : Type 0} (rows : List (List (Sender T))) (k : ℕ) (ss : List Shape) (row own : List (Sender T)) → length rows ≡ k → row ≡ own → AreEndsOf k ss own → AreEndsOf (length rows) ss row
-ends_as_next {T = T} rows k ss row own long is ends = subst (λ (n : ℕ). AreEndsOf n ss row) (sym long) (subst (λ (es : List (Sender T)). AreEndsOf k ss es) (sym is) ends)
+  pub longer : (f : X → Y) (old new : List Y) (xs : List X) → new ≡ old ++ map f xs → length new ≡ length old + length xs
+  longer f old new xs e = let d = ap length e in let l = length-append old (map f xs) in let k = length-map xs f in omega arith

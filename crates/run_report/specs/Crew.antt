@@ -17,16 +17,16 @@ use Rattle.run_report.specs.declared.joined.Joined.{Joined}
 pub record Crew (S G K : Type 0) : Type 0 where
   pub receivers : List (Receiving S)
   pub processors : List (Working G)
-  pub slow : List Answering
+  pub slow : Answering
   pub forwarders : List (Forwarding K)
   pub shutters : List (Shutting (Outgoing kinds))
 
-abbrev pub crew_of : {S G K : Type 0} → List (Receiving S) → List (Working G) → List Answering → List (Forwarding K) → List (Shutting (Outgoing kinds)) → Crew S G K
+abbrev pub crew_of : {S G K : Type 0} → List (Receiving S) → List (Working G) → Answering → List (Forwarding K) → List (Shutting (Outgoing kinds)) → Crew S G K
 crew_of receivers processors slow forwarders shutters = record { receivers = receivers; processors = processors; slow = slow; forwarders = forwarders; shutters = shutters }
 
 -- those that came back
 abbrev pub crew_in : {N S K G : Type 0} → Joined N S K G → Crew S G K
-crew_in j = crew_of j.receivers.items j.processors.items j.slow.items j.forwarders.items j.shutters.items
+crew_in j = crew_of j.receivers.items j.processors.items j.slow j.forwarders.items j.shutters.items
 
 module _ {S G K : Type 0} where
   -- the workers' ends, by workers, and the consumers, by pipes
@@ -39,11 +39,8 @@ module _ {S G K : Type 0} where
   abbrev pub request_row : Crew S G K → List (Sender (SlowPathRequest kinds))
   request_row w = map (λ (p : Working G). p.slow.sender) w.processors
 
-  abbrev pub request_takers : Crew S G K → List (Taker (SlowPathRequest kinds))
-  request_takers w = map (λ (a : Answering). a.taker) w.slow
-
   abbrev pub egress_rows : Crew S G K → List (List (Sender (Outgoing kinds)))
-  egress_rows w = map (λ (p : Working G). senders p.side.links) w.processors ++ (map (λ (a : Answering). senders a.side.links) w.slow ++ shutter_ends w.shutters ∷ [])
+  egress_rows w = map (λ (p : Working G). senders p.side.links) w.processors ++ (senders w.slow.side.links ∷ shutter_ends w.shutters ∷ [])
 
 module _ {K : Type 0} where
   -- of each forwarder both

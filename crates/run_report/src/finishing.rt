@@ -6,16 +6,15 @@ ghost use Rattle.worker_order.specs.Totals.{totals_of};
 ghost use Rattle.run_pipes.specs.Piping.{Piping};
 ghost use Rattle.run_pipes.specs.Pipes.{HaveAllBack};
 ghost use Rattle.run_report.specs.Crew.{crew_in, packet_rows, request_row, egress_rows};
-ghost use Rattle.run_report.specs.Parting.{HasEnds, HasKept, HasMarked, IsParted, shares_in};
+ghost use Rattle.run_report.specs.Parting.{HasEnds, HasKept, IsParted, shares_in};
 ghost use Rattle.run_report.specs.Room.{HaveSpace};
 
 use crate::joined::Joined;
-use crate::parting::{part_forwarders, part_processors, part_receivers, part_slow_path};
+use crate::parting::{ForwarderParts, ProcessorParts, ReceiverParts, part_each, part_slow_path};
 use crate::space::Space;
 use packet_ledger::{Book, Share};
 use process_packet::Totals;
 use ruled_pipe::Consumer;
-use run_ends::Line;
 use run_pipes::Pipes;
 use std::sync::Wait;
 use worker_parts::{EgressPacket, Gate, Packet, RunBrand, Sink, SlowPathRequest, Source};
@@ -64,7 +63,6 @@ where
     requires { (p : Piping) × (links : ℕ) × (processors : ℕ) × HaveAllBack [] [] [] p pipes.old × HasEnds p links processors (crew_in joined) × HaveSpace links processors space }
     ensures back { (p : Piping) → HaveAllBack [] [] [] p pipes.old → HaveAllBack (packet_rows (crew_in joined)) (request_row (crew_in joined)) (egress_rows (crew_in joined)) p pipes.new }
     ensures takers { IsParted (crew_in joined) result.0.packets.items result.0.requests result.0.egress_packets.items }
-    ensures marks { HasMarked (crew_in joined) }
     ensures kept { HasKept S.told K.told K.failed (crew_in joined) }
     ensures shares { result.1.shares.items ≡ shares_in (crew_in joined) }
     ensures sent { result.1.sent.items ≡ map (λ f. forwarded f.side.share) joined.forwarders.items }
@@ -86,19 +84,23 @@ where
         sources,
         sinks,
     } = space;
-    let front = part_receivers(receivers, pipes, sources, shares);
-    let requests = part_processors(processors, pipes, packets, front.shares);
-    let mut slow = Line::of(slow);
-    let rest = part_slow_path(
-        slow.next(),
-        shutters,
-        &mut pipes.egress_packets,
-        requests.shares,
-    );
-    slow.destroy_empty();
-    let rear = part_forwarders(forwarders, egress_packets, sinks, sent, rest.shares);
+    let mut front = ReceiverParts { sources, shares };
+    part_each(receivers, pipes, &mut front);
+    let mut middle = ProcessorParts {
+        takers: packets,
+        shares: front.shares,
+    };
+    part_each(processors, pipes, &mut middle);
+    let rest = part_slow_path(slow, shutters, &mut pipes.egress_packets, middle.shares);
+    let mut rear = ForwarderParts {
+        takers: egress_packets,
+        sinks,
+        sent,
+        shares: rest.shares,
+    };
+    part_each(forwarders, pipes, &mut rear);
     let takers = Parted {
-        packets: requests.takers,
+        packets: middle.takers,
         requests: rest.requests,
         egress_packets: rear.takers,
     };

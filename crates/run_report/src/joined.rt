@@ -15,7 +15,7 @@ where
 {
     pub receivers: Vec<Receiver<N, S>>,
     pub processors: Vec<Processor<N, G>>,
-    pub slow: Vec<SlowPath<N>>,
+    pub slow: SlowPath<N>,
     pub forwarders: Vec<Forwarder<N, K>>,
     pub shutters: Vec<Shutter<EgressPacket<N>>>,
 }

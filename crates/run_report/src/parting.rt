@@ -1,21 +1,13 @@
 //! Workers that came back, taken apart: the pipes take back their ends.
 
-ghost use Rattle.std.specs.Prelude.{◌≡◌, ◌≤◌, ◌<◌, ◌+◌, ◌*◌, ◌++◌, ◌∷◌, ℕ, List, [], length, map, vec_capacity};
-ghost use Rattle.packet_ledger.specs.Share.{forwarded};
-ghost use Rattle.order_laws.specs.Deeds.{Each};
-ghost use Rattle.ruled_pipe.specs.Pipe.{IsEndOf, Shape};
-ghost use Rattle.worker_order.specs.Keeping.{IsAnswering, IsForwarding};
-ghost use Rattle.worker_order.specs.Returned.{AllAt};
+ghost use Rattle.std.specs.Prelude.{◌≡◌, ◌<◌, ◌+◌, ◌++◌, ◌∷◌, [], List, length, vec_capacity};
+ghost use Rattle.ruled_pipe.specs.Pipe.{Shape};
 ghost use Rattle.worker_parts.specs.Outlets.{senders};
-ghost use Rattle.worker_parts.specs.Told.{told_of};
-ghost use Rattle.run_pipes.specs.Handing.{AreMarked, NeverClosed};
-ghost use Rattle.run_pipes.specs.Piping.{Piping};
-ghost use Rattle.run_pipes.specs.Pipes.{HaveAllBack, LinkRows, ReceiverRows};
+ghost use Rattle.run_pipes.specs.Pipes.{LinkRows};
 ghost use Rattle.run_ends.specs.Rows.{AreEndsOf};
 ghost use Rattle.run_ends.specs.Shutting.{AreMarking, shutter_ends};
 ghost use Rattle.run_ends.specs.TakenBack.{HaveBack};
-ghost use Rattle.run_report.specs.Crew.{takers_of};
-ghost use Rattle.run_report.specs.Parting.{KeptProcessor, KeptReceiver};
+ghost use Rattle.run_report.specs.Parting.{KeptSlowPath};
 
 use packet_ledger::Share;
 use router_stages::{
@@ -27,6 +19,43 @@ use run_ends::{Line, Shutter};
 use run_pipes::{Pipes, take_back};
 use worker_parts::{EgressPacket, Gate, Packet, RunBrand, Sink, SlowPathRequest, Source};
 
+/// A worker that can be taken apart: the pipes take back its ends, and what else is left of it is added to `P`.
+pub trait Apart<N: RunBrand, P> {
+    ghost use Rattle.std.specs.Prelude.{◌∷◌, [], List};
+    ghost use Rattle.run_pipes.specs.declared.pipes.Pipes.{Pipes as Keepers};
+
+    /// The ends of these workers are the next that the pipes take back, and there is room for what is left of them.
+    ghost fits: { List Self → Keepers N → P → Type 0 };
+
+    /// What these workers gave to the pipes and to what was left before, and what is known of each.
+    ghost gave: { List Self → Keepers N → P → Keepers N → P → Type 0 };
+
+    /// Takes it apart. It takes no memory.
+    fn take_apart(self, pipes: &mut Pipes<N>, left: &mut P)
+        requires { (rest : List Self) × fits (self ∷ rest) pipes.old left.old }
+        ensures fits { (rest : List Self) → fits (self ∷ rest) pipes.old left.old → fits rest pipes.new left.new }
+        ensures gave { (rest : List Self) (k : Keepers N) (p : P) → gave rest pipes.new left.new k p → gave (self ∷ rest) pipes.old left.old k p };
+
+    ghost none_gave: { (k : Keepers N) (p : P) → gave [] k p k p };
+}
+
+/// Takes workers of one kind apart, one after another.
+pub fn part_each<N: RunBrand, P, W: Apart<N, P>>(
+    workers: Vec<W>,
+    pipes: &mut Pipes<N>,
+    left: &mut P,
+)
+    requires { W.fits workers.items pipes.old left.old }
+    ensures { W.gave workers.items pipes.old left.old pipes.new left.new }
+{
+    let count = workers.len();
+    let mut workers = Line::of(workers);
+    for k in 0..count {
+        workers.next().take_apart(pipes, left);
+    }
+    workers.destroy_empty();
+}
+
 /// The receivers' sources, and the shares with theirs.
 #[derive(Drop)]
 pub struct ReceiverParts<N: RunBrand, S> {
@@ -34,39 +63,26 @@ pub struct ReceiverParts<N: RunBrand, S> {
     pub shares: Vec<Share<N>>,
 }
 
-/// Takes the receivers apart.
-pub fn part_receivers<N: RunBrand, S: Source>(
-    receivers: Vec<Receiver<N, S>>,
-    pipes: &mut Pipes<N>,
-    sources: Vec<S>,
-    shares: Vec<Share<N>>,
-) -> ReceiverParts<N, S>
-    requires ends { (p : Piping) × HaveAllBack [] [] [] p pipes.old × AllAt (λ a r. AreEndsOf a p.packets (senders r.side.processors)) 0 receivers.items }
-    requires sources { (sources.items ≡ []) × (length receivers.items ≤ vec_capacity sources) }
-    requires shares { length shares.items + length receivers.items ≤ vec_capacity shares }
-    ensures back { (p : Piping) → HaveAllBack [] [] [] p pipes.old → HaveAllBack (map (λ r. senders r.side.processors) receivers.items) [] [] p pipes.new }
-    ensures sources { result.sources.items ≡ map (λ r. r.source) receivers.items }
-    ensures shares { (result.shares.items ≡ shares.items ++ map (λ r. r.side.share) receivers.items) × (vec_capacity result.shares ≡ vec_capacity shares) }
-    ensures kept { Each (λ r. KeptReceiver S.told r) receivers.items }
-{
-    let mut sources = sources;
-    let mut shares = shares;
-    let count = receivers.len();
-    let mut receivers = Line::of(receivers);
-    for k in 0..count {
-        let receiver = receivers.next();
+impl<N: RunBrand, S: Source> Apart<N, ReceiverParts<N, S>> for Receiver<N, S> {
+    ghost use Rattle.run_report.specs.Parting.{ReceiversFit, ReceiversGave, no_receivers};
+
+    ghost fits = { λ rs k p. ReceiversFit rs k p };
+
+    ghost gave = { λ rs k p l q. ReceiversGave S.told rs k p l q };
+
+    fn take_apart(self, pipes: &mut Pipes<N>, left: &mut ReceiverParts<N, S>) {
         let PartedReceiver {
             source,
             processors,
             free: _,
             share,
-        } = receiver.into_parts();
+        } = self.into_parts();
         take_back(&mut pipes.packets, processors);
-        sources.push_reserved(source);
-        shares.push_reserved(share);
+        left.sources.push_reserved(source);
+        left.shares.push_reserved(share);
     }
-    receivers.destroy_empty();
-    ReceiverParts { sources, shares }
+
+    ghost none_gave = { λ k p. no_receivers S.told k p };
 }
 
 /// The processors' consumers, and the shares with theirs.
@@ -76,27 +92,14 @@ pub struct ProcessorParts<N: RunBrand> {
     pub shares: Vec<Share<N>>,
 }
 
-/// Takes the processors apart.
-pub fn part_processors<N: RunBrand, G: Gate + Drop>(
-    processors: Vec<Processor<N, G>>,
-    pipes: &mut Pipes<N>,
-    takers: Vec<Consumer<Packet<N>>>,
-    shares: Vec<Share<N>>,
-) -> ProcessorParts<N>
-    requires ends { (rs : ReceiverRows) × (p : Piping) × HaveAllBack rs [] [] p pipes.old × AllAt (λ i w. AreEndsOf i p.egress_packets (senders w.side.links) × IsEndOf p.requests i w.slow.sender) 0 processors.items }
-    requires takers { (takers.items ≡ []) × (length processors.items ≤ vec_capacity takers) }
-    requires shares { length shares.items + length processors.items ≤ vec_capacity shares }
-    ensures back { (rs : ReceiverRows) (p : Piping) → HaveAllBack rs [] [] p pipes.old → HaveAllBack rs (map (λ w. w.slow.sender) processors.items) (map (λ w. senders w.side.links) processors.items) p pipes.new }
-    ensures takers { result.takers.items ≡ map (λ w. w.taker) processors.items }
-    ensures shares { (result.shares.items ≡ shares.items ++ map (λ w. w.side.share) processors.items) × (vec_capacity result.shares ≡ vec_capacity shares) }
-    ensures kept { Each (λ w. KeptProcessor w) processors.items }
-{
-    let mut takers = takers;
-    let mut shares = shares;
-    let count = processors.len();
-    let mut processors = Line::of(processors);
-    for k in 0..count {
-        let processor = processors.next();
+impl<N: RunBrand, G: Gate + Drop> Apart<N, ProcessorParts<N>> for Processor<N, G> {
+    ghost use Rattle.run_report.specs.Parting.{ProcessorsFit, ProcessorsGave, no_processors};
+
+    ghost fits = { λ ws k p. ProcessorsFit ws k p };
+
+    ghost gave = { λ ws k p l q. ProcessorsGave ws k p l q };
+
+    fn take_apart(self, pipes: &mut Pipes<N>, left: &mut ProcessorParts<N>) {
         let PartedProcessor {
             from,
             links,
@@ -104,14 +107,14 @@ pub fn part_processors<N: RunBrand, G: Gate + Drop>(
             free: _,
             share,
             gate: _,
-        } = processor.into_parts();
-        takers.push_reserved(from.into_consumer());
+        } = self.into_parts();
+        left.takers.push_reserved(from.into_consumer());
         pipes.requests.absorb(slow.into_producer());
         take_back(&mut pipes.egress_packets, links);
-        shares.push_reserved(share);
+        left.shares.push_reserved(share);
     }
-    processors.destroy_empty();
-    ProcessorParts { takers, shares }
+
+    ghost none_gave = { λ k p. no_processors k p };
 }
 
 /// The slow path's consumer, and the shares with its own.
@@ -130,11 +133,10 @@ pub fn part_slow_path<N: RunBrand>(
 ) -> SlowPathParts<N>
     requires back { (ls : LinkRows) × (ss : List Shape) × HaveBack ls ss pipes.old.items × AreEndsOf (length ls) ss (senders slow.side.links) × AreEndsOf (length ls + 1) ss (shutter_ends shutters.items) }
     requires shares { length shares.items < vec_capacity shares }
-    ensures back { (ls : LinkRows) (ss : List Shape) → HaveBack ls ss pipes.old.items → HaveBack ((ls ++ senders slow.side.links ∷ []) ++ shutter_ends shutters.items ∷ []) ss pipes.new.items }
+    ensures back { (ls : LinkRows) (ss : List Shape) → HaveBack ls ss pipes.old.items → HaveBack (ls ++ (senders slow.side.links ∷ shutter_ends shutters.items ∷ [])) ss pipes.new.items }
     ensures taker { result.requests ≡ slow.taker }
     ensures shares { (result.shares.items ≡ shares.items ++ slow.side.share ∷ []) × (vec_capacity result.shares ≡ vec_capacity shares) }
-    ensures laws { IsAnswering slow.side.config slow.taker (senders slow.side.links) slow.side.share × NeverClosed (senders slow.side.links) }
-    ensures marks { AreMarked slow.side.links }
+    ensures kept { KeptSlowPath slow }
     ensures marking { AreMarking shutters.items }
 {
     let mut shares = shares;
@@ -162,50 +164,28 @@ pub struct ForwarderParts<N: RunBrand, K> {
     pub shares: Vec<Share<N>>,
 }
 
-/// Takes the forwarders apart.
-pub fn part_forwarders<N: RunBrand, K: Sink>(
-    forwarders: Vec<Forwarder<N, K>>,
-    takers: Vec<Consumer<EgressPacket<N>>>,
-    sinks: Vec<K>,
-    sent: Vec<u128>,
-    shares: Vec<Share<N>>,
-) -> ForwarderParts<N, K>
-    requires takers { (takers.items ≡ []) × (2 * length forwarders.items ≤ vec_capacity takers) }
-    requires sinks { (sinks.items ≡ []) × (length forwarders.items ≤ vec_capacity sinks) }
-    requires sent { (sent.items ≡ []) × (length forwarders.items ≤ vec_capacity sent) }
-    requires shares { length shares.items + length forwarders.items ≤ vec_capacity shares }
-    ensures takers { result.takers.items ≡ takers_of forwarders.items }
-    ensures sinks { result.sinks.items ≡ map (λ f. f.side.sink) forwarders.items }
-    ensures sent { result.sent.items ≡ map (λ f. forwarded f.side.share) forwarders.items }
-    ensures shares { result.shares.items ≡ shares.items ++ map (λ f. f.side.share) forwarders.items }
-    ensures laws { Each (λ f. IsForwarding told_of f.low.taker f.high.taker f.low.shut f.high.shut (K.told f.side.sink) f.began (K.failed f.side.sink) f.side.share) forwarders.items }
-{
-    let mut takers = takers;
-    let mut sinks = sinks;
-    let mut sent = sent;
-    let mut shares = shares;
-    let count = forwarders.len();
-    let mut forwarders = Line::of(forwarders);
-    for k in 0..count {
-        let forwarder = forwarders.next();
+impl<N: RunBrand, K: Sink> Apart<N, ForwarderParts<N, K>> for Forwarder<N, K> {
+    ghost use Rattle.run_report.specs.Parting.{ForwardersFit, ForwardersGave, no_forwarders};
+
+    ghost fits = { λ fs k p. ForwardersFit fs p };
+
+    ghost gave = { λ fs k p l q. ForwardersGave K.told K.failed fs k p l q };
+
+    fn take_apart(self, pipes: &mut Pipes<N>, left: &mut ForwarderParts<N, K>) {
+        let _ = pipes;
         let PartedForwarder {
             sink,
             low,
             high,
             free: _,
             share,
-        } = forwarder.into_parts();
-        takers.push_reserved(low);
-        takers.push_reserved(high);
-        sinks.push_reserved(sink);
-        sent.push_reserved(share.forwarded());
-        shares.push_reserved(share);
+        } = self.into_parts();
+        left.takers.push_reserved(low);
+        left.takers.push_reserved(high);
+        left.sinks.push_reserved(sink);
+        left.sent.push_reserved(share.forwarded());
+        left.shares.push_reserved(share);
     }
-    forwarders.destroy_empty();
-    ForwarderParts {
-        takers,
-        sinks,
-        sent,
-        shares,
-    }
+
+    ghost none_gave = { λ k p. no_forwarders K.told K.failed k p };
 }

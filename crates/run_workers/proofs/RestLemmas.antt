@@ -1,6 +1,5 @@
 -- Lists whose elements have a property each, taken from the front and grown at the end.
-use Rattle.std.proofs.Common.{◌≡◌, ℕ, suc, ◌+◌, List, [], ◌∷◌, ◌++◌, map, length, sym, ◌∙◌, ap, subst, arith, append_assoc, append-nil}
-use Rattle.order_laws.specs.Deeds.{Each}
+use Rattle.std.proofs.Common.{◌≡◌, ℕ, suc, ◌+◌, List, [], ◌∷◌, ◌++◌, length, ap, subst, arith}
 use Rattle.worker_order.specs.Returned.{AllAt}
 use Rattle.run_pipes.specs.Rest.{IsRest}
 
@@ -18,19 +17,3 @@ module _ {X : Type 0} where
 
   pub rest_next : (P : ℕ → X → Type 0) (n total : ℕ) (old new : List X) (x : X) → old ≡ x ∷ new → IsRest P n total old → IsRest P (n + 1) total new
   rest_next P n total old new x is r = record { each = (all_next P n old new x is r.each).1; count = let c = r.count in let l = ap length is in omega arith }
-
-  -- what held of all where it held of what is left, and of the next
-  pub each_back : (P : X → Type 0) (T : Type 0) (old new : List X) (x : X) → old ≡ x ∷ new → (Each P old → T) → P x → Each P new → T
-  each_back P T old new x is back p all = back (subst (λ (xs : List X). Each P xs) (sym is) (p, all))
-
-  pub shorter : (k n : ℕ) (old new : List X) (x : X) → old ≡ x ∷ new → k + length old ≡ n → (k + 1) + length new ≡ n
-  shorter k n old new x is e = let l = ap length is in omega arith
-
-module _ {X Y : Type 0} where
-  -- one more was done of what is left
-  pub moved : (f : X → Y) (done : List Y) (old new : List X) (x : X) (all : List Y) → old ≡ x ∷ new → done ++ map f old ≡ all → (done ++ f x ∷ []) ++ map f new ≡ all
-  moved f done old new x all is e = append_assoc done (f x ∷ []) (map f new) ∙ (ap (λ (xs : List X). done ++ map f xs) (sym is) ∙ e)
-
-  pub all_done : (f : X → Y) (done : List Y) (xs : List X) (all : List Y) → length xs ≡ 0 → done ++ map f xs ≡ all → done ≡ all
-  all_done f done [] all none e = sym (append-nil done) ∙ e
-  all_done f done (x ∷ xs) all none e = absurd (omega arith)

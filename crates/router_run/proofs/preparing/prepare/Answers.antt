@@ -13,7 +13,7 @@ returns-clause-prepared g c =
     let room = of_ok (λ r. HaveSpace c.link_count-links.result c.from-processors.result r) c.space_for-space.result c.in_ok-bare_workers.space c.in_ok-bare_workers.ensures.2 c.space_for-space.ensures in
     record {
       bare_workers = subst (λ (k : Config). AreBareWorkers k w) c.in_ok-base.ensures.shared made;
-      teams = teams_as _ _ _ _ _ _ _ _ (of_ok _ _ _ c.in_ok-bare_workers.ensures.1 c.teams_for-teams.ensures) (sym c.link_count-links.ensures.count) (sym c.from-processors.ensures);
+      teams = teams_as _ _ _ _ _ _ _ (of_ok _ _ _ c.in_ok-bare_workers.ensures.1 c.teams_for-teams.ensures) (sym c.link_count-links.ensures.count) (sym c.from-processors.ensures);
       room = subst (λ (n : ℕ). HaveSpace n c.args.config.processors c.in_ok-bare_workers.space) c.link_count-links.ensures.count
           (subst (λ (n : ℕ). HaveSpace c.link_count-links.result n c.in_ok-bare_workers.space) c.from-processors.ensures room);
     }

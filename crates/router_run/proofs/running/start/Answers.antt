@@ -21,7 +21,7 @@ run-requires-clause-prepared g c κs within =
     let is = c.in-Ok.ensures.prepared in
     record {
       bare_workers = parts_as _ _ c.in-Ok.prepared.bare_workers same is.bare_workers;
-      teams = teams_as _ _ _ _ _ _ _ _ is.teams (ap link_count same) (ap (λ (k : Config). k.processors) same);
+      teams = teams_as _ _ _ _ _ _ _ is.teams (ap link_count same) (ap (λ (k : Config). k.processors) same);
       room = space_as _ _ c.in-Ok.prepared.space same is.room;
     }
 

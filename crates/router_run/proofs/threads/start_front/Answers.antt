@@ -1,7 +1,7 @@
 use Rattle.std.proofs.Common.{length, ◌∙◌, ap, arith}
 use Rattle.worker_threads.specs.Teams.{Seated}
 use Rattle.run_workers.specs.Kits.{receiving_over}
-use Rattle.router_run.proofs.Begin.{paired_long}
+use Rattle.router_run.proofs.Lists.{paired_long}
 use Rattle.router_run.proofs.threads.start_front.Goals as goal
 
 pub invariant_of-receivers : goal.invariant_of-receivers

@@ -1,9 +1,8 @@
 use Rattle.std.proofs.Common.{length, sym, ◌∙◌, ap}
 use Rattle.worker_order.proofs.Returned.{runs_as_told}
 use Rattle.run_pipes.proofs.PipesLemmas.{none_are_all_back}
-use Rattle.router_run.proofs.Finish.{has_run, ready, run_as, settled, shares_count, the_slow}
-use Rattle.router_run.proofs.Crews.{crews_end}
-use Rattle.router_run.proofs.Sized.{has_ends}
+use Rattle.router_run.proofs.Finish.{has_run, run_as, settled, shares_count}
+use Rattle.router_run.proofs.Crews.{crews_end, has_ends}
 use Rattle.router_run.proofs.running.Running.finish.Goals as goal
 
 pub join_workers-joined-requires : goal.join_workers-joined-requires
@@ -16,10 +15,8 @@ part_all-takers-requires g c =
 
 pub settle-requires : goal.settle-requires
 settle-requires g c =
-    let back = c.join_workers-joined.ensures in
-    let slow = the_slow _ _ _ _ (has_ends g.S.Source.same g.K.Sink.same _ _ _ _ c.self.invariant.1 back) in
     let parted = c.part_all-takers.ensures in
-    let r = ready _ _ _ _ parted.takers _ slow.0 slow.1 (crews_end g.S.Source.same g.K.Sink.same _ _ _ _ c.self.invariant.1 back parted.marks) in
+    let r = crews_end g.S.Source.same g.K.Sink.same _ _ _ _ c.self.invariant.1 c.join_workers-joined.ensures g.S.Source.told g.K.Sink.told g.K.Sink.failed parted.kept _ _ _ parted.takers in
     (_, _, _, _, parted.back _ (none_are_all_back _ _ _ _ c.self.invariant.2), r.0, r.1, r.2)
 
 pub report_of-requires : goal.report_of-requires
@@ -29,11 +26,9 @@ report_of-requires g c =
 
 pub returns : goal.returns
 returns g c =
-    let back = c.join_workers-joined.ensures in
-    let slow = the_slow _ _ _ _ (has_ends g.S.Source.same g.K.Sink.same _ _ _ _ c.self.invariant.1 back) in
     let parted = c.part_all-takers.ensures in
     let report = c.report_of.ensures in
-    let set = settled _ _ _ _ parted.takers _ slow.0 slow.1 (c.settle.ensures _ _ _ _ (parted.back _ (none_are_all_back _ _ _ _ c.self.invariant.2))) in
+    let set = settled _ _ _ _ _ parted.takers (c.settle.ensures _ _ _ _ (parted.back _ (none_are_all_back _ _ _ _ c.self.invariant.2))) in
     run_as g.S.Source.told g.K.Sink.told g.K.Sink.failed g.S.Source.same g.K.Sink.same _ _ _ _ _ _ c.self.view_is
     (has_run g.S.Source.told g.K.Sink.told g.K.Sink.failed g.S.Source.same g.K.Sink.same (runs_as_told c.rules_are_lawful.ensures c.links_stand_in_order.ensures c.causes_are_apart.ensures)
-    _ _ slow.0 _ _ _ _ _ c.self.invariant.1 back parted.kept set slow.1 parted.shares report.totals (report.sent ∙ parted.sent) (report.sources ∙ parted.sources) (report.sinks ∙ parted.sinks))
+    _ _ _ _ _ _ _ c.self.invariant.1 c.join_workers-joined.ensures parted.kept set parted.shares report.totals (report.sent ∙ parted.sent) (report.sources ∙ parted.sources) (report.sinks ∙ parted.sinks))
