@@ -1,8 +1,9 @@
 //! A router: started by one call, ended by another.
 
-ghost use Rattle.std.specs.Prelude.{◌≡◌, ◌+◌, ◌*◌, MatchBool, MatchResult, Some, length};
+ghost use Rattle.std.specs.Prelude.{◌≡◌, ◌+◌, ◌*◌, ◌≤◌, ℕ, IfSome, MatchBool, MatchResult, Some, length};
 ghost use Rattle.std.specs.Arc.{arc_value};
 ghost use Rattle.order_laws.specs.Deeds.{Each};
+ghost use Rattle.packet_ledger.specs.Amounts.{count_at};
 ghost use Rattle.worker_order.specs.Heard.{ToldNothing};
 ghost use Rattle.router_rules.specs.Links.{link_count};
 ghost use Rattle.run_pipes.specs.Closing.{Closing};
@@ -15,7 +16,7 @@ use crate::fault::StartFault;
 use crate::joining::join_workers;
 use crate::preparing::{Base, Prepared, prepare};
 use crate::threads::{Threaded, give_up_all, start_front, start_rear};
-use packet_ledger::{Blank, Book};
+use packet_ledger::{Blank, Book, Look};
 use process_packet::Config;
 use router_rules::{causes_are_apart, link_count, links_stand_in_order, rules_are_lawful};
 use router_stages::{Forwarder, Processor, Receiver};
@@ -23,10 +24,10 @@ use ruled_pipe::Producer;
 use run_pipes::{CloseFault, Controller, Events, Pipes};
 use run_report::{Report, Space, part_all, report_of};
 use run_workers::Common;
-use std::alloc::Global;
+use std::alloc::{AllocError, Global};
 use std::marker::Model;
 use std::rt::Clock;
-use std::sync::Wait;
+use std::sync::{Arc, Wait};
 use std::thread::Threads;
 use worker_parts::{Buffer, Event, Gate, RunBrand, Sink, Source};
 use worker_threads::{ThreadControl, start_worker};
@@ -214,10 +215,17 @@ where
         self.controller.close(&self.rt, link)
     }
 
-    /// Ends the router: the workers come to their ends and are joined, and the pipes settled. It takes
-    /// no memory.
-    pub fn finish(self) -> Report<S, K>
-        ensures { RouterHasRun S.told K.told K.failed S.same K.same self result.totals result.sent.items result.sources.items result.sinks.items }
+    /// The book into which the workers post, for those who look at it. At `Err` there are too many
+    /// already.
+    pub fn book(&self) -> Result<Arc<Book<N>, Global>, AllocError> {
+        Arc::try_clone(&self.control.book)
+    }
+
+    /// Ends the router: the workers come to their ends and are joined, and the pipes settled. It
+    /// takes no memory. The totals are no less than a look at its book saw of them.
+    pub fn finish(self, look: Option<Look<N>>) -> Report<S, K>
+        ensures run { RouterHasRun S.told K.told K.failed S.same K.same self result.totals result.sent.items result.sources.items result.sinks.items }
+        ensures seen { IfSome look (λ l. (i : ℕ) → count_at i l.totals ≤ count_at i result.totals) }
     {
         rules_are_lawful();
         links_stand_in_order();
@@ -234,6 +242,6 @@ where
         let joined = join_workers(&rt, &control, controller, threads);
         let (takers, left) = part_all(joined, space, &mut pipes);
         pipes.settle(takers.packets, takers.requests, takers.egress_packets);
-        report_of(&rt, &control.book, left)
+        report_of(&rt, &control.book, left, look)
     }
 }

@@ -1,6 +1,7 @@
 //! The end of a run, once its workers came back: they are taken apart, and the counts summed up.
 
-ghost use Rattle.std.specs.Prelude.{◌≡◌, ℕ, [], map, length};
+ghost use Rattle.std.specs.Prelude.{◌≡◌, ◌≤◌, ℕ, IfSome, [], map, length};
+ghost use Rattle.packet_ledger.specs.Amounts.{count_at};
 ghost use Rattle.packet_ledger.specs.Share.{forwarded};
 ghost use Rattle.worker_order.specs.Totals.{totals_of};
 ghost use Rattle.run_pipes.specs.Piping.{Piping};
@@ -12,7 +13,7 @@ ghost use Rattle.run_report.specs.Room.{HaveSpace};
 use crate::joined::Joined;
 use crate::parting::{ForwarderParts, ProcessorParts, ReceiverParts, part_each, part_slow_path};
 use crate::space::Space;
-use packet_ledger::{Book, Share};
+use packet_ledger::{Book, Look, Share};
 use process_packet::Totals;
 use ruled_pipe::Consumer;
 use run_pipes::Pipes;
@@ -113,14 +114,37 @@ where
     (takers, left)
 }
 
-/// The report of what is left, with the counts of all shares of the book summed up.
+// The totals of a book whose shares are all these. No count that a look saw is above them.
+fn close<N: RunBrand, R: Wait>(
+    rt: &R,
+    book: &Book<N>,
+    shares: Vec<Share<N>>,
+    look: Option<Look<N>>,
+) -> Totals
+    requires { length shares.items ≡ N.workers }
+    ensures totals { result ≡ totals_of shares.items }
+    ensures seen { IfSome look (λ l. (i : ℕ) → count_at i l.totals ≤ count_at i result) }
+{
+    match look {
+        Some(look) => {
+            let mut look = look;
+            book.close_after(rt, shares, &mut look)
+        }
+        None => book.close(rt, shares),
+    }
+}
+
+/// The report of what is left, with the counts of all shares of the book summed up. They are no
+/// less than a look at the book saw of them while the router ran.
 pub fn report_of<N: RunBrand, S, K, R: Wait>(
     rt: &R,
     book: &Book<N>,
     left: Left<N, S, K>,
+    look: Option<Look<N>>,
 ) -> Report<S, K>
     requires { length left.shares.items ≡ N.workers }
     ensures totals { result.totals ≡ totals_of left.shares.items }
+    ensures seen { IfSome look (λ l. (i : ℕ) → count_at i l.totals ≤ count_at i result.totals) }
     ensures sent { result.sent.items ≡ left.sent.items }
     ensures sources { result.sources.items ≡ left.sources.items }
     ensures sinks { result.sinks.items ≡ left.sinks.items }
@@ -131,7 +155,7 @@ pub fn report_of<N: RunBrand, S, K, R: Wait>(
         sources,
         sinks,
     } = left;
-    let totals = book.close(rt, shares);
+    let totals = close(rt, book, shares, look);
     Report {
         totals,
         sent,

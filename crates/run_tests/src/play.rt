@@ -128,7 +128,7 @@ where
     match router_run::start::<N, _, _, _, R>(rt, alloc, blank, config, sources, sinks, gate) {
         Ok(mut running) => {
             let as_told = obey_all(&mut running, &lead.words, lead.orders);
-            let report = running.finish();
+            let report = running.finish(None);
             Ok(Played {
                 report,
                 as_told,

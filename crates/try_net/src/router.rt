@@ -139,7 +139,7 @@ where
     let Started { links, running } = router;
     match running {
         Some(running) => {
-            let Report { totals, sent, .. } = running.finish();
+            let Report { totals, sent, .. } = running.finish(None);
             let mut text = Vec::new(rt.alloc());
             push_run_report(&mut text, links.as_slice(), sent.as_slice(), &totals)?;
             print_report(rt, name, text.as_slice())

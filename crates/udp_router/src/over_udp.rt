@@ -97,7 +97,7 @@ where
 
     fn finish(self) -> Figures {
         let OverUdp { running } = self;
-        let Report { totals, sent, .. } = running.finish();
+        let Report { totals, sent, .. } = running.finish(None);
         Figures { sent, totals }
     }
 }

@@ -24,8 +24,8 @@ report_of-requires g c =
     let ends = has_ends g.S.Source.same g.K.Sink.same _ _ _ _ c.self.invariant.1 c.join_workers-joined.ensures in
     ap length c.part_all-takers.ensures.shares ∙ (shares_count _ _ _ _ ends ∙ sym c.self.invariant.0)
 
-pub returns : goal.returns
-returns g c =
+pub returns-clause-run : goal.returns-clause-run
+returns-clause-run g c =
     let parted = c.part_all-takers.ensures in
     let report = c.report_of.ensures in
     let set = settled _ _ _ _ _ parted.takers (c.settle.ensures _ _ _ _ (parted.back _ (none_are_all_back _ _ _ _ c.self.invariant.2))) in
