@@ -1,5 +1,6 @@
 //! The programs that carry datagrams from port 41001 to port 42002.
 
+use crate::cores::Cores;
 use std::fmt;
 use std::fs;
 use std::io::{BufRead, BufReader, Read, Write};
@@ -91,8 +92,10 @@ fn command(programs: &Programs, kind: Kind) -> Command {
 
 impl Contender {
     /// Starts it, and waits until it is ready.
-    pub fn start(programs: &Programs, kind: Kind) -> Contender {
-        let mut child = command(programs, kind)
+    pub fn start(programs: &Programs, kind: Kind, cores: &Cores) -> Contender {
+        let mut command = command(programs, kind);
+        cores.keep_program(&mut command);
+        let mut child = command
             .stdin(Stdio::piped())
             .stdout(Stdio::piped())
             .spawn()

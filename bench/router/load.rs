@@ -1,5 +1,6 @@
 //! The two neighbours: one sends to port 41001 from port 42001, the other one reads at port 42002.
 
+use crate::cores::Cores;
 use crate::datagrams::{FLOWS, PAYLOAD_AT, datagrams};
 use std::ffi::c_void;
 use std::net::{Ipv4Addr, UdpSocket};
@@ -92,6 +93,15 @@ pub struct Load {
     sender: UdpSocket,
     receiver: UdpSocket,
     size: usize,
+    cores: Cores,
+}
+
+/// What came of a flood.
+pub struct Flooded {
+    /// Datagrams a second that came through.
+    pub rate: f64,
+    /// Processor time of each of them, in nanoseconds.
+    pub nanos: f64,
 }
 
 /// Reads datagrams until it is stopped, and counts them.
@@ -121,7 +131,7 @@ fn send_all(socket: &UdpSocket, size: usize, stop: &AtomicBool) {
 }
 
 impl Load {
-    pub fn new(size: usize) -> Load {
+    pub fn new(size: usize, cores: Cores) -> Load {
         let sender = UdpSocket::bind((Ipv4Addr::LOCALHOST, 42001)).expect("port 42001");
         sender
             .connect((Ipv4Addr::LOCALHOST, 41001))
@@ -135,25 +145,33 @@ impl Load {
             sender,
             receiver,
             size,
+            cores,
         }
     }
 
-    /// Sends as fast as it can, and answers how many datagrams a second came through.
-    pub fn flood(&self, length: Duration) -> f64 {
+    /// Sends as fast as it can for a while. `spent` is the processor time of the program that carries what is sent.
+    pub fn flood(&self, length: Duration, spent: impl Fn() -> u64) -> Flooded {
         let (count, stop) = (AtomicU64::new(0), AtomicBool::new(false));
-        let rate = thread::scope(|scope| {
-            scope.spawn(|| count_all(&self.receiver, self.size, &count, &stop));
-            scope.spawn(|| send_all(&self.sender, self.size, &stop));
+        let flooded = thread::scope(|scope| {
+            scope.spawn(|| {
+                self.cores.keep_reader();
+                count_all(&self.receiver, self.size, &count, &stop);
+            });
+            scope.spawn(|| {
+                self.cores.keep_sender();
+                send_all(&self.sender, self.size, &stop);
+            });
             thread::sleep(Duration::from_millis(300));
-            let (start, before) = (Instant::now(), count.load(Ordering::Relaxed));
+            let (start, before, used) = (Instant::now(), count.load(Ordering::Relaxed), spent());
             thread::sleep(length);
-            let came = count.load(Ordering::Relaxed) - before;
-            let rate = came as f64 / start.elapsed().as_secs_f64();
+            let came = (count.load(Ordering::Relaxed) - before) as f64;
+            let nanos = (spent() - used) as f64 / came.max(1.0);
+            let rate = came / start.elapsed().as_secs_f64();
             stop.store(true, Ordering::Relaxed);
-            rate
+            Flooded { rate, nanos }
         });
         self.drain();
-        rate
+        flooded
     }
 
     /// Waits until nothing comes any more.
@@ -163,14 +181,21 @@ impl Load {
     }
 
     /// Sends `pace` datagrams a second. `spent` is the processor time of the program that carries them.
-    pub fn pace(&self, pace: u64, length: Duration, spent: impl Fn() -> u64) -> Paced {
+    pub fn pace(&self, pace: u64, length: Duration, spent: impl Fn() -> u64 + Sync) -> Paced {
         let warm = pace / 5;
         let total = warm + pace * length.as_secs();
         let begin = Instant::now();
         let mut before = 0;
         let mut delays = thread::scope(|scope| {
-            let reading = scope.spawn(|| self.delays(begin, warm, total));
-            before = self.send_paced(begin, pace, warm, total, &spent);
+            let reading = scope.spawn(|| {
+                self.cores.keep_reader();
+                self.delays(begin, warm, total)
+            });
+            let sending = scope.spawn(|| {
+                self.cores.keep_sender();
+                self.send_paced(begin, pace, warm, total, &spent)
+            });
+            before = sending.join().expect("a time");
             reading.join().expect("delays")
         });
         let nanos = (spent() - before) as f64;
@@ -193,7 +218,7 @@ impl Load {
         pace: u64,
         warm: u64,
         total: u64,
-        spent: &impl Fn() -> u64,
+        spent: &(impl Fn() -> u64 + Sync),
     ) -> u64 {
         let mut all = datagrams(self.size);
         let mut before = 0;

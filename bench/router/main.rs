@@ -1,17 +1,20 @@
 //! Times the router over loopback beside plain Rust and C. `bench ROUTER PLAIN FORWARD ROOM`: the programs, and a
 //! directory for configurations. Each round starts each of them for each size of datagram, floods it for a while, and
-//! then sends at a steady pace; then each is left alone. Medians of all rounds are printed. The environment may have
+//! then sends at a steady pace; then each is left alone. Medians of all rounds are printed, and of a flood the least and
+//! the most too. The environment may have
 //! ROUNDS, SECONDS, how long each of these takes, and ONLY, a part of the names of those that are timed.
 
 #[path = "../decision/cipher.rs"]
 #[allow(dead_code)]
 mod cipher;
 mod contender;
+mod cores;
 mod datagrams;
 mod load;
 
 use contender::{Contender, Kind, Programs};
-use load::{Load, Paced};
+use cores::Cores;
+use load::{Flooded, Load, Paced};
 use std::env;
 use std::path::PathBuf;
 use std::time::Duration;
@@ -21,46 +24,42 @@ const PACE: u64 = 20_000;
 
 const SIZES: [usize; 2] = [200, 1400];
 
-/// The two that the ratios compare.
-const ROUTER: Kind = Kind::Router {
-    links: 2,
-    processors: 1,
-};
-const PLAIN: Kind = Kind::Plain {
-    links: 2,
-    processors: 1,
-};
+/// How many processors the router and plain Rust have.
+const PROCESSORS: [u16; 3] = [1, 2, 4];
 
+const fn router(processors: u16) -> Kind {
+    Kind::Router {
+        links: 2,
+        processors,
+    }
+}
+
+const fn plain(processors: u16) -> Kind {
+    Kind::Plain {
+        links: 2,
+        processors,
+    }
+}
+
+/// What is compared stands side by side, and so runs one after the other.
 const CONTENDERS: [Kind; 8] = [
-    ROUTER,
-    Kind::Router {
-        links: 2,
-        processors: 2,
-    },
-    Kind::Router {
-        links: 2,
-        processors: 4,
-    },
-    PLAIN,
-    Kind::Plain {
-        links: 2,
-        processors: 2,
-    },
-    Kind::Plain {
-        links: 2,
-        processors: 4,
-    },
+    router(1),
+    plain(1),
+    router(2),
+    plain(2),
+    router(4),
+    plain(4),
     Kind::One,
     Kind::Many,
 ];
 
 const IDLE: [Kind; 4] = [
-    ROUTER,
+    router(1),
     Kind::Router {
         links: 32,
         processors: 16,
     },
-    PLAIN,
+    plain(1),
     Kind::Plain {
         links: 32,
         processors: 16,
@@ -72,6 +71,8 @@ const IDLE: [Kind; 4] = [
 struct Figures {
     /// Datagrams a second when flooded.
     flooded: Vec<f64>,
+    /// Nanoseconds of processor time a datagram then.
+    busy: Vec<f64>,
     /// Nanoseconds of processor time a datagram, at the steady pace.
     nanos: Vec<f64>,
     /// Microseconds from sender to receiver.
@@ -82,8 +83,9 @@ struct Figures {
 }
 
 impl Figures {
-    fn add(&mut self, flooded: f64, paced: Paced) {
-        self.flooded.push(flooded);
+    fn add(&mut self, flooded: Flooded, paced: Paced) {
+        self.flooded.push(flooded.rate);
+        self.busy.push(flooded.nanos);
         self.nanos.push(paced.nanos);
         self.middle.push(paced.middle);
         self.late.push(paced.late);
@@ -105,16 +107,16 @@ fn number(name: &str, usual: u64) -> u64 {
 
 fn main() {
     let words: Vec<PathBuf> = env::args().skip(1).map(PathBuf::from).collect();
-    let [router, plain, forward, room] = words.as_slice() else {
+    let [own, rust, forward, room] = words.as_slice() else {
         panic!("bench ROUTER PLAIN FORWARD ROOM");
     };
     let programs = Programs {
-        router,
-        plain,
+        router: own,
+        plain: rust,
         forward,
         room,
     };
-    let rounds = number("ROUNDS", 5);
+    let rounds = number("ROUNDS", 7);
     let length = Duration::from_secs(number("SECONDS", 2));
     let only = env::var("ONLY").unwrap_or_default();
     let is_timed = |kind: &Kind| kind.to_string().contains(&only);
@@ -124,16 +126,26 @@ fn main() {
         "no row's name has {only:?}"
     );
 
+    let cores = Cores::new();
+    eprintln!(
+        "sender and reader {}",
+        if cores.are_apart() { "have a core each" } else { "share the cores with the programs" }
+    );
     let mut figures: Vec<[Figures; 2]> = CONTENDERS.iter().map(|_| Default::default()).collect();
     let mut idle: Vec<Vec<f64>> = IDLE.iter().map(|_| vec![]).collect();
     for round in 1..=rounds {
         eprintln!("round {round} of {rounds}");
         for (at, size) in SIZES.iter().enumerate() {
-            let load = Load::new(*size);
+            let load = Load::new(*size, cores);
             let contenders = CONTENDERS.iter().zip(&mut figures);
-            for (kind, figures) in contenders.filter(|(kind, _)| is_timed(kind)) {
-                let contender = Contender::start(&programs, *kind);
-                let flooded = load.flood(length);
+            let mut turns: Vec<_> = contenders.filter(|(kind, _)| is_timed(kind)).collect();
+            // what comes first in one round comes last in the next
+            if round % 2 == 0 {
+                turns.reverse();
+            }
+            for (kind, figures) in turns {
+                let contender = Contender::start(&programs, *kind, &cores);
+                let flooded = load.flood(length, || contender.spent());
                 let paced = load.pace(PACE, length, || contender.spent());
                 contender.end();
                 figures[at].add(flooded, paced);
@@ -144,7 +156,7 @@ fn main() {
             .zip(&mut idle)
             .filter(|(kind, _)| is_timed(kind))
         {
-            let contender = Contender::start(&programs, *kind);
+            let contender = Contender::start(&programs, *kind, &cores);
             shares.push(contender.idle_share(length));
             contender.end();
         }
@@ -158,17 +170,23 @@ fn main() {
     for (at, size) in SIZES.iter().enumerate().filter(|_| !timed.is_empty()) {
         let columns = [
             "thousand/s",
+            "least",
+            "most",
+            "us in a flood",
             "us at 20,000/s",
             "p50 us",
             "p99 us",
             "lost of 1000",
         ];
         print!("{:<28}", format!("{size} bytes"));
-        println!("{}", columns.map(|name| format!("{name:>16}")).concat());
+        println!("{}", columns.map(|name| format!("{name:>15}")).concat());
         for (kind, figures) in &timed {
             let of = &figures[at];
             let row = [
                 median(&of.flooded) / 1000.0,
+                of.flooded.iter().copied().fold(f64::NAN, f64::min) / 1000.0,
+                of.flooded.iter().copied().fold(f64::NAN, f64::max) / 1000.0,
+                median(&of.busy) / 1000.0,
                 median(&of.nanos) / 1000.0,
                 median(&of.middle),
                 median(&of.late),
@@ -177,7 +195,7 @@ fn main() {
             println!(
                 "{:<28}{}",
                 kind.to_string(),
-                row.map(|figure| format!("{figure:>16.1}")).concat()
+                row.map(|figure| format!("{figure:>15.1}")).concat()
             );
         }
     }
@@ -190,14 +208,35 @@ fn main() {
         println!("{:<28}{:>16.1}", kind.to_string(), median(shares));
     }
     // ONLY may have left out a side of a ratio
-    let flooded = |kind: Kind| {
+    let of = |kind: Kind, at: usize| {
         let own = timed.iter().find(|(timed, _)| **timed == kind)?;
-        Some(median(&own.1[0].flooded))
+        Some(&own.1[at])
     };
-    let ratio = |over: Kind| Some(flooded(ROUTER)? / flooded(over)?);
-    print_or_skip("run/rust", ratio(PLAIN), 2);
-    print_or_skip("run/c", ratio(Kind::One), 2);
-    print_or_skip("idle", is_timed(&ROUTER).then(|| median(&idle[0])), 1);
+    for (at, size) in SIZES.iter().enumerate() {
+        for processors in PROCESSORS {
+            let sides = of(router(processors), at).zip(of(plain(processors), at));
+            let ratio = sides.map(|(own, rust)| median(&ratios(&own.flooded, &rust.flooded)));
+            print_or_skip(&format!("run/rust {size} {processors}"), ratio, 2);
+        }
+        let best = PROCESSORS
+            .iter()
+            .filter_map(|it| of(router(*it), at))
+            .max_by(|a, b| median(&a.flooded).total_cmp(&median(&b.flooded)));
+        let sides = best.zip(of(Kind::One, at));
+        let ratio = sides.map(|(own, c)| median(&ratios(&own.flooded, &c.flooded)));
+        print_or_skip(&format!("run/c {size}"), ratio, 2);
+        let sides = of(router(1), at).zip(of(Kind::One, at));
+        let ratio = sides.map(|(own, c)| median(&ratios(&own.nanos, &c.nanos)));
+        print_or_skip(&format!("time/c {size}"), ratio, 2);
+        let ratio = sides.map(|(own, c)| median(&ratios(&own.middle, &c.middle)));
+        print_or_skip(&format!("median/c {size}"), ratio, 2);
+    }
+    print_or_skip("idle", is_timed(&router(1)).then(|| median(&idle[0])), 1);
+}
+
+/// What one side came to over the other, in each round.
+fn ratios(over: &[f64], under: &[f64]) -> Vec<f64> {
+    over.iter().zip(under).map(|(a, b)| a / b).collect()
 }
 
 /// Prints a figure of the last lines, or that it wasn't measured.
