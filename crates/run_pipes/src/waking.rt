@@ -2,10 +2,9 @@
 
 ghost use Rattle.std.specs.Prelude.{◌≡◌, IfOk, length};
 
-use crossbeam_utils::sync::EventCount;
 use std::alloc::{AllocError, Global};
 use std::sync::Arc;
-use worker_parts::Event;
+use worker_parts::{Event, Wakeup};
 
 /// An event for each worker that sleeps until something is pushed: each processor, the slow path and each
 /// forwarder. The producers of its pipes notify it.
@@ -21,7 +20,7 @@ fn so_many(alloc: Global, count: usize) -> Result<Vec<Event>, AllocError>
 {
     let mut events = Vec::new(alloc);
     for k in 0..count {
-        events.push(Arc::new(alloc, EventCount::new())?)?;
+        events.push(Arc::new(alloc, Wakeup::new())?)?;
     }
     Ok(events)
 }
@@ -33,7 +32,7 @@ pub fn events_for(alloc: Global, links: usize, processors: usize) -> Result<Even
 {
     Ok(Events {
         processors: so_many(alloc, processors)?,
-        slow: Arc::new(alloc, EventCount::new())?,
+        slow: Arc::new(alloc, Wakeup::new())?,
         forwarders: so_many(alloc, links)?,
     })
 }
@@ -41,13 +40,13 @@ pub fn events_for(alloc: Global, links: usize, processors: usize) -> Result<Even
 /// Wakes the worker of a number.
 pub fn notify_one(events: &[Event], number: usize) {
     if let Some(event) = events.get(number) {
-        event.notify_one();
+        event.notify();
     }
 }
 
 /// Wakes them all.
 pub fn notify_all(events: &[Event]) {
     for event in events {
-        event.notify_one();
+        event.notify();
     }
 }

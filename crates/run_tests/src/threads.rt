@@ -2,7 +2,6 @@
 
 ghost use Rattle.std.specs.Prelude.{◌≡◌, ◌≤◌, false};
 
-use crossbeam_utils::sync::EventCount;
 use packet_ledger::{Blank, Book, RunBrand, Share};
 use ruled_pipe::Load;
 use stages_tests::{ends_of, next_producer};
@@ -15,7 +14,7 @@ use std::test::*;
 use std::thread;
 use std::thread::Threads;
 use std::time::{Clock, Duration};
-use worker_parts::{Event, Inlet, Outlet, Signal, Stage, Turn, Turns};
+use worker_parts::{Event, Inlet, Outlet, Signal, Stage, Turn, Turns, Wakeup};
 use worker_threads::{Started, Team, ThreadControl, give_up, join_all, start_each};
 
 // It counts a number of datagrams as received, one in a turn, is quiet for a number of turns, and has ended.
@@ -355,7 +354,7 @@ where
     requires none { N.workers ≡ 0 }
 {
     let (control, _) = orders_for::<N, R>(&rt, alloc, blank, 0);
-    let event = Arc::new(alloc, EventCount::new()).expect(&rt, "memory");
+    let event = Arc::new(alloc, Wakeup::new()).expect(&rt, "memory");
     let woken = control.another_with(&event).expect(&rt, "memory");
     let (mut to, drain) = at_both_ends(&rt, alloc, event);
     let team = alone(&rt, alloc, drain, woken);

@@ -26,7 +26,7 @@ mod turn;
 pub use booleans::{are_both, is_either};
 pub use buffer::{BUFFER_LEN, Buffer};
 pub use egress_packet::EgressPacket;
-pub use event::Event;
+pub use event::{Event, Wakeup};
 pub use gate::Gate;
 pub use giving_back::give_back;
 pub use inlet::Inlet;
