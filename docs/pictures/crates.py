@@ -22,7 +22,7 @@ LAYERS = [
     ("model of the pipeline", "#fdeec9", "replay_laws replay_places replay_state replay_steps pipe_model"),
     ("between threads", "#f8dcd3", "ruled_pipe packet_ledger"),
     ("laws of workers", "#fdeec9", "worker_laws worker_order run_promises"),
-    ("workers", "#f8dcd3", "worker_parts worker_receiver worker_forwarder router_stages"),
+    ("workers", "#f8dcd3", "worker_parts worker_receiver worker_processor worker_forwarder"),
     ("threads, and the run", "#f8dcd3", "run_ends run_pipes worker_threads run_workers run_report router_run"),
     ("sockets", "#f8dcd3", "udp_devices"),
     ("text and commands", "#e6def0", "text_values metrics_text metrics_server counts_page router_config config_warnings net_check cli_io cli_route cli_replay cli_run udp_router cli_words cli_faults cli_check router_program"),

@@ -16,9 +16,9 @@ use Rattle.router_rules.specs.Rules.{kinds}
 use Rattle.worker_order.specs.Heard.{Heard}
 use Rattle.worker_order.specs.Keeping.{IsReceiving, IsWorking, IsAnswering}
 use Rattle.worker_order.specs.Returned.{ReceiverBack, ProcessorBack, ForwarderBack, Returned, HaveReturned, IsBackReceiver, IsBackProcessor, IsBackForwarder, link_rows}
-use Rattle.router_stages.specs.Forwarding.{Forwarding}
-use Rattle.router_stages.specs.Receiving.{Receiving}
-use Rattle.router_stages.specs.Working.{Working}
+use Rattle.worker_forwarder.specs.Forwarding.{Forwarding}
+use Rattle.worker_receiver.specs.Receiving.{Receiving}
+use Rattle.worker_processor.specs.Working.{Working}
 use Rattle.worker_parts.specs.Outlets.{senders}
 use Rattle.worker_parts.specs.Told.{Told, told_of}
 use Rattle.run_ends.specs.Shutting.{closed_at}

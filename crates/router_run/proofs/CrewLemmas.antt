@@ -4,10 +4,10 @@ use Rattle.process_packet.specs.declared.config.Config.{Config}
 use Rattle.order_laws.specs.Item.{Outgoing}
 use Rattle.router_rules.specs.Links.{link_count}
 use Rattle.router_rules.specs.Rules.{kinds}
-use Rattle.router_stages.specs.Answering.{Answering}
-use Rattle.router_stages.specs.Forwarding.{Forwarding}
-use Rattle.router_stages.specs.Receiving.{Receiving}
-use Rattle.router_stages.specs.Working.{Working}
+use Rattle.worker_processor.specs.Answering.{Answering}
+use Rattle.worker_forwarder.specs.Forwarding.{Forwarding}
+use Rattle.worker_receiver.specs.Receiving.{Receiving}
+use Rattle.worker_processor.specs.Working.{Working}
 use Rattle.worker_parts.specs.Outlets.{are_used}
 use Rattle.run_ends.specs.Shutting.{Shutting}
 use Rattle.run_pipes.specs.Closing.{StayEnds}

@@ -12,12 +12,12 @@ use Rattle.router_rules.specs.Links.{has_two_bands, link_count}
 use Rattle.router_rules.specs.Rules.{kinds}
 use Rattle.worker_order.specs.Heard.{Heard}
 use Rattle.worker_order.specs.Returned.{AllAt}
-use Rattle.router_stages.specs.Forwarding.{Forwarding, ForwarderEnded}
-use Rattle.router_stages.specs.Receiving.{Receiving}
-use Rattle.router_stages.specs.SameForwarder.{IsSameForwarder}
-use Rattle.router_stages.specs.SameProcessor.{IsSameProcessor, ProcessorEnded}
-use Rattle.router_stages.specs.SameReceiver.{IsSameReceiver, ReceiverEnded}
-use Rattle.router_stages.specs.Working.{Working}
+use Rattle.worker_forwarder.specs.Forwarding.{Forwarding, ForwarderEnded}
+use Rattle.worker_receiver.specs.Receiving.{Receiving}
+use Rattle.worker_forwarder.specs.SameForwarder.{IsSameForwarder}
+use Rattle.worker_processor.specs.SameProcessor.{IsSameProcessor, ProcessorEnded}
+use Rattle.worker_receiver.specs.SameReceiver.{IsSameReceiver, ReceiverEnded}
+use Rattle.worker_processor.specs.Working.{Working}
 use Rattle.worker_parts.proofs.UsedLemmas.{used_high}
 use Rattle.worker_parts.specs.Outlet.{Offering}
 use Rattle.worker_parts.specs.Outlets.{AreFresh, HaveEnded, are_used, senders}

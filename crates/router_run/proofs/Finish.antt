@@ -13,9 +13,9 @@ use Rattle.worker_order.specs.Returned.{ForwarderBack, ProcessorBack, ReceiverBa
 use Rattle.worker_order.specs.Totals.{totals_of}
 use Rattle.router_rules.specs.Links.{link_count}
 use Rattle.router_rules.specs.Rules.{kinds}
-use Rattle.router_stages.specs.Forwarding.{Forwarding}
-use Rattle.router_stages.specs.Receiving.{EndsQuietly, Receiving}
-use Rattle.router_stages.specs.Working.{Working}
+use Rattle.worker_forwarder.specs.Forwarding.{Forwarding}
+use Rattle.worker_receiver.specs.Receiving.{EndsQuietly, Receiving}
+use Rattle.worker_processor.specs.Working.{Working}
 use Rattle.worker_parts.specs.Told.{Told, told_of}
 use Rattle.run_ends.specs.Settled.{AreSettled, IsDone}
 use Rattle.run_pipes.specs.Piping.{Piping}

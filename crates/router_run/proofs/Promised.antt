@@ -7,8 +7,8 @@ use Rattle.worker_order.specs.Heard.{Heard, TellsOf}
 use Rattle.worker_order.specs.Returned as returned
 use Rattle.worker_order.specs.Totals.{totals_of}
 use Rattle.router_rules.specs.Links.{interface_at}
-use Rattle.router_stages.specs.Forwarding.{Forwarding}
-use Rattle.router_stages.specs.Receiving.{Receiving}
+use Rattle.worker_forwarder.specs.Forwarding.{Forwarding}
+use Rattle.worker_receiver.specs.Receiving.{Receiving}
 use Rattle.run_promises.specs.Promises.{KeepsPromises}
 use Rattle.run_promises.proofs.Promises.{closed_as, promises_are_kept}
 use Rattle.worker_laws.proofs.Composed.{map_get}

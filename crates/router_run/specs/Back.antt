@@ -2,10 +2,10 @@
 use Rattle.std.specs.Prelude.{ℕ, List, map, Option}
 use Rattle.worker_order.specs.Heard.{Heard}
 use Rattle.worker_order.specs.Returned.{ReceiverBack, ProcessorBack, SlowBack, ForwarderBack, Returned}
-use Rattle.router_stages.specs.Answering.{Answering}
-use Rattle.router_stages.specs.Forwarding.{Forwarding, ForwarderEnded}
-use Rattle.router_stages.specs.Receiving.{Receiving}
-use Rattle.router_stages.specs.Working.{Working}
+use Rattle.worker_processor.specs.Answering.{Answering}
+use Rattle.worker_forwarder.specs.Forwarding.{Forwarding, ForwarderEnded}
+use Rattle.worker_receiver.specs.Receiving.{Receiving}
+use Rattle.worker_processor.specs.Working.{Working}
 use Rattle.worker_parts.specs.Outlets.{senders}
 use Rattle.worker_parts.specs.Told.{Told}
 use Rattle.run_ends.specs.Settled.{AreSettled, IsDone}
@@ -13,10 +13,10 @@ use Rattle.run_ends.specs.Shutting.{shutter_ends, EachEnds}
 use Rattle.run_report.specs.Crew.{Crew, packet_rows, packet_takers, request_row, egress_rows, takers_of}
 use Rattle.run_pipes.specs.Piping.{Piping}
 use Rattle.worker_parts.specs.Back.{AreBack}
-use Rattle.router_stages.specs.SameReceiver.{IsSameReceiver, ReceiverEnded}
-use Rattle.router_stages.specs.SameProcessor.{IsSameProcessor, ProcessorEnded}
-use Rattle.router_stages.specs.SameSlowPath.{IsSameSlowPath, SlowPathEnded}
-use Rattle.router_stages.specs.SameForwarder.{IsSameForwarder}
+use Rattle.worker_receiver.specs.SameReceiver.{IsSameReceiver, ReceiverEnded}
+use Rattle.worker_processor.specs.SameProcessor.{IsSameProcessor, ProcessorEnded}
+use Rattle.worker_processor.specs.SameSlowPath.{IsSameSlowPath, SlowPathEnded}
+use Rattle.worker_forwarder.specs.SameForwarder.{IsSameForwarder}
 
 -- Each worker is the same, over the same device, and has ended; the controller's end marks are there.
 pub record IsBack {S G K : Type 0} (same_source : S → S → Type 0) (same_sink : K → K → Type 0) (old new : Crew S G K) : Type 0 where

@@ -3,8 +3,8 @@ use Rattle.std.specs.Prelude.{◌+◌, ◌-◌, ℕ, List}
 use Rattle.order_laws.specs.Item.{Outgoing}
 use Rattle.router_rules.specs.Rules.{kinds}
 use Rattle.process_packet.specs.declared.config.Config.{Config}
-use Rattle.router_stages.specs.Answering.{Answering}
-use Rattle.router_stages.specs.Working.{Working}
+use Rattle.worker_processor.specs.Answering.{Answering}
+use Rattle.worker_processor.specs.Working.{Working}
 use Rattle.ruled_pipe.specs.Producer.{Sender}
 use Rattle.run_ends.specs.Rows.{fresh_ends}
 use Rattle.run_ends.specs.Shutting.{AreNew, Shutting}

@@ -6,8 +6,8 @@ use Rattle.process_packet.specs.declared.totals.Totals.{Totals}
 use Rattle.worker_order.specs.Heard.{Heard}
 use Rattle.worker_order.specs.Returned as returned
 use Rattle.worker_order.specs.Totals.{totals_of}
-use Rattle.router_stages.specs.Forwarding.{Forwarding}
-use Rattle.router_stages.specs.Receiving.{EndsQuietly, Receiving}
+use Rattle.worker_forwarder.specs.Forwarding.{Forwarding}
+use Rattle.worker_receiver.specs.Receiving.{EndsQuietly, Receiving}
 use Rattle.ruled_pipe.specs.Producer.{Sender}
 use Rattle.order_laws.specs.Deeds.{Each}
 use Rattle.worker_parts.specs.Told.{Told, told_of}

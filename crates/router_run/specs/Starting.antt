@@ -1,8 +1,8 @@
 -- How a router starts.
 use Rattle.std.specs.Prelude.{◌≡◌, ◌+◌, ◌-◌, ℕ, List, map, length}
 use Rattle.process_packet.specs.declared.config.Config.{Config}
-use Rattle.router_stages.specs.Forwarding.{Forwarding}
-use Rattle.router_stages.specs.Receiving.{Receiving}
+use Rattle.worker_forwarder.specs.Forwarding.{Forwarding}
+use Rattle.worker_receiver.specs.Receiving.{Receiving}
 use Rattle.router_rules.specs.Links.{link_count}
 use Rattle.worker_parts.specs.Outlets.{are_used}
 use Rattle.run_ends.specs.Rows.{fresh_ends}

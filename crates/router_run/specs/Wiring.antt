@@ -1,8 +1,8 @@
 -- A router's workers over their pipes, as they begin.
 use Rattle.std.specs.Prelude.{◌≡◌, ℕ, ◌+◌}
 use Rattle.process_packet.specs.declared.config.Config.{Config}
-use Rattle.router_stages.specs.Forwarding.{Forwarding}
-use Rattle.router_stages.specs.Receiving.{Receiving}
+use Rattle.worker_forwarder.specs.Forwarding.{Forwarding}
+use Rattle.worker_receiver.specs.Receiving.{Receiving}
 use Rattle.worker_parts.specs.Outlets.{are_used}
 use Rattle.run_ends.specs.Shutting.{AreUnended, AreShutters}
 use Rattle.run_report.specs.Crew.{Crew}

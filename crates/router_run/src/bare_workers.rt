@@ -11,7 +11,6 @@ ghost use Rattle.router_run.specs.BareWorkers.{AreAfterReceivers, AreBareWorkers
 
 use packet_ledger::Share;
 use router_rules::link_count;
-use router_stages::{Processor, SlowPath};
 use ruled_pipe::{Consumer, Producer};
 use run_ends::{Line, Shutter};
 use run_pipes::{Pipes, Takers, fill, open_all, shutters};
@@ -21,6 +20,7 @@ use run_workers::{
 use std::alloc::{AllocError, Global};
 use std::sync::{Arc, Wait};
 use worker_parts::{Buffer, EgressPacket, Gate, Packet, RunBrand, SlowPathRequest};
+use worker_processor::{Processor, SlowPath};
 
 /// The pipes, what the workers are made of, before any device is taken, and the ends that filled the pipes of
 /// free buffers.

@@ -19,7 +19,6 @@ use crate::threads::{Threaded, give_up_all, start_front, start_rear};
 use packet_ledger::{Blank, Book, Look};
 use process_packet::Config;
 use router_rules::{causes_are_apart, link_count, links_stand_in_order, rules_are_lawful};
-use router_stages::{Forwarder, Processor, Receiver};
 use ruled_pipe::Producer;
 use run_pipes::{CloseFault, Controller, Events, Pipes};
 use run_report::{Report, Space, part_all, report_of};
@@ -29,7 +28,10 @@ use std::marker::Model;
 use std::rt::Clock;
 use std::sync::{Arc, Wait};
 use std::thread::Threads;
+use worker_forwarder::Forwarder;
 use worker_parts::{Buffer, Event, Gate, RunBrand, Sink, Source};
+use worker_processor::Processor;
+use worker_receiver::Receiver;
 use worker_threads::{ThreadControl, start_worker};
 
 /// A running router. It has no `Drop`: it can only be finished. Contracts see its configuration, its pipes,

@@ -7,12 +7,14 @@ ghost use Rattle.run_workers.specs.Kits.{forwardings, receivings};
 ghost use Rattle.worker_threads.specs.Teams.{IsFor};
 
 use packet_ledger::Book;
-use router_stages::{Forwarder, Processor, Receiver, SlowPath};
 use run_workers::{Entering, Leaving, over_each};
 use std::sync::Wait;
 use std::thread::Threads;
 use std::time::Clock;
+use worker_forwarder::Forwarder;
 use worker_parts::{Gate, RunBrand, Sink, Source};
+use worker_processor::{Processor, SlowPath};
+use worker_receiver::Receiver;
 use worker_threads::{Handle, Started, Team, ThreadControl, give_up, start_each};
 
 /// The threads of a router's workers.

@@ -4,3 +4,4 @@ pub mod Fresh
 pub mod HandingLemmas
 pub mod OkLemmas
 pub mod PipesLemmas
+pub mod RestLemmas

@@ -3,10 +3,10 @@ use Rattle.std.specs.Prelude.{List, [], ◌∷◌, map, ◌++◌}
 use Rattle.order_laws.specs.Settled.{SlowPathRequest}
 use Rattle.ruled_pipe.specs.Consumer.{Taker}
 use Rattle.router_rules.specs.Rules.{kinds}
-use Rattle.router_stages.specs.Answering.{Answering}
-use Rattle.router_stages.specs.Forwarding.{Forwarding}
-use Rattle.router_stages.specs.Receiving.{Receiving}
-use Rattle.router_stages.specs.Working.{Working}
+use Rattle.worker_processor.specs.Answering.{Answering}
+use Rattle.worker_forwarder.specs.Forwarding.{Forwarding}
+use Rattle.worker_receiver.specs.Receiving.{Receiving}
+use Rattle.worker_processor.specs.Working.{Working}
 use Rattle.worker_parts.specs.Outlets.{senders}
 use Rattle.run_ends.specs.Shutting.{shutter_ends, Shutting}
 use Rattle.order_laws.specs.Item.{Outgoing, Arrival}

@@ -1,8 +1,10 @@
 //! Workers that came back from their threads.
 
-use router_stages::{Forwarder, Processor, Receiver, SlowPath};
 use run_ends::Shutter;
+use worker_forwarder::Forwarder;
 use worker_parts::{EgressPacket, Gate, RunBrand, Sink, Source};
+use worker_processor::{Processor, SlowPath};
+use worker_receiver::Receiver;
 
 /// Workers that came back, and the controller's ends: a crew (`crew_in`).
 #[derive(Drop)]

@@ -10,14 +10,13 @@ ghost use Rattle.run_ends.specs.TakenBack.{HaveBack};
 ghost use Rattle.run_report.specs.Parting.{KeptSlowPath};
 
 use packet_ledger::Share;
-use router_stages::{
-    Forwarder, PartedForwarder, PartedProcessor, PartedReceiver, PartedSlowPath, Processor,
-    Receiver, SlowPath,
-};
 use ruled_pipe::{Consumer, Keeper};
 use run_ends::{Line, Shutter};
 use run_pipes::{Pipes, take_back};
+use worker_forwarder::{Forwarder, PartedForwarder};
 use worker_parts::{EgressPacket, Gate, Packet, RunBrand, Sink, SlowPathRequest, Source};
+use worker_processor::{PartedProcessor, PartedSlowPath, Processor, SlowPath};
+use worker_receiver::{PartedReceiver, Receiver};
 
 /// A worker that can be taken apart: the pipes take back its ends, and what else is left of it is added to `P`.
 pub trait Apart<N: RunBrand, P> {

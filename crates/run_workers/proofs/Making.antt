@@ -1,17 +1,14 @@
 -- A worker made of what is next of each list.
-use Rattle.std.proofs.Common.{◌≡◌, ◌≤◌, ℕ, zero, suc, ◌+◌, List, [], ◌∷◌, ◌++◌, length, Some, slice_get, sym, ◌∙◌, ap, subst, arith, append_assoc, append-nil, length-append}
+use Rattle.std.proofs.Common.{◌≡◌, ◌≤◌, ℕ, zero, suc, ◌+◌, List, [], ◌∷◌, ◌++◌, length, Some, slice_get, sym, ◌∙◌, ap, subst, arith, append_assoc, append-nil}
 use Rattle.std.specs.List.{All}
 use Rattle.packet_ledger.specs.Share.{Held, new_share}
 use Rattle.order_laws.specs.Deeds.{Each}
 use Rattle.ruled_pipe.specs.Consumer.{Taker, new_taker}
 use Rattle.ruled_pipe.specs.Pipe.{Shape, IsTakerOf}
-use Rattle.worker_order.specs.Returned.{AllAt}
 use Rattle.run_ends.specs.Rows.{AreFor}
 use Rattle.run_pipes.specs.Piping.{IsTakerThere}
 use Rattle.run_workers.specs.Kits.{paired}
 use Rattle.run_workers.specs.Shares.{AreNewShares, HaveGone}
-use Rattle.run_pipes.specs.Rest.{IsRest}
-use Rattle.run_workers.proofs.RestLemmas.{all_more}
 
 each_of : {X : Type 0} (P : X → Type 0) (xs : List X) → All P xs → Each P xs
 each_of P [] all = tt
@@ -47,22 +44,6 @@ module _ {T : Type 0} where
   -- the consumer of a pipe
   pub taker_of : (s : Shape) (t u : Taker T) → u ≡ t → t ≡ new_taker s.pipe s.producers s.capacity → IsTakerOf s u
   taker_of s t u same fresh = let e = same ∙ fresh in (ap (λ (x : Taker T). x.pipe) e, ap (λ (x : Taker T). x.producers) e, ap (λ (x : Taker T). x.capacity) e)
-
-module _ {X : Type 0} where
-  pub all_none : (P : ℕ → X → Type 0) (n : ℕ) (xs : List X) → xs ≡ [] → AllAt P n xs
-  all_none P n xs none = subst (λ (ys : List X). AllAt P n ys) (sym none) tt
-
-  -- one more after them
-  pub all_pushed : (P : ℕ → X → Type 0) (i : ℕ) (xs ys : List X) (x : X) → ys ≡ xs ++ x ∷ [] → AllAt P 0 xs → length xs ≡ i → P i x → AllAt P 0 ys
-  all_pushed P i xs ys x is all long p =
-      let e : i ≡ 0 + length xs = omega arith in
-      subst (λ (zs : List X). AllAt P 0 zs) (sym is) (all_more P 0 xs x all (subst (λ (k : ℕ). P k x) e p))
-
-  pub pushed_long : (i : ℕ) (xs ys : List X) (x : X) → ys ≡ xs ++ x ∷ [] → length xs ≡ i → length ys ≡ i + 1
-  pushed_long i xs ys x is long = let l = ap length is in let a = length-append xs (x ∷ []) in omega arith
-
-  pub all_made : (P : ℕ → X → Type 0) (k n : ℕ) (xs : List X) → k ≡ n → length xs ≡ k → AllAt P 0 xs → IsRest P 0 n xs
-  all_made P k n xs same long all = record { each = all; count = let e = long ∙ same in omega arith }
 
 -- all have been made
 pub all_taken : (k count n : ℕ) → k ≤ count → count ≤ k → count ≡ n → k ≡ n

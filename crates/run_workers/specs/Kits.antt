@@ -7,10 +7,10 @@ use Rattle.ruled_pipe.specs.Producer.{Sender}
 use Rattle.ruled_pipe.specs.Consumer.{Taker}
 use Rattle.ruled_pipe.specs.Pipe.{Shape, IsEndOf, IsTakerOf}
 use Rattle.router_rules.specs.Rules.{kinds}
-use Rattle.router_stages.specs.Answering.{Answering}
-use Rattle.router_stages.specs.Forwarding.{Band, Forwarding, first_delivery, first_forwarding}
-use Rattle.router_stages.specs.Receiving.{Receiving, first_receiving}
-use Rattle.router_stages.specs.Working.{Working}
+use Rattle.worker_processor.specs.Answering.{Answering}
+use Rattle.worker_forwarder.specs.Forwarding.{Band, Forwarding, first_delivery, first_forwarding}
+use Rattle.worker_receiver.specs.Receiving.{Receiving, first_receiving}
+use Rattle.worker_processor.specs.Working.{Working}
 use Rattle.worker_parts.specs.Outlet.{Offering}
 use Rattle.worker_parts.specs.Outlets.{AreFresh, senders}
 use Rattle.run_ends.specs.Rows.{AreEndsOf, fresh_ends}

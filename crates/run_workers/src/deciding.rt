@@ -15,13 +15,13 @@ ghost use Rattle.run_workers.specs.Shares.{AreNewShares, HaveGone};
 use crate::common::Common;
 use packet_ledger::Share;
 use router_rules::link_count;
-use router_stages::{Processor, SlowPath};
 use ruled_pipe::Consumer;
 use run_ends::{Line, next_producers};
 use run_pipes::{Pipes, outlets};
 use std::alloc::{AllocError, Global};
 use std::sync::Arc;
 use worker_parts::{Gate, Inlet, Outlet, Packet, RunBrand, SlowPathRequest, both};
+use worker_processor::{Processor, SlowPath};
 
 // The processor of a number, with its consumer and its share, and the next of its ends.
 fn processor_of<N: RunBrand, G: Gate + Drop>(

@@ -16,7 +16,6 @@ use crate::common::Common;
 use crate::over::Over;
 use packet_ledger::Share;
 use router_rules::{LinkIndex, Shared, link_count};
-use router_stages::Receiver;
 use ruled_pipe::Consumer;
 use run_ends::Line;
 use run_pipes::{Pipes, outlets};
@@ -25,6 +24,7 @@ use std::marker::Model;
 use std::sync::Arc;
 use std::sync::atomic::AtomicU64;
 use worker_parts::{Buffer, Outlet, Packet, RunBrand, Source, both};
+use worker_receiver::Receiver;
 
 /// All that a receiver is made of but its source.
 pub struct Entering<N: RunBrand> {

@@ -4,7 +4,7 @@ ghost use Rattle.std.specs.Prelude.{◌≡◌, IfOk, [], Some, length, false};
 ghost use Rattle.std.specs.Arc.{arc_value};
 ghost use Rattle.packet_ledger.specs.Share.{new_share};
 ghost use Rattle.router_rules.specs.Links.{link_count};
-ghost use Rattle.router_stages.specs.Forwarding.{band};
+ghost use Rattle.worker_forwarder.specs.Forwarding.{band};
 ghost use Rattle.run_ends.specs.Rows.{new_takers};
 ghost use Rattle.run_pipes.specs.Piping.{Piping};
 ghost use Rattle.run_pipes.specs.Pipes.{HaveForwarders};
@@ -16,13 +16,13 @@ use crate::common::Common;
 use crate::over::Over;
 use packet_ledger::Share;
 use router_rules::{LinkIndex, Shared, link_count};
-use router_stages::{Band, Forwarder};
 use ruled_pipe::{Consumer, Producer};
 use run_ends::{Line, next_producers};
 use run_pipes::Pipes;
 use std::alloc::{AllocError, Global};
 use std::marker::Model;
 use std::sync::Arc;
+use worker_forwarder::{Band, Forwarder};
 use worker_parts::{Buffer, EgressPacket, RunBrand, Sink};
 
 /// All that a forwarder is made of but its sink.

@@ -1,6 +1,6 @@
 -- What tests see of a link's pipe.
 use Rattle.std.specs.Prelude.{◌≡◌, false, []}
-use Rattle.router_stages.specs.Forwarding.{Band}
+use Rattle.worker_forwarder.specs.Forwarding.{Band}
 
 -- nothing was taken
 abbrev pub IsNewBand : Band → Type 0

@@ -2,7 +2,7 @@
 
 ghost use Rattle.std.specs.Prelude.{◌≡◌, true};
 
-use router_stages::Turn;
+use worker_parts::Turn;
 
 /// Whether the turn was as its letter says: a capital where the worker did something, a small letter where
 /// it was quiet. No letter says that a worker ended.

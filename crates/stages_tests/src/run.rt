@@ -10,13 +10,15 @@ use crate::start::start;
 use packet_ledger::{Blank, Book, Share};
 use process_packet::Totals;
 use router_rules::Shared;
-use router_stages::{Forwarder, Processor, Receiver, SlowPath};
 use ruled_pipe::{Mark, Producer};
 use std::alloc::Global;
 use std::marker::Brand;
 use std::process::Abort;
 use std::sync::{Arc, Wait};
+use worker_forwarder::Forwarder;
 use worker_parts::{EgressPacket, ListSink, ListSource, Next, RunBrand, Sink, Source, Turns};
+use worker_processor::{Processor, SlowPath};
+use worker_receiver::Receiver;
 
 /// What the workers are made of.
 #[derive(Clone, Copy)]

@@ -15,15 +15,17 @@ use crate::run::{Sizes, Workers};
 use crate::seats::{Seat, new_returns, new_seat};
 use packet_ledger::Share;
 use router_rules::{LinkIndex, Shared};
-use router_stages::{Band, Forwarder, Processor, Receiver, SlowPath};
 use ruled_pipe::{Consumer, Producer};
 use std::alloc::Global;
 use std::process::Abort;
 use std::sync::atomic::AtomicU64;
 use std::sync::{Arc, Wait};
+use worker_forwarder::{Band, Forwarder};
 use worker_parts::{
     Buffer, EgressPacket, Inlet, Outlet, Packet, RunBrand, Sink, SlowPathRequest, Source,
 };
+use worker_processor::{Processor, SlowPath};
+use worker_receiver::Receiver;
 
 // How many free buffers fit.
 const BUFFERS: usize = 256;

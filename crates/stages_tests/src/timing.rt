@@ -13,7 +13,6 @@ use crate::start::start;
 use packet_ledger::{Blank, Book};
 use process_packet::Bands;
 use router_rules::Shared;
-use router_stages::Forwarder;
 use std::alloc::Global;
 use std::marker::Brand;
 use std::process::Abort;
@@ -21,6 +20,7 @@ use std::rt::Clock;
 use std::sync::{Arc, Wait};
 use std::time::Instant;
 use std::{env, io};
+use worker_forwarder::Forwarder;
 use worker_parts::{RunBrand, Turns};
 
 // How many packets each worker passes on before the next one takes its turns.

@@ -1,12 +1,12 @@
 use Rattle.std.proofs.Common.{◌≡◌, ◌+◌, ℕ, [], map, length, refl, sym, ◌∙◌, ap, subst, arith}
 use Rattle.std.proofs.lemmas.List.{length-map}
-use Rattle.router_stages.specs.Working.{Working}
+use Rattle.worker_processor.specs.Working.{Working}
 use Rattle.worker_parts.specs.Outlets.{senders}
 use Rattle.run_pipes.specs.Pipes.{HaveAllBack}
 use Rattle.run_pipes.specs.declared.pipes.Pipes.{Pipes}
 use Rattle.run_ends.specs.Rows.{AreEndsOf}
 use Rattle.run_ends.specs.Shutting.{shutter_ends}
-use Rattle.run_workers.proofs.Making.{pushed_long}
+use Rattle.run_pipes.proofs.RestLemmas.{pushed_long}
 use Rattle.run_report.specs.Crew.{crew_in, egress_rows, packet_rows, request_row}
 use Rattle.run_report.proofs.PartLemmas.{all_joined, from_none, longer}
 use Rattle.run_report.proofs.finishing.part_all.Goals as goal

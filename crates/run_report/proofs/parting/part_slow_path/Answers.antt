@@ -8,7 +8,7 @@ use Rattle.run_pipes.specs.Pipes.{LinkRows}
 use Rattle.run_ends.specs.Rows.{AreEndsOf}
 use Rattle.run_ends.specs.Shutting.{shutter_ends}
 use Rattle.run_ends.specs.TakenBack.{HaveBack}
-use Rattle.run_workers.proofs.Making.{pushed_long}
+use Rattle.run_pipes.proofs.RestLemmas.{pushed_long}
 use Rattle.run_report.proofs.PartLemmas.{grown}
 use Rattle.run_report.proofs.parting.part_slow_path.Goals as goal
 

@@ -7,8 +7,8 @@ use Rattle.run_pipes.specs.Pipes.{HaveProcessors}
 use Rattle.run_pipes.proofs.Fresh.{takers_are}
 use Rattle.run_workers.specs.Kits.{IsWorkingThere}
 use Rattle.run_workers.specs.Shares.{HaveGone}
-use Rattle.run_workers.proofs.Making.{all_made, all_none, all_pushed, all_taken, next_new, none_gone, one_gone, pushed_long, taker_new, taker_of}
-use Rattle.run_workers.proofs.RestLemmas.{rest_first, rest_next}
+use Rattle.run_workers.proofs.Making.{all_taken, next_new, none_gone, one_gone, taker_new, taker_of}
+use Rattle.run_pipes.proofs.RestLemmas.{all_made, all_none, all_pushed, pushed_long, rest_first, rest_next}
 use Rattle.run_workers.proofs.deciding.processors_of.Goals as goal
 
 pub loop-index-init : goal.loop-index-init

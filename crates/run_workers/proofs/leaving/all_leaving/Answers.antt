@@ -9,14 +9,14 @@ use Rattle.run_ends.specs.Opened.{made_pipes}
 use Rattle.run_ends.specs.Rows.{fresh_ends}
 use Rattle.order_laws.specs.Item.{Outgoing}
 use Rattle.router_rules.specs.Rules.{kinds}
-use Rattle.router_stages.specs.Forwarding.{Band}
+use Rattle.worker_forwarder.specs.Forwarding.{Band}
 use Rattle.run_pipes.specs.Piping.{IsTakerThere, Piping}
 use Rattle.run_pipes.specs.Pipes.{HaveForwarders}
 use Rattle.run_pipes.specs.Rest.{IsRest}
 use Rattle.run_pipes.proofs.Fresh.{fresh_long, takers_are}
 use Rattle.run_workers.specs.Kits.{Exit, IsLeavingAt}
-use Rattle.run_workers.proofs.Making.{all_made, all_none, all_pushed, all_taken, next_new, none_gone, one_gone, pushed_long, taker_new, taker_of}
-use Rattle.run_workers.proofs.RestLemmas.{rest_first, rest_next}
+use Rattle.run_workers.proofs.Making.{all_taken, next_new, none_gone, one_gone, taker_new, taker_of}
+use Rattle.run_pipes.proofs.RestLemmas.{all_made, all_none, all_pushed, pushed_long, rest_first, rest_next}
 use Rattle.run_workers.proofs.leaving.all_leaving.Goals as goal
 
 -- the two consumers of a link, and what is left

@@ -1,7 +1,8 @@
 use Rattle.std.proofs.Common.{◌≡◌, List, length, sym, ◌∙◌, ap, subst, arith}
 use Rattle.order_laws.specs.Deeds.{Each}
 use Rattle.run_workers.specs.Kits.{paired}
-use Rattle.run_workers.proofs.Making.{paired_first, paired_last, paired_next, pushed_long}
+use Rattle.run_workers.proofs.Making.{paired_first, paired_last, paired_next}
+use Rattle.run_pipes.proofs.RestLemmas.{pushed_long}
 use Rattle.run_workers.proofs.over.over_each.Goals as goal
 
 pub loop-k-init : goal.loop-k-init

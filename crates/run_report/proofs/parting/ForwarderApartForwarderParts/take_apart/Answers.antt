@@ -1,6 +1,6 @@
 use Rattle.std.proofs.Common.{refl, ◌∙◌, ap, arith, vec_capacity}
 use Rattle.packet_ledger.specs.Share.{forwarded}
-use Rattle.run_workers.proofs.Making.{pushed_long}
+use Rattle.run_pipes.proofs.RestLemmas.{pushed_long}
 use Rattle.run_report.proofs.PartLemmas.{grown, room_left}
 use Rattle.run_report.proofs.parting.ForwarderApartForwarderParts.take_apart.Goals as goal
 

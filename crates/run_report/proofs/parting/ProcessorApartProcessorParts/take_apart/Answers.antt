@@ -4,7 +4,7 @@ use Rattle.order_laws.specs.Settled.{SlowPathRequest}
 use Rattle.ruled_pipe.specs.Pipe.{IsEndOf, Keeping, took_back}
 use Rattle.ruled_pipe.specs.Producer.{Sender}
 use Rattle.router_rules.specs.Rules.{kinds}
-use Rattle.router_stages.specs.Working.{Working}
+use Rattle.worker_processor.specs.Working.{Working}
 use Rattle.worker_order.specs.Returned.{AllAt}
 use Rattle.worker_parts.specs.Outlet.{IsMarked, Offering}
 use Rattle.worker_parts.specs.Outlets.{senders}
@@ -13,7 +13,7 @@ use Rattle.run_pipes.specs.Pipes.{HaveAllBack, LinkRows, RequestRow}
 use Rattle.run_pipes.proofs.PipesLemmas.{request_next}
 use Rattle.run_ends.specs.Rows.{AreEndsOf}
 use Rattle.run_report.specs.Parting.{HasProcessorEnds}
-use Rattle.run_workers.proofs.Making.{pushed_long}
+use Rattle.run_pipes.proofs.RestLemmas.{pushed_long}
 use Rattle.run_report.proofs.PartLemmas.{grown, room_left}
 use Rattle.run_report.proofs.parting.ProcessorApartProcessorParts.take_apart.Goals as goal
 

@@ -2,14 +2,14 @@ use Rattle.std.proofs.Common.{ℕ, List, [], ◌∷◌, ◌++◌, map, length, r
 use Rattle.order_laws.specs.Item.{Arrival}
 use Rattle.ruled_pipe.specs.Producer.{Sender}
 use Rattle.router_rules.specs.Rules.{kinds}
-use Rattle.router_stages.specs.Receiving.{Receiving}
+use Rattle.worker_receiver.specs.Receiving.{Receiving}
 use Rattle.worker_order.specs.Returned.{AllAt}
 use Rattle.worker_parts.specs.Outlets.{senders}
 use Rattle.run_pipes.specs.Handing.{AreMarked}
 use Rattle.run_pipes.specs.Pipes.{HaveAllBack, ReceiverRows}
 use Rattle.run_ends.specs.Rows.{AreEndsOf}
 use Rattle.run_report.specs.Parting.{HasReceiverEnds}
-use Rattle.run_workers.proofs.Making.{pushed_long}
+use Rattle.run_pipes.proofs.RestLemmas.{pushed_long}
 use Rattle.run_report.proofs.PartLemmas.{grown, room_left}
 use Rattle.run_report.proofs.parting.ReceiverApartReceiverParts.take_apart.Goals as goal
 

@@ -1,5 +1,0 @@
-use Rattle.std.proofs.Common.{rules}
-use Rattle.router_stages.proofs.exits.end_link.Goals as goal
-
-pub returns : goal.returns
-returns g c = search rules

@@ -1,5 +1,0 @@
-use Rattle.std.proofs.Common.{rules}
-use Rattle.router_stages.proofs.slow_path.SlowPathTurnsBook.awaits_push.Goals as goal
-
-pub returns : goal.returns
-returns g c = search rules

@@ -1,0 +1,5 @@
+use Rattle.worker_processor.proofs.WorkingLemmas.{keeps_posted}
+use Rattle.worker_processor.proofs.processor.ProcessorTurnsBook.post.Goals as goal
+
+pub invariant_of-self : goal.invariant_of-self
+invariant_of-self g c = keeps_posted g.N.RunBrand.config c.self.inside.from c.self.inside.hand c.self.inside.slow c.self.inside.exits c.self.invariant c.post.new.self c.post.ensures.share c.post.ensures.same
