@@ -91,7 +91,3 @@ pub starts : {S G K : Type 0} (failed : K → ℕ) (a b : Config) (ss : List S) 
     → a ≡ b → IsOneALink (link_count b) ss ks → MatchResult r (λ x. Begins failed a ss ks x) (λ f. f ≡ Thread) → MatchResult r (λ x. Begins failed b ss ks x) (λ f. GivesBack (link_count b) f ss ks)
 starts failed a b ss ks (Ok x) e one ran = subst (λ (c : Config). Begins failed c ss ks x) e ran
 starts {S = S} {K = K} failed a b ss ks (Err f) e one ran = subst (λ (x : StartFault S K). GivesBack (link_count b) x ss ks) (sym ran) one
-
--- what stands ready, by another name of its configuration
-pub parts_as : {N G : Type 0} (a b : Config) (w : BareWorkers N G) → a ≡ b → AreBareWorkers b w → AreBareWorkers a w
-parts_as a b w e are = subst (λ (c : Config). AreBareWorkers c w) (sym e) are

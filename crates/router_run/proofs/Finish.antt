@@ -5,13 +5,11 @@ use Rattle.std.proofs.lemmas.Simd.{map-map}
 use Rattle.packet_ledger.specs.Share.{Held, forwarded}
 use Rattle.order_laws.specs.Item.{Arrival, Outgoing}
 use Rattle.order_laws.specs.Settled.{SlowPathRequest}
-use Rattle.process_packet.specs.declared.config.Config.{Config}
 use Rattle.process_packet.specs.declared.totals.Totals.{Totals}
 use Rattle.ruled_pipe.specs.Consumer.{Taker}
 use Rattle.worker_order.specs.Heard.{Heard}
 use Rattle.worker_order.specs.Returned.{ForwarderBack, ProcessorBack, ReceiverBack, RunsAsTold, shares_of}
 use Rattle.worker_order.specs.Totals.{totals_of}
-use Rattle.router_rules.specs.Links.{link_count}
 use Rattle.router_rules.specs.Rules.{kinds}
 use Rattle.worker_forwarder.specs.Forwarding.{Forwarding}
 use Rattle.worker_receiver.specs.Receiving.{EndsQuietly, Receiving}
@@ -19,13 +17,9 @@ use Rattle.worker_processor.specs.Working.{Working}
 use Rattle.worker_parts.specs.Told.{Told, told_of}
 use Rattle.run_ends.specs.Settled.{AreSettled, IsDone}
 use Rattle.run_pipes.specs.Piping.{Piping}
-use Rattle.run_pipes.specs.declared.pipes.Pipes.{Pipes}
 use Rattle.run_report.specs.Crew.{Crew, packet_rows, request_row, egress_rows}
 use Rattle.run_report.specs.Parting.{HasEnds, HasKept, IsParted, KeptReceiver, shares_in}
-use Rattle.run_report.specs.Room.{HaveSpace}
-use Rattle.run_report.specs.declared.space.Space.{Space}
 use Rattle.router_run.specs.Back.{HasSettled, back_of, forwarder_back, processor_back, receiver_back, IsBack}
-use Rattle.router_run.specs.BareWorkers.{AllMade}
 use Rattle.router_run.specs.Run.{RouterHasRun, Run}
 use Rattle.router_run.specs.Wiring.{IsCrew}
 use Rattle.router_run.proofs.Came.{crews_return}
@@ -89,20 +83,3 @@ module _ {S G K : Type 0} where
           sources_are = reads;
           sinks_are = writes;
         }
-
--- ---- a running router, seen as its parts
-
-module _ {S G K : Type 0} (told : S → Option (List Heard)) (shown : K → Option (List Told)) (failed : K → ℕ) (same_source : S → S → Type 0) (same_sink : K → K → Type 0) where
-  pub run_as : (q r : Run S G K) (totals : Totals) (sent : List ℕ) (sources : List S) (sinks : List K) → q ≡ r → RouterHasRun told shown failed same_source same_sink q totals sent sources sinks → RouterHasRun told shown failed same_source same_sink r totals sent sources sinks
-  run_as q r totals sent sources sinks e ran = subst (λ (x : Run S G K). RouterHasRun told shown failed same_source same_sink x totals sent sources sinks) e ran
-
--- ---- what stands in a running router, by another name of its configuration
-
-pub crew_as : {S G K : Type 0} (a b : Config) (p : Piping) (w : Crew S G K) → a ≡ b → IsCrew b p w → IsCrew a p w
-crew_as a b p w e is = subst (λ (c : Config). IsCrew c p w) (sym e) is
-
-pub all_made_as : {N : Type 0} (a b : Config) (p : Piping) (k : Pipes N) → a ≡ b → AllMade b p k → AllMade a p k
-all_made_as a b p k e made = subst (λ (c : Config). AllMade c p k) (sym e) made
-
-pub space_as : {N S K : Type 0} (a b : Config) (r : Space N S K) → a ≡ b → HaveSpace (link_count b) b.processors r → HaveSpace (link_count a) a.processors r
-space_as a b r e have = subst (λ (c : Config). HaveSpace (link_count c) c.processors r) (sym e) have

@@ -1,9 +1,8 @@
-use Rattle.std.proofs.Common.{◌+◌, ◌*◌, refl, sym, ◌∙◌, ap}
+use Rattle.std.proofs.Common.{◌+◌, ◌*◌, refl, sym, ◌∙◌, ap, subst}
 use Rattle.process_packet.specs.declared.config.Config.{Config}
 use Rattle.router_rules.specs.Links.{link_count}
-use Rattle.router_run.proofs.TeamLemmas.{teams_as}
-use Rattle.router_run.proofs.Begin.{parts_as, starts}
-use Rattle.router_run.proofs.Finish.{space_as}
+use Rattle.router_run.specs.Prepared.{IsPrepared}
+use Rattle.router_run.proofs.Begin.{starts}
 use Rattle.router_run.proofs.running.start.Goals as goal
 
 pub prepare-requires-clause-name : goal.prepare-requires-clause-name
@@ -17,13 +16,8 @@ prepare-requires-clause-workers g c = c.requires.workers
 
 pub run-requires-clause-prepared : goal.run-requires-clause-prepared
 run-requires-clause-prepared g c κs within =
-    let same = c.in-Ok.ensures.shared in
-    let is = c.in-Ok.ensures.prepared in
-    record {
-      bare_workers = parts_as _ _ c.in-Ok.prepared.bare_workers same is.bare_workers;
-      teams = teams_as _ _ _ _ _ _ _ is.teams (ap link_count same) (ap (λ (k : Config). k.processors) same);
-      room = space_as _ _ c.in-Ok.prepared.space same is.room;
-    }
+    let p = c.in-Ok.prepared in
+    subst (λ (k : Config). IsPrepared k p.bare_workers p.teams.receivers p.teams.processors p.teams.forwarders p.space) (sym c.in-Ok.ensures.shared) c.in-Ok.ensures.prepared
 
 pub run-requires-clause-sources : goal.run-requires-clause-sources
 run-requires-clause-sources g c κs within = (c.requires.sources, c.if-not-is_one_a_link.ensures.0 ∙ ap link_count (sym c.in-Ok.ensures.shared))

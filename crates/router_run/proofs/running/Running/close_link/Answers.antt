@@ -1,12 +1,12 @@
-use Rattle.std.proofs.Common.{◌≡◌, ◌+◌, ◌*◌, sym, ◌∙◌, ap, subst}
+use Rattle.std.proofs.Common.{◌≡◌, sym, ◌∙◌, ap, subst}
 use Rattle.std.specs.Arc.{arc_value}
 use Rattle.process_packet.specs.declared.config.Config.{Config}
-use Rattle.router_rules.specs.Links.{link_count}
 use Rattle.router_rules.specs.declared.shared.Shared.{Shared}
 use Rattle.run_pipes.specs.Closing.{Closing}
+use Rattle.router_run.specs.Prepared.{IsRunning}
 use Rattle.router_run.specs.Run.{Run}
+use Rattle.run_report.specs.Crew.{crew_of}
 use Rattle.router_run.proofs.CrewLemmas.{controller_long, controller_used, crew_after}
-use Rattle.router_run.proofs.Finish.{all_made_as, crew_as, space_as}
 use Rattle.router_run.proofs.running.Running.close_link.Goals as goal
 
 pub close-requires-clause-count : goal.close-requires-clause-count
@@ -23,12 +23,10 @@ invariant_of-self g c =
     let old = c.self.inside in
     let new = c.close.new.self in
     let value : arc_value new.shared ≡ arc_value old.controller.shared = ap arc_value c.close.ensures.shared in
-    let same = ap (λ (s : Shared). s.config) value in (
-      c.self.invariant.0 ∙ ap (λ (k : Config). 2 * link_count k + k.processors + 1) (sym same),
-      crew_as _ _ _ _ same (crew_after _ _ _ _ _ _ old.controller.shutters.items new.shutters.items c.self.invariant.1 c.close.ensures.stay),
-      all_made_as _ _ _ old.pipes same c.self.invariant.2,
-      space_as _ _ _ same c.self.invariant.3,
-    )
+    let was = c.self.invariant in
+    let crew = crew_of old.threads.receivers old.threads.processors old.threads.slow.promise.0.value old.threads.forwarders new.shutters.items in
+    subst (λ (k : Config). IsRunning g.N.RunBrand.workers k old.pipes crew old.space) (sym (ap (λ (s : Shared). s.config) value))
+    (was.0, crew_after _ _ _ _ _ _ old.controller.shutters.items new.shutters.items was.1 c.close.ensures.stay, was.2, was.3)
 
 pub returns-clause-closing : goal.returns-clause-closing
 returns-clause-closing g c = subst (λ (r : Run _ _ _). Closing r.config c.args.link c.close.result r.crew.shutters c.close.new.self.shutters.items) c.self.view_is c.close.ensures.closing

@@ -1,7 +1,8 @@
-use Rattle.std.proofs.Common.{length, sym, ◌∙◌, ap}
+use Rattle.std.proofs.Common.{length, sym, ◌∙◌, ap, subst}
 use Rattle.worker_order.proofs.Returned.{runs_as_told}
 use Rattle.run_pipes.proofs.PipesLemmas.{none_are_all_back}
-use Rattle.router_run.proofs.Finish.{has_run, run_as, settled, shares_count}
+use Rattle.router_run.specs.Run.{RouterHasRun, Run}
+use Rattle.router_run.proofs.Finish.{has_run, settled, shares_count}
 use Rattle.router_run.proofs.Crews.{crews_end, has_ends}
 use Rattle.router_run.proofs.running.Running.finish.Goals as goal
 
@@ -29,6 +30,7 @@ returns-clause-run g c =
     let parted = c.part_all-takers.ensures in
     let report = c.report_of.ensures in
     let set = settled _ _ _ _ _ parted.takers (c.settle.ensures _ _ _ _ (parted.back _ (none_are_all_back _ _ _ _ c.self.invariant.2))) in
-    run_as g.S.Source.told g.K.Sink.told g.K.Sink.failed g.S.Source.same g.K.Sink.same _ _ _ _ _ _ c.self.view_is
+    let told = c.report_of.result in
+    subst (λ (r : Run _ _ _). RouterHasRun g.S.Source.told g.K.Sink.told g.K.Sink.failed g.S.Source.same g.K.Sink.same r told.totals told.sent.items told.sources.items told.sinks.items) c.self.view_is
     (has_run g.S.Source.told g.K.Sink.told g.K.Sink.failed g.S.Source.same g.K.Sink.same (runs_as_told c.rules_are_lawful.ensures c.links_stand_in_order.ensures c.causes_are_apart.ensures)
     _ _ _ _ _ _ _ c.self.invariant.1 c.join_workers-joined.ensures parted.kept set parted.shares report.totals (report.sent ∙ parted.sent) (report.sources ∙ parted.sources) (report.sinks ∙ parted.sinks))
