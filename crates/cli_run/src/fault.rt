@@ -9,6 +9,9 @@ pub enum RunFault {
     /// The socket of the link with this interface can't be had; 0 is the internal network.
     #[error("socket {0}")]
     Socket(u16),
+    /// The socket at which the counts are to be shown can't be had.
+    #[error("metrics")]
+    Metrics,
     /// No memory was left for the router's queues, buffers and workers.
     #[error("start 1")]
     NoMemory,

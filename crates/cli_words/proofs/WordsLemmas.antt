@@ -30,7 +30,7 @@ use Rattle.std.specs.Box.{box_value}
 use Rattle.std.specs.Prelude.{Box, String, Bool, ◌==◌, ◌&&◌, not, if◌then◌else◌, length, map, string_bytes}
 use Rattle.clap.proofs.WalkLemmas.{first_value-rows}
 use Rattle.process_packet.specs.declared.underlay.Underlay.{Underlay}
-use Rattle.cli_words.specs.Words.{Asked, Routes, Replays, Runs, Checks, ChecksNet, Asks, AsksOf, AsksRoute, Orders, OrdersBy, OrdersByGrammar, are_net, asked_of, files_of, from_of, is_file, is_given, net_files, router}
+use Rattle.cli_words.specs.Words.{Asked, Routes, Replays, Runs, Checks, ChecksNet, Asks, AsksOf, AsksRoute, AsksRun, Orders, OrdersBy, OrdersByGrammar, address_of, are_net, asked_of, files_of, is_file, is_given, net_files, router}
 use Rattle.cli_words.specs.declared.words.Subcommand.{Subcommand}
 
 -- names that differ
@@ -64,28 +64,28 @@ asks_along s t asked same asks = let P : Entered → Type 0 = λ x. AsksOf x ask
 route_asked : (rows : List Row) (asked : Asked) → ((config : Text) (link now : ℕ) (from : Option Underlay) → ¬ AsksRoute rows config link now from) → ¬ Asks (codes "route", rows) asked
 route_asked rows (Routes config link now from) none asks = none config link now from asks.1
 route_asked rows (Replays config) none asks = route_replay asks.0
-route_asked rows (Runs config) none asks = route_run asks.0
+route_asked rows (Runs config metrics) none asks = route_run asks.0
 route_asked rows (Checks config strict bind) none asks = route_check asks.0
 route_asked rows (ChecksNet files) none asks = asks
 
 replay_asked : (rows : List Row) (asked : Asked) → ((config : Text) → first_of (codes "config") rows ≢ Some config) → ¬ Asks (codes "replay", rows) asked
 replay_asked rows (Routes config link now from) none asks = route_replay (sym asks.0)
 replay_asked rows (Replays config) none asks = none config asks.1
-replay_asked rows (Runs config) none asks = replay_run asks.0
+replay_asked rows (Runs config metrics) none asks = replay_run asks.0
 replay_asked rows (Checks config strict bind) none asks = replay_check asks.0
 replay_asked rows (ChecksNet files) none asks = asks
 
-run_asked : (rows : List Row) (asked : Asked) → ((config : Text) → first_of (codes "config") rows ≢ Some config) → ¬ Asks (codes "run", rows) asked
+run_asked : (rows : List Row) (asked : Asked) → ((config : Text) (metrics : Option Underlay) → ¬ AsksRun rows config metrics) → ¬ Asks (codes "run", rows) asked
 run_asked rows (Routes config link now from) none asks = route_run (sym asks.0)
 run_asked rows (Replays config) none asks = replay_run (sym asks.0)
-run_asked rows (Runs config) none asks = none config asks.1
+run_asked rows (Runs config metrics) none asks = none config metrics asks.1
 run_asked rows (Checks config strict bind) none asks = run_check asks.0
 run_asked rows (ChecksNet files) none asks = asks
 
 check_asked : (rows : List Row) (asked : Asked) → ((config : Text) → first_of (codes "config") rows ≢ Some config) → ¬ Asks (codes "check", rows) asked
 check_asked rows (Routes config link now from) none asks = route_check (sym asks.0)
 check_asked rows (Replays config) none asks = replay_check (sym asks.0)
-check_asked rows (Runs config) none asks = run_check (sym asks.0)
+check_asked rows (Runs config metrics) none asks = run_check (sym asks.0)
 check_asked rows (Checks config strict bind) none asks = none config asks.1.config_is
 check_asked rows (ChecksNet files) none asks = asks
 
@@ -109,10 +109,18 @@ other_link s config text link now from there other asks = let wanted = asks.link
 pub other_now : (s : List Row) (config text : Text) (link now : ℕ) (from : Option Underlay) → first_of (codes "now") s ≡ Some text → ((n : ℕ) → n ≤ 1099511627775 → text ≢ decimal n) → AsksRoute s config link now from → ⊥
 other_now s config text link now from there other asks = let wanted = asks.now_is in let same : text ≡ decimal now = cc in other now asks.now_fits same
 
-pub other_from : (s : List Row) (config : Text) (link now : ℕ) (from : Option Underlay) (word : Option Text) → first_of (codes "from") s ≡ word → from_of word ≡ None
+pub other_from : (s : List Row) (config : Text) (link now : ℕ) (from : Option Underlay) (word : Option Text) → first_of (codes "from") s ≡ word → address_of word ≡ None
     → AsksRoute s config link now from → ⊥
 other_from s config link now from word there none asks =
-    let wanted = asks.from_is in let no-way : None ≡ Some from = sym (ap from_of there ∙ none) ∙ wanted in absurd cc
+    let wanted = asks.from_is in let no-way : None ≡ Some from = sym (ap address_of there ∙ none) ∙ wanted in absurd cc
+
+-- no options ask to run without a configuration, or to show the counts at what is no address
+pub no_run : (s : List Row) (config : Text) (metrics : Option Underlay) → first_of (codes "config") s ≡ None → AsksRun s config metrics → ⊥
+no_run s config metrics gone asks = let there = asks.config_is in cc
+
+pub other_metrics : (s : List Row) (config : Text) (metrics : Option Underlay) (word : Option Text) → first_of (codes "metrics") s ≡ word → address_of word ≡ None → AsksRun s config metrics → ⊥
+other_metrics s config metrics word there none asks =
+    let wanted = asks.metrics_is in let no-way : None ≡ Some metrics = sym (ap address_of there ∙ none) ∙ wanted in absurd cc
 
 -- ---- which subcommand was entered
 
@@ -137,7 +145,7 @@ pub replay_none : (s : Entered) (rows : List Row) (r : Option Subcommand) → s 
 replay_none s rows (Some o) same none = tt
 replay_none s rows None same none = λ asked asks. replay_asked rows asked none (asks_along s (Some (codes "replay", rows)) asked same asks)
 
-pub run_none : (s : Entered) (rows : List Row) (r : Option Subcommand) → s ≡ Some (codes "run", rows) → IfNone r ((config : Text) → first_of (codes "config") rows ≢ Some config)
+pub run_none : (s : Entered) (rows : List Row) (r : Option Subcommand) → s ≡ Some (codes "run", rows) → IfNone r ((config : Text) (metrics : Option Underlay) → ¬ AsksRun rows config metrics)
     → IfNone r ((asked : Asked) → ¬ AsksOf s asked)
 run_none s rows (Some o) same none = tt
 run_none s rows None same none = λ asked asks. run_asked rows asked none (asks_along s (Some (codes "run", rows)) asked same asks)
@@ -152,7 +160,7 @@ pub no_order : (s : Entered) (name : Option Text) → option_map (λ (p : Text �
 no_order None name named route replay run check asked asks = absurd asks
 no_order (Some p) name named route replay run check (Routes config link now from) asks = route (sym named ∙ ap (λ (n : Text). Some n) asks.0)
 no_order (Some p) name named route replay run check (Replays config) asks = replay (sym named ∙ ap (λ (n : Text). Some n) asks.0)
-no_order (Some p) name named route replay run check (Runs config) asks = run (sym named ∙ ap (λ (n : Text). Some n) asks.0)
+no_order (Some p) name named route replay run check (Runs config metrics) asks = run (sym named ∙ ap (λ (n : Text). Some n) asks.0)
 no_order (Some p) name named route replay run check (Checks config strict bind) asks = check (sym named ∙ ap (λ (n : Text). Some n) asks.0)
 no_order (Some p) name named route replay run check (ChecksNet files) asks = absurd asks
 

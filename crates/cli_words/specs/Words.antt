@@ -36,9 +36,13 @@ route =
     with_rule (with_rule (with_rule (with_rule (new_app (codes "route")) (wanted (codes "config"))) (wanted (codes "link"))) (wanted (codes "now")))
     (offered (codes "from"))
 
--- `replay --config FILE`, `run --config FILE`
+-- `replay --config FILE`, and others that take more
 abbrev pub alone : Text → App
 alone name = with_rule (new_app name) (wanted (codes "config"))
+
+-- `run --config FILE [--metrics ADDR]`
+abbrev pub run : App
+run = with_rule (alone (codes "run")) (offered (codes "metrics"))
 
 -- `check --config FILE [--strict] [--bind]`
 abbrev pub check : App
@@ -52,7 +56,7 @@ router =
     (with_subcommand
     (with_subcommand (on_top (λ top. record top { has_version = true; no_binary_name = true; subcommand_required = true }) (new_app (codes "router"))) route.top)
     (alone (codes "replay")).top)
-    (alone (codes "run")).top)
+    run.top)
     check.top
 
 -- what a parse finds of an option without a value
@@ -61,22 +65,22 @@ is_given None = false
 is_given (Some text) = bytes_eq text (codes "true")
 
 -- the address that a word names, if it is one; no word names none
-abbrev pub from_of : Option Text → Option (Option Underlay)
-from_of None = Some None
-from_of (Some text) = option_map (λ u. Some u) (underlay_of text)
+abbrev pub address_of : Option Text → Option (Option Underlay)
+address_of None = Some None
+address_of (Some text) = option_map (λ u. Some u) (underlay_of text)
 
 -- what is asked for
 pub data Asked : Type 0 where
   Routes : Text → ℕ → ℕ → Option Underlay → Asked  -- the configuration, the link, the moment, the source
   Replays : Text → Asked  -- the configuration
-  Runs : Text → Asked
+  Runs : Text → Option Underlay → Asked  -- the configuration, where the counts are shown
   Checks : Text → Bool → Bool → Asked  -- the configuration, whether a warning is a fault, whether sockets are opened
   ChecksNet : List Text → Asked  -- the configurations
 
 abbrev pub asked_of : Subcommand → Asked
 asked_of (order.Route config link now from) = Routes config.now link now from
 asked_of (order.Replay config) = Replays config.now
-asked_of (order.Run config) = Runs config.now
+asked_of (order.Run config metrics) = Runs config.now metrics
 asked_of (order.Check config strict bind) = Checks config.now strict bind
 asked_of (order.CheckNet files) = ChecksNet (map string_bytes files.now)
 
@@ -85,9 +89,14 @@ pub record AsksRoute (rows : List Row) (config : Text) (link now : ℕ) (from : 
   pub config_is : first_of (codes "config") rows ≡ Some config
   pub link_is : first_of (codes "link") rows ≡ Some (decimal link)
   pub now_is : first_of (codes "now") rows ≡ Some (decimal now)
-  pub from_is : from_of (first_of (codes "from") rows) ≡ Some from
+  pub from_is : address_of (first_of (codes "from") rows) ≡ Some from
   pub link_fits : link ≤ 65535
   pub now_fits : now ≤ 1099511627775
+
+-- The options of `run` have these values.
+pub record AsksRun (rows : List Row) (config : Text) (metrics : Option Underlay) : Type 0 where
+  pub config_is : first_of (codes "config") rows ≡ Some config
+  pub metrics_is : address_of (first_of (codes "metrics") rows) ≡ Some metrics
 
 -- The options of `check` have these values.
 pub record AsksCheck (rows : List Row) (config : Text) (strict bind : Bool) : Type 0 where
@@ -99,7 +108,7 @@ pub record AsksCheck (rows : List Row) (config : Text) (strict bind : Bool) : Ty
 abbrev pub Asks : Text × List Row → Asked → Type 0
 Asks entered (Routes config link now from) = (entered.0 ≡ codes "route") × AsksRoute entered.1 config link now from
 Asks entered (Replays config) = (entered.0 ≡ codes "replay") × (first_of (codes "config") entered.1 ≡ Some config)
-Asks entered (Runs config) = (entered.0 ≡ codes "run") × (first_of (codes "config") entered.1 ≡ Some config)
+Asks entered (Runs config metrics) = (entered.0 ≡ codes "run") × AsksRun entered.1 config metrics
 Asks entered (Checks config strict bind) = (entered.0 ≡ codes "check") × AsksCheck entered.1 config strict bind
 Asks entered (ChecksNet files) = ⊥
 

@@ -3,4 +3,4 @@
 
 mod words;
 
-pub use words::{Subcommand, WordsFault, read_words};
+pub use words::{Subcommand, VERSION, WordsFault, read_words};

@@ -8,7 +8,7 @@ ghost use Rattle.clap.specs.Matches.{found_of};
 ghost use Rattle.clap.specs.Walk.{first_of, rows_of, rule_of};
 ghost use Rattle.clap.specs.declared.error.kind.ErrorKind.TheVariants.{OutOfMemory};
 ghost use Rattle.process_packet.specs.declared.underlay.Underlay.{Underlay as Address};
-ghost use Rattle.cli_words.specs.Words.{Asked, Asks, AsksOf, AsksRoute, IsGrammar, Orders, OrdersByGrammar, alone, asked_of, check, files_of, flag, from_of, is_file, is_given, net_files, offered, route, router, wanted};
+ghost use Rattle.cli_words.specs.Words.{Asked, Asks, AsksOf, AsksRoute, AsksRun, IsGrammar, Orders, OrdersByGrammar, address_of, alone, asked_of, check, files_of, flag, is_file, is_given, net_files, offered, route, router, run, wanted};
 ghost use Rattle.cli_words.specs.declared.words.WordsFault.TheVariants.{Memory, Told};
 
 use clap::error::ErrorKind;
@@ -32,7 +32,14 @@ const NOW_HELP: &str = "When they arrive, in seconds since 1970";
 const FROM_HELP: &str =
     "The underlay's source, as 1.2.3.4:5 or [a:b:c:d:e:f:0:1]:5; else the link's remote end";
 
-/// The help of the commands that take a configuration alone.
+/// The version of the program.
+pub const VERSION: &str = "0.1.0";
+
+/// The help of the other option of `run`.
+const METRICS_HELP: &str =
+    "Shows the counts to Prometheus over HTTP, at this address: 1.2.3.4:5 or [a:b:c:d:e:f:0:1]:5";
+
+/// The help of the commands.
 const REPLAY_ABOUT: &str =
     "Makes the steps of the pipeline that the standard input lists, and reports";
 
@@ -72,6 +79,8 @@ pub enum Subcommand<'a> {
     Run {
         /// The path of the configuration.
         config: &'a str,
+        /// Where the counts are shown, if they are.
+        metrics: Option<Underlay>,
     },
     /// To tell whether a configuration is good, and else where it isn't.
     Check {
@@ -203,6 +212,14 @@ fn alone_grammar<'a>(
     Command::new(alloc, name).about(about).arg(config)
 }
 
+/// The words of `run`.
+fn run_grammar<'a>(alloc: Global) -> Result<Command<'a>, AllocError>
+    ensures { IsGrammar run result }
+{
+    let command = alone_grammar(alloc, "run", RUN_ABOUT);
+    with_option(command, offered(alloc, "metrics", "ADDR", METRICS_HELP))
+}
+
 /// The words of `check`.
 fn check_grammar<'a>(alloc: Global) -> Result<Command<'a>, AllocError>
     ensures { IsGrammar check result }
@@ -231,19 +248,19 @@ fn grammar<'a>(alloc: Global) -> Result<Command<'a>, AllocError>
 {
     let program = Command::new(alloc, "router")
         .about("A SCION border router")
-        .version("0.1.0")
+        .version(VERSION)
         .no_binary_name(true)
         .subcommand_required(true)
         .bin_name("router");
     let program = with_order(program, route_grammar(alloc));
     let program = with_order(program, alone_grammar(alloc, "replay", REPLAY_ABOUT));
-    let program = with_order(program, alone_grammar(alloc, "run", RUN_ABOUT));
+    let program = with_order(program, run_grammar(alloc));
     with_order(program, check_grammar(alloc))
 }
 
 /// The address that a word names, if it is one; no word names none.
-fn read_from(word: Option<&str>) -> Option<Option<Underlay>>
-    ensures { result ≡ from_of (option_map (λ text. text.now) word.entry) }
+fn read_address(word: Option<&str>) -> Option<Option<Underlay>>
+    ensures { result ≡ address_of (option_map (λ text. text.now) word.entry) }
 {
     match word {
         None => Some(None),
@@ -264,7 +281,7 @@ fn route_of<'a>(route: &ArgMatches<'a>) -> Option<Subcommand<'a>>
     let config = route.get_str("config")?;
     let link = read_decimal(route.get_str("link")?, u16::MAX.into())?;
     let now = read_decimal(route.get_str("now")?, LAST_SECOND)?;
-    let from = read_from(route.get_str("from"))?;
+    let from = read_address(route.get_str("from"))?;
     Some(Subcommand::Route {
         config,
         link: link as u16,
@@ -284,15 +301,16 @@ fn replay_of<'a>(replay: &ArgMatches<'a>) -> Option<Subcommand<'a>>
     }
 }
 
-/// The order that the option of `run` gives.
+/// The order that the options of `run` give, if the counts are to be shown at an address, or not at
+/// all.
 fn run_of<'a>(run: &ArgMatches<'a>) -> Option<Subcommand<'a>>
     ensures found { IfSome result (λ order. Asks (codes "run", rows_of (found_of run.now)) (asked_of order)) }
-    ensures none { IfNone result ((config : List ℕ) → first_of (codes "config") (rows_of (found_of run.now)) ≢ Some config) }
+    ensures none { IfNone result ((config : List ℕ) (metrics : Option Address)
+        → ¬ AsksRun (rows_of (found_of run.now)) config metrics) }
 {
-    match run.get_str("config") {
-        Some(config) => Some(Subcommand::Run { config }),
-        None => None,
-    }
+    let config = run.get_str("config")?;
+    let metrics = read_address(run.get_str("metrics"))?;
+    Some(Subcommand::Run { config, metrics })
 }
 
 /// Whether an option without a value is there.

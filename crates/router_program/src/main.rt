@@ -1,7 +1,7 @@
-//! A SCION border router: `router run --config FILE` runs it over its sockets; `router route --config FILE
-//! --link N --now S [--from ADDR]` answers datagrams, one a line in hex; `router replay --config FILE` makes
-//! steps of the pipeline, one a line; `router check --config FILE` tells whether a configuration is good, and
-//! `router check --net FILE..` whether the routers of several fit one another.
+//! A SCION border router: `router run --config FILE [--metrics ADDR]` runs it over its sockets; `router route
+//! --config FILE --link N --now S [--from ADDR]` answers datagrams, one a line in hex; `router replay --config
+//! FILE` makes steps of the pipeline, one a line; `router check --config FILE` tells whether a configuration is
+//! good, and `router check --net FILE..` whether the routers of several fit one another.
 #![tactic(auto)]
 
 ghost use Rattle.std.specs.Prelude.{◌≡◌, true, false};
@@ -11,17 +11,17 @@ use cli_faults::Fault;
 use cli_io::{ArrivalContext, usual_source};
 use cli_replay::replay_lines;
 use cli_route::route_lines;
-use cli_words::{Subcommand, WordsFault, read_words};
+use cli_words::{Subcommand, VERSION, WordsFault, read_words};
 use process_packet::{Config, Underlay};
 use router_config::read_config;
 use std::io::BufReader;
-use std::net::Net;
+use std::net::{Net, TcpListener, TcpStream};
 use std::process::ExitCode;
 use std::rt::{Clock, Env, Files};
 use std::sync::Wait;
 use std::thread::Threads;
 use std::{env, fs, io};
-use udp_router::run_router;
+use udp_router::{Metrics, run_router};
 
 /// The words after the program's name.
 fn words_of<R: Env + AllocGlobal>(rt: &R) -> Result<Vec<String>, Fault> {
@@ -93,14 +93,26 @@ fn replay_schedule<R: Files + Input + Print + AllocGlobal>(
     }
 }
 
-/// Runs the router over its sockets, led by the standard input.
-fn run_over_sockets<R>(rt: &R, path: &str) -> Result<(), Fault>
+/// Where the counts are shown, if they are.
+fn metrics_at(address: Option<Underlay>) -> Option<Metrics> {
+    match address {
+        Some(address) => Some(Metrics {
+            address,
+            version: VERSION,
+        }),
+        None => None,
+    }
+}
+
+/// Runs the router over its sockets, led by the standard input, and shows its counts at an address,
+/// if one is given.
+fn run_over_sockets<R>(rt: &R, path: &str, metrics: Option<Underlay>) -> Result<(), Fault>
 where
     R: Files
         + Input
         + Print
         + AllocGlobal
-        + Net
+        + Net<Listener = TcpListener, Stream = TcpStream>
         + Threads
         + Wait
         + Clock
@@ -115,7 +127,8 @@ where
         return Err(Fault::Memory);
     };
     let mut writer = io::writer(rt);
-    match run_router(*rt, alloc, config, &mut reader, &mut writer) {
+    let metrics = metrics_at(metrics);
+    match run_router(*rt, alloc, config, metrics, &mut reader, &mut writer) {
         Ok(()) => Ok(()),
         Err(fault) => Err(Fault::Run(fault)),
     }
@@ -130,7 +143,7 @@ where
         + Print
         + Eprint
         + AllocGlobal
-        + Net
+        + Net<Listener = TcpListener, Stream = TcpStream>
         + Threads
         + Wait
         + Clock
@@ -152,7 +165,7 @@ where
             from,
         } => route_datagrams(rt, config, link, now, from),
         Subcommand::Replay { config } => replay_schedule(rt, config),
-        Subcommand::Run { config } => run_over_sockets(rt, config),
+        Subcommand::Run { config, metrics } => run_over_sockets(rt, config, metrics),
         Subcommand::Check {
             config,
             strict,

@@ -4,17 +4,18 @@ use cli_run::RunFault;
 use cmac_core::Cmac;
 use hop_check::beacon;
 use path_fields::Hop;
-use process_packet::Config;
+use process_packet::{Config, Ip, Underlay};
 use router_config::read_config;
 use sample_packets::{FIRST, KEY, MAC_AT, PATH_AT, with_bytes};
-use std::io::{self, BufReader, Read};
-use std::net::{Net, UdpSocket};
+use std::io::{self, BufReader, Read, Write};
+use std::net::{Net, TcpListener, TcpStream, UdpSocket};
 use std::process::Abort;
 use std::sync::Wait;
 use std::test::*;
+use std::thread;
 use std::thread::Threads;
 use std::time::{Clock, Duration, SystemTime, UNIX_EPOCH};
-use udp_router::run_router;
+use udp_router::{Metrics, run_router};
 
 /// The router of the first datagram, with its links on this machine.
 const CONFIGURATION: &str =
@@ -108,14 +109,66 @@ impl Neighbours {
     }
 }
 
-/// The commands that the router reads: before the first is read, a datagram is sent from the neighbour of link 1
-/// to that link, and what leaves there or by link 2 is waited for.
+/// Where the counts are shown.
+const SHOWN_AT: &str = "127.0.0.1:41003";
+
+/// What is shown once the datagram has crossed.
+const SHOWN: [&str; 6] = [
+    "\nrouter_input_pkts_total{interface=\"0\"} 0\nrouter_input_pkts_total{interface=\"1\"} 1\n",
+    "\nrouter_input_pkts_total{interface=\"2\"} 0\n",
+    "\nrouter_output_pkts_total{interface=\"0\"} 0\nrouter_output_pkts_total{interface=\"1\"} 0\n",
+    "\nrouter_output_pkts_total{interface=\"2\"} 1\n",
+    "\nrouter_dropped_pkts_total{cause=\"1\",reason=\"short\"} 0\n",
+    "\nyewpleat_build_info{version=\"7\"} 1\n",
+];
+
+/// Whether a page shows that the datagram has crossed.
+fn shows_it(page: &[u8]) -> bool {
+    let Ok(text) = str::from_utf8(page) else {
+        return false;
+    };
+    for line in SHOWN {
+        if !text.contains(line) {
+            return false;
+        }
+    }
+    text.starts_with("HTTP/1.1 200 OK\r\n")
+}
+
+/// What is shown now.
+fn page_now<R: Net + AllocGlobal>(rt: &R) -> io::Result<Vec<u8>> {
+    let mut stream = TcpStream::connect(rt, SHOWN_AT)?;
+    stream.write_all(b"GET /metrics HTTP/1.1\r\nHost: router\r\n\r\n")?;
+    let mut page = Vec::new(rt.alloc());
+    stream.read_to_end(&mut page)?;
+    Ok(page)
+}
+
+/// Looks until the datagram is shown, since a worker posts what it counted only once it has nothing
+/// to do; for some seconds at most. Whether it is.
+fn comes_to_be_shown<R: Net + AllocGlobal + Clock>(rt: &R) -> bool {
+    for _ in 0..500 {
+        if let Ok(page) = page_now(rt) {
+            if shows_it(page.as_slice()) {
+                return true;
+            }
+        }
+        thread::sleep(rt, Duration::from_millis(10));
+    }
+    false
+}
+
+/// The commands that the router reads: before the first is read, a datagram is sent from the
+/// neighbour of link 1 to that link, and what leaves there or by link 2 is waited for, and then,
+/// where its counts are shown, that they show it.
 #[derive(Drop)]
 struct Lead {
+    rt: HostRuntime,
     neighbours: Neighbours,
     left: &'static [u8],
     asked: bool,
     came: Vec<u8>,
+    is_seen: bool,
 }
 
 impl Read for Lead {
@@ -123,6 +176,7 @@ impl Read for Lead {
         if !self.asked {
             self.asked = true;
             self.neighbours.cross(&mut self.came)?;
+            self.is_seen = self.neighbours.is_answered || comes_to_be_shown(&self.rt);
         }
         let count = self.left.len().min(buf.len());
         let (front, rest) = self.left.split_at(count);
@@ -135,46 +189,86 @@ impl Read for Lead {
 /// What crossed or came back, and what the router wrote.
 #[derive(Drop)]
 struct Outcome {
+    is_seen: bool,
     came: Vec<u8>,
     text: Vec<u8>,
 }
 
 /// The commands, and what is sent before the first.
-fn commands<R>(rt: &R, datagram: [u8; 92], is_answered: bool) -> BufReader<Lead>
+fn commands<R>(rt: &R, host: HostRuntime, datagram: [u8; 92], is_answered: bool) -> BufReader<Lead>
 where
     R: Abort + AllocGlobal + Net,
 {
     let neighbours = Neighbours::new(rt, datagram, is_answered).expect(rt, "sockets");
     let lead = Lead {
+        rt: host,
         neighbours,
         left: b"end\n",
         asked: false,
         came: Vec::new(rt.alloc()),
+        is_seen: false,
     };
     BufReader::new(rt.alloc(), lead).expect(rt, "memory")
 }
 
+/// Where the counts are shown; not at all while a datagram is answered.
+fn metrics_for(is_answered: bool) -> Option<Metrics> {
+    if is_answered {
+        return None;
+    }
+    Some(Metrics {
+        address: Underlay {
+            ip: Ip::V4([127, 0, 0, 1]),
+            port: 41003,
+        },
+        version: "7",
+    })
+}
+
 /// What the router writes until its commands end.
-fn written<R>(rt: R, reader: &mut BufReader<Lead>) -> Vec<u8>
+fn written<R>(rt: R, reader: &mut BufReader<Lead>, metrics: Option<Metrics>) -> Vec<u8>
 where
-    R: Abort + AllocGlobal + Net + Threads + Wait + Clock + Copy + Send + Drop + 'static,
+    R: Abort
+        + AllocGlobal
+        + Net<Listener = TcpListener, Stream = TcpStream>
+        + Threads
+        + Wait
+        + Clock
+        + Copy
+        + Send
+        + Drop
+        + 'static,
 {
     let config = read_config(rt.alloc(), CONFIGURATION).expect(&rt, "configuration");
     let mut text = Vec::new(rt.alloc());
-    let result = run_router(rt, rt.alloc(), config, reader, &mut text);
+    let result = run_router(rt, rt.alloc(), config, metrics, reader, &mut text);
     result.expect(&rt, "a router that runs");
     text
 }
 
 /// A run of the router, while a datagram crosses or is answered.
-fn run_one<R>(rt: R, datagram: [u8; 92], is_answered: bool) -> Outcome
+fn run_one<R>(rt: R, host: HostRuntime, datagram: [u8; 92], is_answered: bool) -> Outcome
 where
-    R: Abort + AllocGlobal + Net + Threads + Wait + Clock + Copy + Send + Drop + 'static,
+    R: Abort
+        + AllocGlobal
+        + Net<Listener = TcpListener, Stream = TcpStream>
+        + Threads
+        + Wait
+        + Clock
+        + Copy
+        + Send
+        + Drop
+        + 'static,
 {
-    let mut reader = commands(&rt, datagram, is_answered);
-    let text = written(rt, &mut reader);
+    let mut reader = commands(&rt, host, datagram, is_answered);
+    let text = written(rt, &mut reader, metrics_for(is_answered));
     let came = reader.get_ref().came.clone().expect(&rt, "memory");
-    Outcome { came, text }
+    let is_seen = reader.get_ref().is_seen;
+    Outcome {
+        is_seen,
+        came,
+        text,
+    }
 }
 
 /// Whether it is the datagram as it leaves: one hop further, its identifier chained, and else as it was.
@@ -204,21 +298,40 @@ const ANSWERED: &[u8] =
     b"ready\nlink 0 sent 0\nlink 1 sent 1\nlink 2 sent 0\nreceived 1\nsent 0\nanswered 1\n";
 
 /// The datagram crosses the router.
-fn crosses<R>(rt: R, sent: [u8; 92])
+fn crosses<R>(rt: R, host: HostRuntime, sent: [u8; 92])
 where
-    R: Abort + AllocGlobal + Net + Threads + Wait + Clock + Copy + Send + Drop + 'static,
+    R: Abort
+        + AllocGlobal
+        + Net<Listener = TcpListener, Stream = TcpStream>
+        + Threads
+        + Wait
+        + Clock
+        + Copy
+        + Send
+        + Drop
+        + 'static,
 {
-    let outcome = run_one(rt, sent, false);
+    let outcome = run_one(rt, host, sent, false);
+    assert!(rt; outcome.is_seen);
     assert!(rt; left_well(outcome.came.as_slice(), &sent));
     assert!(rt; outcome.text.as_slice() == CROSSED);
 }
 
 /// The datagram is answered to its sender.
-fn is_answered<R>(rt: R, sent: [u8; 92])
+fn is_answered<R>(rt: R, host: HostRuntime, sent: [u8; 92])
 where
-    R: Abort + AllocGlobal + Net + Threads + Wait + Clock + Copy + Send + Drop + 'static,
+    R: Abort
+        + AllocGlobal
+        + Net<Listener = TcpListener, Stream = TcpStream>
+        + Threads
+        + Wait
+        + Clock
+        + Copy
+        + Send
+        + Drop
+        + 'static,
 {
-    let outcome = run_one(rt, sent, true);
+    let outcome = run_one(rt, host, sent, true);
     assert!(rt; answered_well(outcome.came.as_slice(), &sent));
     assert!(rt; outcome.text.as_slice() == ANSWERED);
 }
@@ -227,8 +340,8 @@ where
 #[test]
 fn udp_loopback(rt: HostRuntime) {
     let sent = fresh(&rt).expect(&rt, "clock");
-    crosses(rt, sent);
-    is_answered(rt, with_bytes(sent, MAC_AT, &[sent[MAC_AT] ^ 1]));
+    crosses(rt, rt, sent);
+    is_answered(rt, rt, with_bytes(sent, MAC_AT, &[sent[MAC_AT] ^ 1]));
 }
 
 /// The port of an address that is taken.
@@ -245,12 +358,21 @@ fn with_taken<R: Abort + AllocGlobal>(rt: &R, port: &str) -> Config {
 /// Whether the fault of a router one of whose ports is taken names this link, and nothing is written.
 fn is_told<R>(rt: R, port: &str, link: u16) -> bool
 where
-    R: Abort + AllocGlobal + Net + Threads + Wait + Clock + Copy + Send + Drop + 'static,
+    R: Abort
+        + AllocGlobal
+        + Net<Listener = TcpListener, Stream = TcpStream>
+        + Threads
+        + Wait
+        + Clock
+        + Copy
+        + Send
+        + Drop
+        + 'static,
 {
     let config = with_taken(&rt, port);
     let mut reader = b"end\n".as_slice();
     let mut text = Vec::new(rt.alloc());
-    let result = run_router(rt, rt.alloc(), config, &mut reader, &mut text);
+    let result = run_router(rt, rt.alloc(), config, None, &mut reader, &mut text);
     result == Err(RunFault::Socket(link)) && text.is_empty()
 }
 

@@ -1,9 +1,9 @@
 -- The interfaces of the links, one by one, and what the start of a router with a device a link gives.
-use Rattle.std.proofs.Common.{◌≡◌, ◌≤◌, ◌+◌, ℕ, List, [], ◌∷◌, ◌++◌, length, map, None, Some, ap, sym, subst, ◌∙◌, arith}
+use Rattle.std.proofs.Common.{◌≡◌, ◌≤◌, ◌+◌, ◌*◌, ℕ, List, [], ◌∷◌, ◌++◌, length, map, None, Some, ap, sym, subst, ◌∙◌, arith}
 use Rattle.std.specs.List.{AllByRecursion, range_with_len}
 use Rattle.std.proofs.lemmas.List.FromFn.{length-map-range_with_len, map-range_with_len_more}
 use Rattle.process_packet.specs.declared.config.Config.{Config}
-use Rattle.router_rules.specs.Links.{link_count}
+use Rattle.router_rules.specs.Links.{interface_at, link_count}
 use Rattle.router_run.specs.Starting.{Begins, GivesBack}
 use Rattle.router_run.specs.declared.fault.StartFault.{StartFault}
 use Rattle.router_run.specs.declared.fault.StartFault.TheVariants as begin
@@ -11,7 +11,7 @@ use Rattle.cli_run.specs.declared.fault.RunFault.{RunFault}
 use Rattle.udp_devices.specs.Binding.{sink_at, source_at}
 use Rattle.udp_devices.specs.Devices.{Reading, Sending}
 use Rattle.udp_router.specs.OverUdp.{Router}
-use Rattle.udp_router.specs.Run.{IsFault, IsNew, new_sinks, new_sources, unstarted}
+use Rattle.udp_router.specs.Run.{IsFault, IsNew, ascending, new_sinks, new_sources, unstarted}
 
 -- one interface more
 pub one_more : (f : ℕ → ℕ) (all before : List ℕ) (x n : ℕ) → before ≡ map f (range_with_len 0 n) → x ≡ f n → all ≡ before ++ x ∷ [] → all ≡ map f (range_with_len 0 (n + 1))
@@ -44,3 +44,19 @@ is_no_count c (begin.NoMemory a b) e sources sinks from to gives is = let P : Ru
 is_no_count c (begin.Count a b) e sources sinks from to gives is =
     absurd (gives.2 (ap length from ∙ length-map-range_with_len (source_at c) 0 (link_count c), ap length to ∙ length-map-range_with_len (sink_at c) 0 (link_count c)))
 is_no_count c begin.Thread e sources sinks from to gives is = let P : RunFault → Type 0 = λ x. IsFault c x in subst P (sym is) tt
+
+-- ---- at the router's own configuration
+
+pub own_new : (c : Config) (r : Router) → IsNew c r → IsNew r.config r
+own_new c r new = let P : Config → Type 0 = λ x. IsNew x r in subst P (sym new.config) new
+
+pub own_workers : (c d : Config) (w : ℕ) → d ≡ c → w ≡ 2 * link_count c + c.processors + 1 → w ≡ 2 * link_count d + d.processors + 1
+own_workers c d w is workers = let P : Config → Type 0 = λ x. w ≡ 2 * link_count x + x.processors + 1 in subst P (sym is) workers
+
+pub own_links : (c d : Config) (ids : List ℕ) → d ≡ c → ids ≡ ascending c → ids ≡ ascending d
+own_links c d ids is are = let P : Config → Type 0 = λ x. ids ≡ ascending x in subst P (sym is) are
+
+-- there are no more links than workers
+pub few_links : (c : Config) (ids : List ℕ) (w : ℕ) → ids ≡ ascending c → w ≡ 2 * link_count c + c.processors + 1 → length ids ≤ w
+few_links c ids w are workers =
+    let long : length ids ≡ link_count c = ap length are ∙ length-map-range_with_len (interface_at c) 0 (link_count c) in omega (arith, long, workers)

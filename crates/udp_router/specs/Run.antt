@@ -40,6 +40,7 @@ abbrev pub Runs : Config → Result (Unit {0}) RunFault → List (List ℕ) → 
 Runs c (Ok done) lines old new = Leads c (Ok done) lines old new
 Runs c (Err (fault.Lines e)) lines old new = ((e ≡ faults.Memory) × (new ≡ old)) ⊎ Leads c (Err e) lines old new
 Runs c (Err (fault.Socket interface)) lines old new = new ≡ old
+Runs c (Err fault.Metrics) lines old new = new ≡ old
 Runs c (Err fault.NoMemory) lines old new = new ≡ old
 Runs c (Err fault.Count) lines old new = new ≡ old
 Runs c (Err fault.Thread) lines old new = new ≡ old
@@ -47,6 +48,7 @@ Runs c (Err fault.Thread) lines old new = new ≡ old
 -- A socket's fault names a link of the router. There are always as many sources and sinks as links.
 abbrev pub IsFault : Config → RunFault → Type 0
 IsFault c (fault.Socket interface) = (index : ℕ) × (index < link_count c) × (interface ≡ interface_at c index)
+IsFault c fault.Metrics = ⊤
 IsFault c fault.NoMemory = ⊤
 IsFault c fault.Count = ⊥
 IsFault c fault.Thread = ⊤
@@ -55,6 +57,7 @@ IsFault c (fault.Lines e) = ⊤
 -- it comes before anything is read or written
 abbrev pub ComesFirst : RunFault → Type 0
 ComesFirst (fault.Socket interface) = ⊤
+ComesFirst fault.Metrics = ⊤
 ComesFirst fault.NoMemory = ⊤
 ComesFirst fault.Count = ⊤
 ComesFirst fault.Thread = ⊤

@@ -3,5 +3,7 @@
 
 mod over_udp;
 mod run;
+mod showing;
 
 pub use run::run_router;
+pub use showing::Metrics;

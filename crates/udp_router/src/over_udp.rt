@@ -3,7 +3,9 @@
 ghost use Rattle.std.specs.Prelude.{◌≡◌};
 ghost use Rattle.udp_router.specs.OverUdp.{result_of};
 
+use crate::showing::Showing;
 use cli_run::{Closing, Control, Figures};
+use packet_ledger::Look;
 use router_rules::Worker;
 use router_run::{CloseFault, Report, Running};
 use std::marker::Model;
@@ -35,13 +37,16 @@ impl Gate for Open {
     }
 }
 
-/// A router that runs over its sockets. It can only be finished. Contracts see the running router.
+/// A router that runs over its sockets, and may show its counts. It can only be finished. Contracts
+/// see the running router.
 pub(crate) struct OverUdp<N, R>
 where
     N: RunBrand,
     R: Wait + Clock + Copy + Drop,
 {
+    rt: R,
     running: Running<N, UdpSource<R>, UdpSink, Open, R>,
+    showing: Option<Showing<N, R>>,
 }
 
 impl<N, R> Model for OverUdp<N, R>
@@ -61,10 +66,18 @@ where
     N: RunBrand,
     R: Wait + Clock + Copy + Drop,
 {
-    pub(crate) fn of(running: Running<N, UdpSource<R>, UdpSink, Open, R>) -> OverUdp<N, R>
+    pub(crate) fn of(
+        rt: R,
+        running: Running<N, UdpSource<R>, UdpSink, Open, R>,
+        showing: Option<Showing<N, R>>,
+    ) -> OverUdp<N, R>
         ensures { result ≡ running }
     {
-        OverUdp { running }
+        OverUdp {
+            rt,
+            running,
+            showing,
+        }
     }
 }
 
@@ -80,6 +93,24 @@ fn closing_of(closed: Result<(), CloseFault>) -> Closing
     }
 }
 
+// Shows that a link was closed, where it was.
+fn note<N: RunBrand, R: Wait + Drop>(showing: &Option<Showing<N, R>>, link: u16, closing: Closing) {
+    if let (Some(showing), Closing::Closed) = (showing, closing) {
+        showing.close(link);
+    }
+}
+
+// What was shown last, once nothing is shown any more.
+fn ended<N: RunBrand, R: Threads + Wait + Drop>(
+    rt: &R,
+    showing: Option<Showing<N, R>>,
+) -> Option<Look<N>> {
+    match showing {
+        Some(showing) => Some(showing.end(rt)),
+        None => None,
+    }
+}
+
 impl<N, R> Control for OverUdp<N, R>
 where
     N: RunBrand,
@@ -92,12 +123,19 @@ where
     ghost tells = { Tells };
 
     fn close_link(&mut self, link: u16) -> Closing {
-        closing_of(self.running.close_link(link))
+        let closing = closing_of(self.running.close_link(link));
+        note(&self.showing, link, closing);
+        closing
     }
 
     fn finish(self) -> Figures {
-        let OverUdp { running } = self;
-        let Report { totals, sent, .. } = running.finish(None);
+        let OverUdp {
+            rt,
+            running,
+            showing,
+        } = self;
+        let look = ended(&rt, showing);
+        let Report { totals, sent, .. } = running.finish(look);
         Figures { sent, totals }
     }
 }

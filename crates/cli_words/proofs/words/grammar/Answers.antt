@@ -1,6 +1,6 @@
 use Rattle.std.proofs.Common.{◌≡◌, codes, rules, true}
 use Rattle.clap.specs.Simple.{App, app_of, new_app, on_top}
-use Rattle.cli_words.specs.Words.{alone, check, route}
+use Rattle.cli_words.specs.Words.{alone, check, route, run}
 use Rattle.cli_words.proofs.WordsLemmas.{named_alike}
 use Rattle.cli_words.proofs.words.grammar.Goals as goal
 
@@ -11,5 +11,5 @@ returns c =
     let first = named_alike c.bin_name-program.result c.subcommand_required.result top plain c.bin_name-program.ensures in
     let routes = c.with_order-program.ensures _ route first c.route_grammar.ensures in
     let replays = c.with_order-program-2.ensures _ (alone (codes "replay")) routes c.alone_grammar.ensures in
-    let runs = c.with_order-program-3.ensures _ (alone (codes "run")) replays c.alone_grammar-2.ensures in
+    let runs = c.with_order-program-3.ensures _ run replays c.run_grammar.ensures in
     c.with_order.ensures _ check runs c.check_grammar.ensures

@@ -1,7 +1,7 @@
 use Rattle.std.proofs.Common.{◌≡◌, ◌≤◌, ◌∙◌, ℕ, Some, ap, codes, decimal, refl, rules, sym}
 use Rattle.std.specs.Prelude.{◌≢◌}
 use Rattle.cli_words.proofs.WordsLemmas.{no_config, no_link, no_now, other_from, other_link, other_now, text_read}
-use Rattle.cli_words.specs.Words.{from_of}
+use Rattle.cli_words.specs.Words.{address_of}
 use Rattle.clap.specs.Matches.{found_of}
 use Rattle.cli_words.proofs.words.route_of.Goals as goal
 
@@ -36,7 +36,7 @@ returns-in_err-now-clause-none c =
 pub returns-in_err-from-clause-none : goal.returns-in_err-from-clause-none
 returns-in_err-from-clause-none c =
     let read = text_read (found_of c.args.route.now) (codes "from") c.get_str-4.result c.get_str-4.ensures in
-    let none = sym (rw c.in_err-from.was at c.read_from.ensures) in
+    let none = sym (rw c.in_err-from.was at c.read_address.ensures) in
     rw c.from_residual-in_err-from.ensures (λ config link now from asks. other_from _ config link now from _ read none asks)
 
 pub returns-clause-found : goal.returns-clause-found
@@ -53,7 +53,7 @@ returns-clause-found c =
         config_is = rw c.in_ok-config.was at config;
         link_is = (rw c.in_ok-get_str.was at link) ∙ ap (λ t. Some t) link_found.1;
         now_is = (rw c.in_ok-get_str-2.was at now) ∙ ap (λ t. Some t) now_found.1;
-        from_is = rw c.in_ok-from.was at (ap from_of from ∙ sym c.read_from.ensures);
+        from_is = rw c.in_ok-from.was at (ap address_of from ∙ sym c.read_address.ensures);
         link_fits = rw limit at link_found.0;
         now_fits = now_found.0;
       },

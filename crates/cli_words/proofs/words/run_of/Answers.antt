@@ -1,14 +1,27 @@
-use Rattle.std.proofs.Common.{◌≡◌, Some, None, codes, refl, sym, ◌∙◌}
+use Rattle.std.proofs.Common.{◌≡◌, ◌∙◌, ap, codes, refl, sym}
 use Rattle.clap.specs.Matches.{found_of}
-use Rattle.clap.specs.Walk.{first_of, rows_of}
-use Rattle.cli_words.proofs.WordsLemmas.{text_read}
+use Rattle.cli_words.specs.Words.{address_of}
+use Rattle.cli_words.proofs.WordsLemmas.{no_run, other_metrics, text_read}
 use Rattle.cli_words.proofs.words.run_of.Goals as goal
 
-pub returns-in-Some-clause-found : goal.returns-in-Some-clause-found
-returns-in-Some-clause-found c =
-    (refl, rw c.in-Some.is at (text_read (found_of c.args.run.now) (codes "config") c.get_str.result c.get_str.ensures))
+pub returns-in_err-config-clause-none : goal.returns-in_err-config-clause-none
+returns-in_err-config-clause-none c =
+    let read = text_read (found_of c.args.run.now) (codes "config") c.get_str.result c.get_str.ensures in
+    rw c.from_residual.ensures (λ config metrics asks. no_run _ config metrics (rw c.in_err-config.was at read) asks)
 
-pub returns-in-None-clause-none : goal.returns-in-None-clause-none
-returns-in-None-clause-none c = λ config there.
-    let gone : first_of (codes "config") (rows_of (found_of c.args.run.now)) ≡ None = rw c.in-None.is at (text_read (found_of c.args.run.now) (codes "config") c.get_str.result c.get_str.ensures) in
-    let no-way : None ≡ Some config = sym gone ∙ there in absurd cc
+pub returns-in_err-metrics-clause-none : goal.returns-in_err-metrics-clause-none
+returns-in_err-metrics-clause-none c =
+    let read = text_read (found_of c.args.run.now) (codes "metrics") c.get_str-2.result c.get_str-2.ensures in
+    let none = sym (rw c.in_err-metrics.was at c.read_address.ensures) in
+    rw c.from_residual-in_err-metrics.ensures (λ config metrics asks. other_metrics _ config metrics _ read none asks)
+
+pub returns-clause-found : goal.returns-clause-found
+returns-clause-found c =
+    let config = text_read (found_of c.args.run.now) (codes "config") c.get_str.result c.get_str.ensures in
+    let metrics = text_read (found_of c.args.run.now) (codes "metrics") c.get_str-2.result c.get_str-2.ensures in (
+      refl,
+      record {
+        config_is = rw c.in_ok-config.was at config;
+        metrics_is = rw c.in_ok-metrics.was at (ap address_of metrics ∙ sym c.read_address.ensures);
+      },
+    )

@@ -7,5 +7,5 @@ use Rattle.udp_router.proofs.over_udp.OverUdpControl.close_link.Goals as goal
 pub returns : goal.returns
 returns g c =
     let P : Result (Unit {0}) CloseFault → Type 0 = λ r. Closing c.self.inside.running.config c.args.link r c.self.inside.running.crew.shutters c.close_link.new.self.crew.shutters in
-    let Q : Router → Type 0 = λ r. Closes r c.args.link c.closing_of.result c.close_link.new.self in
-    subst Q c.self.view_is (record { marks = subst P (sym c.closing_of.ensures) c.close_link.ensures.closing; same = c.close_link.ensures.same })
+    let Q : Router → Type 0 = λ r. Closes r c.args.link c.closing_of-closing.result c.close_link.new.self in
+    subst Q c.self.view_is (record { marks = subst P (sym c.closing_of-closing.ensures) c.close_link.ensures.closing; same = c.close_link.ensures.same })
