@@ -92,6 +92,11 @@ install: bin/router
 	sed 's|@BINDIR@|$(PREFIX)/bin|' packaging/yewpleat@.service.in \
 		> $(DESTDIR)$(PREFIX)/lib/systemd/system/yewpleat@.service
 	chmod 644 $(DESTDIR)$(PREFIX)/lib/systemd/system/yewpleat@.service
+	install -d $(DESTDIR)$(PREFIX)/share/doc/yewpleat/prometheus
+	install -m 644 packaging/prometheus/rules.yml packaging/prometheus/dashboard.json \
+		$(DESTDIR)$(PREFIX)/share/doc/yewpleat/prometheus
+	sed 's|@BINDIR@|$(PREFIX)/bin|' packaging/metrics.conf.in > $(DESTDIR)$(PREFIX)/share/doc/yewpleat/metrics.conf
+	chmod 644 $(DESTDIR)$(PREFIX)/share/doc/yewpleat/metrics.conf
 
 clean:
 	rm -rf bin crates/*/out
