@@ -65,7 +65,7 @@ test:
 	RT_JOBS=$(LANES) $(RT) ci
 	$(MAKE) $(PROGRAM) $(GROWN_TESTS)
 	tests/lines/check.py $(PROGRAM)
-	tests/faults/growths.py check check-net route replay run $(GROWN) || [ $$? -eq 77 ]
+	tests/faults/growths.py check check-net route replay run run-metrics $(GROWN) || [ $$? -eq 77 ]
 
 # Where the gate took an earlier run's results, it may have built no program.
 $(PROGRAM):
@@ -175,6 +175,13 @@ SECONDS ?= 60
 # Speaks BFD with a running router over loopback, for some seconds beside a flood; it needs python3 too.
 bfd-trial: bin/router
 	tests/bfd/try.py --seconds $(SECONDS)
+
+.PHONY: metrics-trial
+
+# Asks a running router for its counts over HTTP, well and ill, beside a load; it needs python3 too. With PROMETHEUS=yes
+# Debian's prometheus scrapes it for a minute besides.
+metrics-trial: bin/router
+	tests/metrics/check.py $(if $(PROMETHEUS),--prometheus)
 
 .PHONY: gate-times
 

@@ -31,7 +31,7 @@ struct command {
     const char *name;
     const char *const *words;
     const char *input; /* a file; none: the router runs over its sockets, by the commands of this trial */
-    bool runs;
+    bool runs, shows; /* whether the router runs, and shows its counts */
     int status; /* what it ends with, and writes, where nothing fails */
     char right[MOST], errors[MOST];
 };
@@ -253,11 +253,11 @@ static bool adds_up(const struct command *command, const struct ending *ending, 
            links == sent + answered && failed == unsent;
 }
 
-/* The fault of a link's socket: each link has one, and they are made and bound in order. */
+/* The fault of a socket: each link has one, and the counts have the last. They are made and bound in order. */
 static bool names_its_socket(const struct command *command, const struct ending *ending) {
-    static const char *const faults[] = {"socket 0", "socket 1", "socket 2", NULL};
+    static const char *const faults[] = {"socket 0", "socket 1", "socket 2", "metrics", NULL};
     if (!command->runs || page->kind == CONTROL) return command->runs && tells(command, ending, faults);
-    return page->at <= 3 && tells_one(command, ending, faults[page->at - 1]);
+    return page->at <= (command->shows ? 4 : 3) && tells_one(command, ending, faults[page->at - 1]);
 }
 
 /* The faults of want of memory. A router alone is started; where a thread has no memory, none can be had. */
@@ -284,6 +284,7 @@ static bool is_good(const struct command *command, const struct ending *ending) 
     case SOCKET:
     case BIND:
     case CONTROL: return names_its_socket(command, ending);
+    case OPTION: return is_right(command, ending) || (command->shows && tells_one(command, ending, "metrics"));
     case THREAD: return command->runs && tells_one(command, ending, "start 3");
     case SEND:
         /* Where there is no room a send is tried twice. */
@@ -451,7 +452,8 @@ int main(int count, char **words) {
     router = words[1], library = words[2];
     static struct command all[] = {{.name = "check"},  {.name = "route"},
                                    {.name = "replay"}, {.name = "run", .runs = true},
-                                   {.name = "help"},   {.name = "refused", .status = 2}};
+                                   {.name = "help"},   {.name = "refused", .status = 2},
+                                   {.name = "shown", .runs = true, .shows = true}};
     all[0].words = (const char *[]){"router", "check", "--config", words[3], NULL};
     all[0].input = "/dev/null";
     all[1].words =
@@ -465,6 +467,8 @@ int main(int count, char **words) {
     all[5].words =
         (const char *[]){"router", "route", "--config", words[3], "--link", "65536", "--now", "1", NULL};
     all[5].input = "/dev/null";
+    all[6].words =
+        (const char *[]){"router", "run", "--config", words[6], "--metrics", "127.0.0.1:43020", NULL};
     enum { COMMANDS = sizeof all / sizeof *all };
     for (int k = 7; k < count; k++) {
         int at = 0;

@@ -301,10 +301,10 @@ def of_tests(crate, begin, *needs, **how):
     return {name: Trial(program, [name], needs, **how) for name in names}
 
 
-def of_router(command, words, *needs, **how):
+def of_router(command, words, *needs, name=None, **how):
     """A command of the router."""
     program = Program("router_program", "router_program")
-    return {f"router {command}": Trial(program, [command, *words], needs, writes=True, **how)}
+    return {f"router {name or command}": Trial(program, [command, *words], needs, writes=True, **how)}
 
 
 def file_of(*path):
@@ -312,6 +312,8 @@ def file_of(*path):
 
 
 SAMPLE = ["--config", file_of("examples", "border-router.toml")]
+ON_LOOPBACK = ["--config", file_of("tests", "faults", "router.toml")]
+AND_SHOWN = [*ON_LOOPBACK, "--metrics", "127.0.0.1:43020"]
 THREE_ASES = [file_of("examples", "three-ases", f"{name}.toml") for name in ("first", "core-1", "core-2", "last")]
 FIRST_ON_LINK_1 = [*SAMPLE, "--link", "1", "--now", "1694499816"]
 
@@ -335,7 +337,8 @@ TRIALS = {
     "check-net": lambda: of_router("check", ["--net", *THREE_ASES], "memory"),
     "route": lambda: of_router("route", FIRST_ON_LINK_1, *LACKS, given=datagrams()),
     "replay": lambda: of_router("replay", SAMPLE, *LACKS, given=bytes_of("examples", "replay.txt")),
-    "run": lambda: of_router("run", ["--config", file_of("tests", "faults", "router.toml")], "start 1", "start 3", *LACKS),
+    "run": lambda: of_router("run", ON_LOOPBACK, "start 1", "start 3", *LACKS),
+    "run-metrics": lambda: of_router("run", AND_SHOWN, "start 1", "start 3", *LACKS, name="run --metrics"),
     # The engines check what they wrote and that they answer want of memory, and return well.
     "engine_tests": lambda: {
         name: trial

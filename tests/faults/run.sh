@@ -1,8 +1,9 @@
 #!/bin/sh
 # Refuses each call of the router that a system may refuse, one a run: growths, reads, writes, sends and the
-# others of tests/faults/page.h, for `check`, `route`, `replay` and `run`, and for command lines that print the
-# help or are refused (`help`, `refused`). The words say which of these; none: all of them. Prints how many
-# calls of a kind were refused, and how many of these runs ended otherwise than docs/FORMATS.md says.
+# others of tests/faults/page.h, for `check`, `route`, `replay` and `run`, for `run --metrics` (`shown`), and for
+# command lines that print the help or are refused (`help`, `refused`). The words say which of these; none: all of
+# them. Prints how many calls of a kind were refused, and how many of these runs ended otherwise than
+# docs/FORMATS.md says.
 set -eu
 cd "$(dirname "$0")/../.."
 CC=${CC:-cc}
