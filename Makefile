@@ -89,6 +89,8 @@ install: bin/router
 	install -m 644 packaging/router.1 $(DESTDIR)$(PREFIX)/share/man/man1/router.1
 	install -m 644 docs/OPERATING.md docs/CONFIGURATION.md docs/FORMATS.md docs/LIMITS.md \
 		examples/border-router.toml $(DESTDIR)$(PREFIX)/share/doc/yewpleat
+	install -d $(DESTDIR)$(PREFIX)/share/doc/yewpleat/pictures
+	install -m 644 docs/pictures/metrics.svg $(DESTDIR)$(PREFIX)/share/doc/yewpleat/pictures
 	sed 's|@BINDIR@|$(PREFIX)/bin|' packaging/yewpleat@.service.in \
 		> $(DESTDIR)$(PREFIX)/lib/systemd/system/yewpleat@.service
 	chmod 644 $(DESTDIR)$(PREFIX)/lib/systemd/system/yewpleat@.service
