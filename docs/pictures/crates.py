@@ -27,7 +27,7 @@ LAYERS = [
     ("sockets", "#f8dcd3", "udp_devices"),
     ("text and commands", "#e6def0", "text_values metrics_text metrics_server counts_page router_config config_warnings net_check cli_io cli_route cli_replay cli_run udp_router cli_words cli_faults cli_check router_program"),
 ]
-LEFT_OUT = {"path_trial", "path_probe", "try_net", "key_derivation", "topology", "config_text"}
+LEFT_OUT = {"path_trial", "path_probe", "try_net", "key_derivation", "topology", "config_text", "cli_import"}
 
 
 def is_left_out(name):

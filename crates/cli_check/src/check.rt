@@ -1,8 +1,10 @@
 //! The command.
 
 ghost use Rattle.std.specs.Prelude.{◌≡◌, ◌&&◌, ℕ, None, Some, Ok, Err, true, false};
+ghost use Rattle.cli_check.specs.Check.{GivesConfig, Tells};
 ghost use Rattle.cli_faults.specs.declared.fault.Fault.TheVariants as fault;
 ghost use Rattle.cli_run.specs.declared.fault.RunFault.TheVariants.{Socket};
+ghost use Rattle.router_config.specs.Config.{values_of};
 
 use crate::sockets::open_each;
 use crate::words::tell_warnings;
@@ -17,7 +19,9 @@ use std::rt::{Clock, Files};
 use std::thread::Threads;
 
 /// The fault of a text that is no configuration, with its words where there is memory for them.
-fn told(alloc: Global, fault: ConfigFault, text: &str) -> Fault {
+fn told(alloc: Global, fault: ConfigFault, text: &str) -> Fault
+    ensures { Tells fault result }
+{
     match (fault, fault_words(alloc, text)) {
         (ConfigFault::Memory, _) => Fault::Config(fault),
         (_, Ok(Some(words))) => Fault::Told(fault, words),
@@ -25,8 +29,10 @@ fn told(alloc: Global, fault: ConfigFault, text: &str) -> Fault {
     }
 }
 
-/// The configuration that a text is.
-pub(crate) fn config_of(alloc: Global, text: &str) -> Result<Config, Fault> {
+/// The configuration that a text is. The fault of one that is none has its words.
+pub fn config_of(alloc: Global, text: &str) -> Result<Config, Fault>
+    ensures { GivesConfig result (values_of text.now) }
+{
     match read_config(alloc, text) {
         Ok(config) => Ok(config),
         Err(fault) => Err(told(alloc, fault, text)),

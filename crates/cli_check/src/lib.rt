@@ -7,5 +7,6 @@ mod net;
 mod sockets;
 mod words;
 
-pub use check::check_config;
+pub use check::{check_config, config_of};
 pub use net::check_net;
+pub use words::tell_warnings;

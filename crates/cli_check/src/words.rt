@@ -1,5 +1,8 @@
 //! What will hurt, in lines on standard error.
 
+ghost use Rattle.std.specs.Prelude.{◌≡◌, ℕ, IfOk, [], false};
+ghost use Rattle.config_warnings.specs.Warnings.{warnings_of};
+
 use cli_faults::Fault;
 use config_warnings::{strays_in, warnings_of};
 use process_packet::Config;
@@ -15,7 +18,9 @@ fn cores_of<R: Threads>(rt: &R) -> usize {
 }
 
 /// Tells of the values that will hurt. Whether there are any.
-fn tell_values<R: Eprint + AllocGlobal + Threads>(rt: &R, config: &Config) -> Result<bool, Fault> {
+fn tell_values<R: Eprint + AllocGlobal + Threads>(rt: &R, config: &Config) -> Result<bool, Fault>
+    ensures { IfOk result (λ is_told. is_told ≡ false → (cores : ℕ) × (warnings_of config.now cores ≡ [])) }
+{
     let Ok(list) = warnings_of(rt.alloc(), config, cores_of(rt)) else {
         return Err(Fault::Memory);
     };
@@ -40,11 +45,13 @@ fn tell_keys<R: Eprint + AllocGlobal>(rt: &R, text: &str) -> Result<bool, Fault>
 }
 
 /// Tells of all that will hurt in a good configuration and its text. Whether there is anything.
-pub(crate) fn tell_warnings<R: Eprint + AllocGlobal + Threads>(
+pub fn tell_warnings<R: Eprint + AllocGlobal + Threads>(
     rt: &R,
     config: &Config,
     text: &str,
-) -> Result<bool, Fault> {
+) -> Result<bool, Fault>
+    ensures { IfOk result (λ is_told. is_told ≡ false → (cores : ℕ) × (warnings_of config.now cores ≡ [])) }
+{
     let is_key = tell_keys(rt, text)?;
     let is_value = tell_values(rt, config)?;
     Ok(is_key || is_value)

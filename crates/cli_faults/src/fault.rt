@@ -13,6 +13,20 @@ use std::alloc::AllocFailed;
 use std::io;
 use thiserror::Error;
 
+/// A file of an import.
+#[derive(Clone, Copy, Debug, Error)]
+pub enum ImportFile {
+    /// scionproto's topology.
+    #[error("topology")]
+    Topology,
+    /// The master key.
+    #[error("master key")]
+    MasterKey,
+    /// The configuration that is written.
+    #[error("out")]
+    Out,
+}
+
 /// Why the program ends with another status than 0. Its text follows `fault: `.
 #[derive(Debug, Drop, Error)]
 pub enum Fault {
@@ -37,6 +51,18 @@ pub enum Fault {
     /// Something in the configuration will hurt, and that is to be a fault.
     #[error("warnings")]
     Warned,
+    /// The topology gives no configuration, in words.
+    #[error("topology: {0}")]
+    Topology(String),
+    /// The master key is none, in words.
+    #[error("master key: {0}")]
+    MasterKey(&'static str),
+    /// A file of an import can't be read or written, with the system's reason.
+    #[error("{0}: {1}")]
+    Import(ImportFile, io::Error),
+    /// Where an import is to write its configuration there is something else than a regular file.
+    #[error("out: it is there, and no regular file")]
+    Special,
     /// The configuration has no such link.
     #[error("link")]
     Link,
@@ -74,6 +100,17 @@ impl Fault {
         match error.kind() {
             io::ErrorKind::OutOfMemory => Fault::Memory,
             _ => Fault::Unread(error),
+        }
+    }
+
+    /// What an error in reading or writing a file of an import means.
+    pub fn of_import(file: ImportFile, error: io::Error) -> Fault
+        ensures memory { error_kind error ≡ kind.OutOfMemory → result ≡ fault.Memory }
+        ensures file { error_kind error ≢ kind.OutOfMemory → result ≡ fault.Import file error }
+    {
+        match error.kind() {
+            io::ErrorKind::OutOfMemory => Fault::Memory,
+            _ => Fault::Import(file, error),
         }
     }
 

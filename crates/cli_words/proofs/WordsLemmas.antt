@@ -30,7 +30,7 @@ use Rattle.std.specs.Box.{box_value}
 use Rattle.std.specs.Prelude.{Box, String, Bool, ◌==◌, ◌&&◌, not, if◌then◌else◌, length, map, string_bytes}
 use Rattle.clap.proofs.WalkLemmas.{first_value-rows}
 use Rattle.process_packet.specs.declared.underlay.Underlay.{Underlay}
-use Rattle.cli_words.specs.Words.{Asked, Routes, Replays, Runs, Checks, ChecksNet, Asks, AsksOf, AsksRoute, AsksRun, Orders, OrdersBy, OrdersByGrammar, address_of, are_net, asked_of, files_of, is_file, is_given, net_files, router}
+use Rattle.cli_words.specs.Words.{Asked, Routes, Replays, Runs, Checks, ChecksNet, Imports, Asks, AsksImport, AsksOf, AsksRoute, AsksRun, ImportAsked, Orders, OrdersBy, OrdersByGrammar, address_of, are_net, asked_of, files_of, is_file, is_given, net_files, router}
 use Rattle.cli_words.specs.declared.words.Subcommand.{Subcommand}
 
 -- names that differ
@@ -52,6 +52,18 @@ replay_check same = false≢true ((bytes_eq-Decides (codes "replay") (codes "che
 run_check : codes "run" ≢ codes "check"
 run_check same = false≢true ((bytes_eq-Decides (codes "run") (codes "check")).1 same)
 
+route_import : codes "route" ≢ codes "import"
+route_import same = false≢true ((bytes_eq-Decides (codes "route") (codes "import")).1 same)
+
+replay_import : codes "replay" ≢ codes "import"
+replay_import same = false≢true ((bytes_eq-Decides (codes "replay") (codes "import")).1 same)
+
+run_import : codes "run" ≢ codes "import"
+run_import same = false≢true ((bytes_eq-Decides (codes "run") (codes "import")).1 same)
+
+check_import : codes "check" ≢ codes "import"
+check_import same = false≢true ((bytes_eq-Decides (codes "check") (codes "import")).1 same)
+
 abbrev pub Entered : Type 0
 Entered = Option (Text × List Row)
 
@@ -67,6 +79,7 @@ route_asked rows (Replays config) none asks = route_replay asks.0
 route_asked rows (Runs config metrics) none asks = route_run asks.0
 route_asked rows (Checks config strict bind) none asks = route_check asks.0
 route_asked rows (ChecksNet files) none asks = asks
+route_asked rows (Imports asked) none asks = route_import asks.0
 
 replay_asked : (rows : List Row) (asked : Asked) → ((config : Text) → first_of (codes "config") rows ≢ Some config) → ¬ Asks (codes "replay", rows) asked
 replay_asked rows (Routes config link now from) none asks = route_replay (sym asks.0)
@@ -74,6 +87,7 @@ replay_asked rows (Replays config) none asks = none config asks.1
 replay_asked rows (Runs config metrics) none asks = replay_run asks.0
 replay_asked rows (Checks config strict bind) none asks = replay_check asks.0
 replay_asked rows (ChecksNet files) none asks = asks
+replay_asked rows (Imports asked) none asks = replay_import asks.0
 
 run_asked : (rows : List Row) (asked : Asked) → ((config : Text) (metrics : Option Underlay) → ¬ AsksRun rows config metrics) → ¬ Asks (codes "run", rows) asked
 run_asked rows (Routes config link now from) none asks = route_run (sym asks.0)
@@ -81,6 +95,7 @@ run_asked rows (Replays config) none asks = replay_run (sym asks.0)
 run_asked rows (Runs config metrics) none asks = none config metrics asks.1
 run_asked rows (Checks config strict bind) none asks = run_check asks.0
 run_asked rows (ChecksNet files) none asks = asks
+run_asked rows (Imports asked) none asks = run_import asks.0
 
 check_asked : (rows : List Row) (asked : Asked) → ((config : Text) → first_of (codes "config") rows ≢ Some config) → ¬ Asks (codes "check", rows) asked
 check_asked rows (Routes config link now from) none asks = route_check (sym asks.0)
@@ -88,6 +103,15 @@ check_asked rows (Replays config) none asks = replay_check (sym asks.0)
 check_asked rows (Runs config metrics) none asks = run_check (sym asks.0)
 check_asked rows (Checks config strict bind) none asks = none config asks.1.config_is
 check_asked rows (ChecksNet files) none asks = asks
+check_asked rows (Imports asked) none asks = check_import asks.0
+
+import_asked_none : (rows : List Row) (asked : Asked) → ((values : ImportAsked) → ¬ AsksImport rows values) → ¬ Asks (codes "import", rows) asked
+import_asked_none rows (Routes config link now from) none asks = route_import (sym asks.0)
+import_asked_none rows (Replays config) none asks = replay_import (sym asks.0)
+import_asked_none rows (Runs config metrics) none asks = run_import (sym asks.0)
+import_asked_none rows (Checks config strict bind) none asks = check_import (sym asks.0)
+import_asked_none rows (ChecksNet files) none asks = asks
+import_asked_none rows (Imports values) none asks = none values asks.1
 
 pub name_read : {Z : Type 0} → (o : Option (Box SubCommand Z)) → option_map (λ (p : Text × List Row). p.0) (subcommand_rows o) ≡ option_map (λ (b : Box SubCommand Z). (out-SubCommand (box_value b)).name.now) o
 name_read None = refl
@@ -122,6 +146,15 @@ pub other_metrics : (s : List Row) (config : Text) (metrics : Option Underlay) (
 other_metrics s config metrics word there none asks =
     let wanted = asks.metrics_is in let no-way : None ≡ Some metrics = sym (ap address_of there ∙ none) ∙ wanted in absurd cc
 
+pub no_topology : (s : List Row) (asked : ImportAsked) → first_of (codes "topology") s ≡ None → AsksImport s asked → ⊥
+no_topology s asked gone asks = let there = asks.topology_is in cc
+
+pub no_router : (s : List Row) (asked : ImportAsked) → first_of (codes "router") s ≡ None → AsksImport s asked → ⊥
+no_router s asked gone asks = let there = asks.router_is in cc
+
+pub no_keys : (s : List Row) (asked : ImportAsked) → first_of (codes "keys") s ≡ None → AsksImport s asked → ⊥
+no_keys s asked gone asks = let there = asks.keys_is in cc
+
 -- ---- which subcommand was entered
 
 pub entered : (s : Entered) (name : Text) (rows : List Row) → option_map (λ (p : Text × List Row). p.0) s ≡ Some name → option_map (λ (p : Text × List Row). p.1) s ≡ Some rows → s ≡ Some (name, rows)
@@ -155,14 +188,20 @@ pub check_none : (s : Entered) (rows : List Row) (r : Option Subcommand) → s �
 check_none s rows (Some o) same none = tt
 check_none s rows None same none = λ asked asks. check_asked rows asked none (asks_along s (Some (codes "check", rows)) asked same asks)
 
+pub import_none : (s : Entered) (rows : List Row) (r : Option Subcommand) → s ≡ Some (codes "import", rows) → IfNone r ((values : ImportAsked) → ¬ AsksImport rows values)
+    → IfNone r ((asked : Asked) → ¬ AsksOf s asked)
+import_none s rows (Some o) same none = tt
+import_none s rows None same none = λ asked asks. import_asked_none rows asked none (asks_along s (Some (codes "import", rows)) asked same asks)
+
 pub no_order : (s : Entered) (name : Option Text) → option_map (λ (p : Text × List Row). p.0) s ≡ name → name ≢ Some (codes "route") → name ≢ Some (codes "replay") → name ≢ Some (codes "run")
-    → name ≢ Some (codes "check") → (asked : Asked) → ¬ AsksOf s asked
-no_order None name named route replay run check asked asks = absurd asks
-no_order (Some p) name named route replay run check (Routes config link now from) asks = route (sym named ∙ ap (λ (n : Text). Some n) asks.0)
-no_order (Some p) name named route replay run check (Replays config) asks = replay (sym named ∙ ap (λ (n : Text). Some n) asks.0)
-no_order (Some p) name named route replay run check (Runs config metrics) asks = run (sym named ∙ ap (λ (n : Text). Some n) asks.0)
-no_order (Some p) name named route replay run check (Checks config strict bind) asks = check (sym named ∙ ap (λ (n : Text). Some n) asks.0)
-no_order (Some p) name named route replay run check (ChecksNet files) asks = absurd asks
+    → name ≢ Some (codes "check") → name ≢ Some (codes "import") → (asked : Asked) → ¬ AsksOf s asked
+no_order None name named route replay run check imports asked asks = absurd asks
+no_order (Some p) name named route replay run check imports (Routes config link now from) asks = route (sym named ∙ ap (λ (n : Text). Some n) asks.0)
+no_order (Some p) name named route replay run check imports (Replays config) asks = replay (sym named ∙ ap (λ (n : Text). Some n) asks.0)
+no_order (Some p) name named route replay run check imports (Runs config metrics) asks = run (sym named ∙ ap (λ (n : Text). Some n) asks.0)
+no_order (Some p) name named route replay run check imports (Checks config strict bind) asks = check (sym named ∙ ap (λ (n : Text). Some n) asks.0)
+no_order (Some p) name named route replay run check imports (ChecksNet files) asks = absurd asks
+no_order (Some p) name named route replay run check imports (Imports values) asks = imports (sym named ∙ ap (λ (n : Text). Some n) asks.0)
 
 -- ---- `check --net`
 

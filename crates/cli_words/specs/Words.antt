@@ -11,6 +11,7 @@ use Rattle.std.specs.declared.alloc.AllocError.{AllocError}
 use Rattle.clap.specs.declared.builder.command.Command.{Command}
 use Rattle.clap.specs.declared.builder.command.Command.TheViews.{out-Command as fields_of}
 use Rattle.clap.specs.declared.builder.action.ArgAction.TheVariants.{Set, SetTrue}
+use Rattle.cli_words.specs.declared.import_words.ImportWords.{ImportWords}
 use Rattle.cli_words.specs.declared.words.Subcommand.{Subcommand}
 use Rattle.cli_words.specs.declared.words.Subcommand.TheVariants as order
 
@@ -48,16 +49,25 @@ run = with_rule (alone (codes "run")) (offered (codes "metrics"))
 abbrev pub check : App
 check = with_rule (with_rule (alone (codes "check")) (flag (codes "strict"))) (flag (codes "bind"))
 
+-- `import --topology FILE --router NAME --keys DIR [--out FILE] [--port-range] [--strict]`
+abbrev pub importing : App
+importing =
+    with_rule (with_rule (with_rule
+    (with_rule (with_rule (with_rule (new_app (codes "import")) (wanted (codes "topology"))) (wanted (codes "router"))) (wanted (codes "keys")))
+    (offered (codes "out"))) (flag (codes "port-range"))) (flag (codes "strict"))
+
 -- the program, whose words begin after its name
 abbrev pub router : App
 router =
     with_subcommand
     (with_subcommand
     (with_subcommand
+    (with_subcommand
     (with_subcommand (on_top (λ top. record top { has_version = true; no_binary_name = true; subcommand_required = true }) (new_app (codes "router"))) route.top)
     (alone (codes "replay")).top)
     run.top)
-    check.top
+    check.top)
+    importing.top
 
 -- what a parse finds of an option without a value
 abbrev pub is_given : Option Text → Bool
@@ -69,6 +79,15 @@ abbrev pub address_of : Option Text → Option (Option Underlay)
 address_of None = Some None
 address_of (Some text) = option_map (λ u. Some u) (underlay_of text)
 
+-- what is asked of an import
+pub record ImportAsked : Type 0 where
+  pub topology : Text
+  pub border_router : Text
+  pub keys : Text
+  pub out : Option Text
+  pub port_range : Bool
+  pub strict : Bool
+
 -- what is asked for
 pub data Asked : Type 0 where
   Routes : Text → ℕ → ℕ → Option Underlay → Asked  -- the configuration, the link, the moment, the source
@@ -76,6 +95,17 @@ pub data Asked : Type 0 where
   Runs : Text → Option Underlay → Asked  -- the configuration, where the counts are shown
   Checks : Text → Bool → Bool → Asked  -- the configuration, whether a warning is a fault, whether sockets are opened
   ChecksNet : List Text → Asked  -- the configurations
+  Imports : ImportAsked → Asked
+
+abbrev pub import_asked : ImportWords → ImportAsked
+import_asked w = record {
+  topology = w.topology.now;
+  border_router = w.border_router.now;
+  keys = w.keys.now;
+  out = option_map (λ path. path.now) w.out;
+  port_range = w.port_range;
+  strict = w.strict;
+}
 
 abbrev pub asked_of : Subcommand → Asked
 asked_of (order.Route config link now from) = Routes config.now link now from
@@ -83,6 +113,7 @@ asked_of (order.Replay config) = Replays config.now
 asked_of (order.Run config metrics) = Runs config.now metrics
 asked_of (order.Check config strict bind) = Checks config.now strict bind
 asked_of (order.CheckNet files) = ChecksNet (map string_bytes files.now)
+asked_of (order.Import words) = Imports (import_asked words)
 
 -- The options of `route` have these values. A number stands there as its decimal digits.
 pub record AsksRoute (rows : List Row) (config : Text) (link now : ℕ) (from : Option Underlay) : Type 0 where
@@ -104,6 +135,15 @@ pub record AsksCheck (rows : List Row) (config : Text) (strict bind : Bool) : Ty
   pub strict_is : strict ≡ is_given (first_of (codes "strict") rows)
   pub bind_is : bind ≡ is_given (first_of (codes "bind") rows)
 
+-- The options of `import` have these values.
+pub record AsksImport (rows : List Row) (asked : ImportAsked) : Type 0 where
+  pub topology_is : first_of (codes "topology") rows ≡ Some asked.topology
+  pub router_is : first_of (codes "router") rows ≡ Some asked.border_router
+  pub keys_is : first_of (codes "keys") rows ≡ Some asked.keys
+  pub out_is : first_of (codes "out") rows ≡ asked.out
+  pub port_range_is : asked.port_range ≡ is_given (first_of (codes "port-range") rows)
+  pub strict_is : asked.strict ≡ is_given (first_of (codes "strict") rows)
+
 -- a subcommand and its options ask for it
 abbrev pub Asks : Text × List Row → Asked → Type 0
 Asks entered (Routes config link now from) = (entered.0 ≡ codes "route") × AsksRoute entered.1 config link now from
@@ -111,6 +151,7 @@ Asks entered (Replays config) = (entered.0 ≡ codes "replay") × (first_of (cod
 Asks entered (Runs config metrics) = (entered.0 ≡ codes "run") × AsksRun entered.1 config metrics
 Asks entered (Checks config strict bind) = (entered.0 ≡ codes "check") × AsksCheck entered.1 config strict bind
 Asks entered (ChecksNet files) = ⊥
+Asks entered (Imports asked) = (entered.0 ≡ codes "import") × AsksImport entered.1 asked
 
 abbrev pub AsksOf : Option (Text × List Row) → Asked → Type 0
 AsksOf None asked = ⊥

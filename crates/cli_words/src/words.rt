@@ -11,6 +11,7 @@ ghost use Rattle.process_packet.specs.declared.underlay.Underlay.{Underlay as Ad
 ghost use Rattle.cli_words.specs.Words.{Asked, Asks, AsksOf, AsksRoute, AsksRun, IsGrammar, Orders, OrdersByGrammar, address_of, alone, asked_of, check, files_of, flag, is_file, is_given, net_files, offered, route, router, run, wanted};
 ghost use Rattle.cli_words.specs.declared.words.WordsFault.TheVariants.{Memory, Told};
 
+use crate::import_words::{ImportWords, import_grammar, import_of};
 use clap::error::ErrorKind;
 use clap::{Arg, ArgAction, ArgMatches, Command};
 use process_packet::Underlay;
@@ -96,6 +97,8 @@ pub enum Subcommand<'a> {
         /// The paths of the configurations, at least one.
         files: &'a [String],
     },
+    /// To print a configuration that is made of scionproto's topology and key.
+    Import(ImportWords<'a>),
 }
 
 /// Why a command line gives no order.
@@ -138,7 +141,7 @@ fn fault_of(error: clap::Error) -> WordsFault
 }
 
 /// The option `--name VALUE`, which has to be there.
-fn wanted<'a>(alloc: Global, name: &'a str, value: &'a str, help: &'a str) -> Arg<'a>
+pub(crate) fn wanted<'a>(alloc: Global, name: &'a str, value: &'a str, help: &'a str) -> Arg<'a>
     ensures rule { rule_of result ≡ wanted name.now }
     ensures own { result.global ≡ false }
 {
@@ -151,7 +154,7 @@ fn wanted<'a>(alloc: Global, name: &'a str, value: &'a str, help: &'a str) -> Ar
 }
 
 /// The option `--name VALUE`, which may be there.
-fn offered<'a>(alloc: Global, name: &'a str, value: &'a str, help: &'a str) -> Arg<'a>
+pub(crate) fn offered<'a>(alloc: Global, name: &'a str, value: &'a str, help: &'a str) -> Arg<'a>
     ensures rule { rule_of result ≡ offered name.now }
     ensures own { result.global ≡ false }
 {
@@ -163,7 +166,7 @@ fn offered<'a>(alloc: Global, name: &'a str, value: &'a str, help: &'a str) -> A
 }
 
 /// The option `--name`, which may be there and takes no value.
-fn flag<'a>(alloc: Global, name: &'a str, help: &'a str) -> Arg<'a>
+pub(crate) fn flag<'a>(alloc: Global, name: &'a str, help: &'a str) -> Arg<'a>
     ensures rule { rule_of result ≡ flag name.now }
     ensures own { result.global ≡ false }
 {
@@ -174,7 +177,7 @@ fn flag<'a>(alloc: Global, name: &'a str, help: &'a str) -> Arg<'a>
 }
 
 /// The command with an option more, unless memory ran out before.
-fn with_option<'a>(
+pub(crate) fn with_option<'a>(
     command: Result<Command<'a>, AllocError>,
     option: Arg<'a>,
 ) -> Result<Command<'a>, AllocError>
@@ -255,7 +258,8 @@ fn grammar<'a>(alloc: Global) -> Result<Command<'a>, AllocError>
     let program = with_order(program, route_grammar(alloc));
     let program = with_order(program, alone_grammar(alloc, "replay", REPLAY_ABOUT));
     let program = with_order(program, run_grammar(alloc));
-    with_order(program, check_grammar(alloc))
+    let program = with_order(program, check_grammar(alloc));
+    with_order(program, import_grammar(alloc))
 }
 
 /// The address that a word names, if it is one; no word names none.
@@ -314,7 +318,7 @@ fn run_of<'a>(run: &ArgMatches<'a>) -> Option<Subcommand<'a>>
 }
 
 /// Whether an option without a value is there.
-fn is_given(matches: &ArgMatches<'_>, name: &str) -> bool
+pub(crate) fn is_given(matches: &ArgMatches<'_>, name: &str) -> bool
     ensures { result ≡ is_given (first_of name.now (rows_of (found_of matches.now))) }
 {
     match matches.get_str(name) {
@@ -356,6 +360,9 @@ fn subcommand_of<'a>(matches: &ArgMatches<'a>) -> Option<Subcommand<'a>>
     }
     if let Some(check) = matches.subcommand_matches("check") {
         return check_of(check);
+    }
+    if let Some(import) = matches.subcommand_matches("import") {
+        return import_of(import);
     }
     None
 }

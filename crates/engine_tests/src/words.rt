@@ -24,7 +24,9 @@ fn asks(alloc: Global, words: &[String], wanted: Option<(u16, u64)>) -> bool {
                 ..
             },
         ) => config == "c" && wanted == Some((link, now)),
-        Ok(Subcommand::Run { config }) => config == "c" && wanted.is_none(),
+        Ok(Subcommand::Run { config, metrics }) => {
+            config == "c" && metrics.is_none() && wanted.is_none()
+        }
         _ => false,
     }
 }

@@ -1,13 +1,15 @@
 //! A SCION border router: `router run --config FILE [--metrics ADDR]` runs it over its sockets; `router route
 //! --config FILE --link N --now S [--from ADDR]` answers datagrams, one a line in hex; `router replay --config
 //! FILE` makes steps of the pipeline, one a line; `router check --config FILE` tells whether a configuration is
-//! good, and `router check --net FILE..` whether the routers of several fit one another.
+//! good, and `router check --net FILE..` whether the routers of several fit one another; `router import --topology
+//! FILE --router NAME --keys DIR` makes one of scionproto's topology and key.
 #![tactic(auto)]
 
 ghost use Rattle.std.specs.Prelude.{◌≡◌, true, false};
 
 use cli_check::{check_config, check_net};
 use cli_faults::Fault;
+use cli_import::import_config;
 use cli_io::{ArrivalContext, usual_source};
 use cli_replay::replay_lines;
 use cli_route::route_lines;
@@ -172,6 +174,7 @@ where
             bind,
         } => check_config(rt, config, strict, bind),
         Subcommand::CheckNet { files } => check_net(rt, files),
+        Subcommand::Import(words) => import_config(rt, &words),
     }
 }
 

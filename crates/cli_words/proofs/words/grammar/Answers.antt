@@ -1,6 +1,6 @@
 use Rattle.std.proofs.Common.{◌≡◌, codes, rules, true}
 use Rattle.clap.specs.Simple.{App, app_of, new_app, on_top}
-use Rattle.cli_words.specs.Words.{alone, check, route, run}
+use Rattle.cli_words.specs.Words.{alone, check, importing, route, run}
 use Rattle.cli_words.proofs.WordsLemmas.{named_alike}
 use Rattle.cli_words.proofs.words.grammar.Goals as goal
 
@@ -12,4 +12,5 @@ returns c =
     let routes = c.with_order-program.ensures _ route first c.route_grammar.ensures in
     let replays = c.with_order-program-2.ensures _ (alone (codes "replay")) routes c.alone_grammar.ensures in
     let runs = c.with_order-program-3.ensures _ run replays c.run_grammar.ensures in
-    c.with_order.ensures _ check runs c.check_grammar.ensures
+    let checks = c.with_order-program-4.ensures _ check runs c.check_grammar.ensures in
+    c.with_order.ensures _ importing checks c.import_grammar.ensures

@@ -1,0 +1,56 @@
+//! The file into which a configuration is written.
+
+use cli_faults::{Fault, ImportFile};
+use std::fs::{OpenFile, OpenOptions};
+use std::io::Write;
+use std::os::unix::fs::OpenOptionsExt;
+use std::rt::Files;
+use std::{fs, io};
+
+/// That its owner alone may read and write a file.
+const OWNER_ALONE: u32 = 0o600;
+
+/// Writes a text to a file that isn't there yet, and that its owner alone may read and write from
+/// its beginning.
+fn write_new<R: Files>(rt: &R, path: &str, text: &str) -> io::Result<()> {
+    let mut options = OpenOptions::new();
+    options.write(true).create_new(true).mode(OWNER_ALONE);
+    let mut file = options.open(rt, path)?;
+    file.write_all(text.as_bytes())?;
+    file.sync_all()
+}
+
+/// Writes a text to a new file, which then takes the place of the one at a path, if there is one.
+fn write_and_rename<R: Files>(rt: &R, path: &str, beside: &str, text: &str) -> io::Result<()> {
+    write_new(rt, beside, text)?;
+    fs::rename(rt, beside, path)
+}
+
+/// Whether something is there that isn't a regular file.
+fn is_special<R: Files>(rt: &R, path: &str) -> bool {
+    match fs::symlink_metadata(rt, path) {
+        Ok(metadata) => !metadata.is_file(),
+        Err(_) => false,
+    }
+}
+
+/// Writes a text to the file at a path, which its owner alone may then read and write. Where that
+/// fails, what was there is as it was, and nothing of the text is left beside it.
+pub(crate) fn write_out<R: Files + AllocGlobal>(
+    rt: &R,
+    path: &str,
+    text: &str,
+) -> Result<(), Fault> {
+    if is_special(rt, path) {
+        return Err(Fault::Special);
+    }
+    let Ok(beside) = format!(in rt.alloc(); "{path}.part") else {
+        return Err(Fault::Memory);
+    };
+    let _ = fs::remove_file(rt, beside.as_str());
+    let Err(error) = write_and_rename(rt, path, beside.as_str(), text) else {
+        return Ok(());
+    };
+    let _ = fs::remove_file(rt, beside.as_str());
+    Err(Fault::of_import(ImportFile::Out, error))
+}
