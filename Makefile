@@ -65,7 +65,7 @@ test:
 	RT_JOBS=$(LANES) $(RT) ci
 	$(MAKE) $(PROGRAM) $(GROWN_TESTS)
 	tests/lines/check.py $(PROGRAM)
-	tests/faults/growths.py check check-net route replay run run-metrics $(GROWN) || [ $$? -eq 77 ]
+	tests/faults/growths.py check check-net import route replay run run-metrics $(GROWN) || [ $$? -eq 77 ]
 
 # Where the gate took an earlier run's results, it may have built no program.
 $(PROGRAM):

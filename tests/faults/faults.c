@@ -219,12 +219,26 @@ static bool tells_one(const struct command *command, const struct ending *ending
     return tells(command, ending, (const char *const[]){fault, NULL});
 }
 
-/* The fault of a file that can't be read. `check` says why. */
-static bool tells_file(const struct command *command, const struct ending *ending) {
+static bool is_named(const struct command *command, const char *name) { return !strcmp(command->name, name); }
+
+/* The fault of this file, with the system's reason. */
+static bool tells_why(const struct command *command, const struct ending *ending, const char *file) {
     char why[256];
-    if (strcmp(command->name, "check")) return tells_one(command, ending, "file");
-    snprintf(why, sizeof why, "file: %s (os error %d)", strerror(page->error), page->error);
+    snprintf(why, sizeof why, "%s: %s (os error %d)", file, strerror(page->error), page->error);
     return tells_one(command, ending, why);
+}
+
+/* The fault of a file that can't be read. `check` and `import` say why. */
+static bool tells_file(const struct command *command, const struct ending *ending) {
+    if (is_named(command, "check")) return tells_why(command, ending, "file");
+    if (is_named(command, "import"))
+        return tells_why(command, ending, "topology") || tells_why(command, ending, "master key");
+    return tells_one(command, ending, "file");
+}
+
+/* Whether a command asks how many cores there are, which a file of the system tells; it doesn't need to know. */
+static bool asks_for_cores(const struct command *command) {
+    return is_named(command, "check") || is_named(command, "import");
 }
 
 /* Of a running router: nothing was refused to the one who gives it commands, and the report accounts for each
@@ -275,7 +289,7 @@ static bool is_good(const struct command *command, const struct ending *ending) 
     case OPEN: return is_right(command, ending) || tells_file(command, ending);
     case READ:
         if (page->error == EINTR) return is_right(command, ending);
-        if (descriptor) return tells_file(command, ending) || (!strcmp(command->name, "check") && is_right(command, ending));
+        if (descriptor) return tells_file(command, ending) || (asks_for_cores(command) && is_right(command, ending));
         return tells_one(command, ending, "input");
     case WRITE:
         if (page->error == EINTR && is_right(command, ending)) return true;
@@ -445,15 +459,16 @@ static bool is_among(const char *name, char **words) {
 }
 
 int main(int count, char **words) {
-    if (count < 7) {
-        fprintf(stderr, "usage: faults ROUTER LIBRARY CONFIG DATAGRAMS REPLAY RUN-CONFIG [COMMAND]..\n");
+    if (count < 8) {
+        fprintf(stderr, "usage: faults ROUTER LIBRARY CONFIG DATAGRAMS REPLAY RUN-CONFIG IMPORTED [COMMAND]..\n");
         return 2;
     }
     router = words[1], library = words[2];
     static struct command all[] = {{.name = "check"},  {.name = "route"},
                                    {.name = "replay"}, {.name = "run", .runs = true},
                                    {.name = "help"},   {.name = "refused", .status = 2},
-                                   {.name = "shown", .runs = true, .shows = true}};
+                                   {.name = "shown", .runs = true, .shows = true},
+                                   {.name = "import"}};
     all[0].words = (const char *[]){"router", "check", "--config", words[3], NULL};
     all[0].input = "/dev/null";
     all[1].words =
@@ -469,8 +484,14 @@ int main(int count, char **words) {
     all[5].input = "/dev/null";
     all[6].words =
         (const char *[]){"router", "run", "--config", words[6], "--metrics", "127.0.0.1:43020", NULL};
+    char topology[MOST], keys[MOST];
+    snprintf(topology, sizeof topology, "%s/topology.json", words[7]);
+    snprintf(keys, sizeof keys, "%s/keys", words[7]);
+    all[7].words = (const char *[]){"router", "import",           "--topology", topology,       "--router",
+                                    "br1-ff00_0_110-1", "--keys", keys,         "--port-range", NULL};
+    all[7].input = "/dev/null";
     enum { COMMANDS = sizeof all / sizeof *all };
-    for (int k = 7; k < count; k++) {
+    for (int k = 8; k < count; k++) {
         int at = 0;
         while (at < COMMANDS && strcmp(all[at].name, words[k])) at++;
         if (at == COMMANDS) {
@@ -485,7 +506,7 @@ int main(int count, char **words) {
     unsigned long tried = 0, bad = 0;
     printf("%-39s %6s %6s\n", "", "tried", "failed");
     for (int k = 0; k < COMMANDS; k++) {
-        if (count > 7 && !is_among(all[k].name, words + 7)) continue;
+        if (count > 8 && !is_among(all[k].name, words + 8)) continue;
         learn(&all[k]);
         for (size_t j = 0; j < sizeof refusals / sizeof *refusals; j++)
             refuse(&all[k], &refusals[j], &tried, &bad);

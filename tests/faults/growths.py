@@ -315,6 +315,8 @@ SAMPLE = ["--config", file_of("examples", "border-router.toml")]
 ON_LOOPBACK = ["--config", file_of("tests", "faults", "router.toml")]
 AND_SHOWN = [*ON_LOOPBACK, "--metrics", "127.0.0.1:43020"]
 THREE_ASES = [file_of("examples", "three-ases", f"{name}.toml") for name in ("first", "core-1", "core-2", "last")]
+IMPORTED = ["--topology", file_of("examples", "scionproto", "topology.json"), "--router", "br1-ff00_0_110-1"]
+IMPORTED += ["--keys", file_of("examples", "scionproto", "keys"), "--port-range"]
 FIRST_ON_LINK_1 = [*SAMPLE, "--link", "1", "--now", "1694499816"]
 
 
@@ -335,6 +337,7 @@ LACKS = ("config 9", "memory")
 TRIALS = {
     "check": lambda: of_router("check", SAMPLE, "config 9", may=LACKS),
     "check-net": lambda: of_router("check", ["--net", *THREE_ASES], "memory"),
+    "import": lambda: of_router("import", IMPORTED, *LACKS),
     "route": lambda: of_router("route", FIRST_ON_LINK_1, *LACKS, given=datagrams()),
     "replay": lambda: of_router("replay", SAMPLE, *LACKS, given=bytes_of("examples", "replay.txt")),
     "run": lambda: of_router("run", ON_LOOPBACK, "start 1", "start 3", *LACKS),

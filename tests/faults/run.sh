@@ -1,7 +1,7 @@
 #!/bin/sh
 # Refuses each call of the router that a system may refuse, one a run: growths, reads, writes, sends and the
-# others of tests/faults/page.h, for `check`, `route`, `replay` and `run`, for `run --metrics` (`shown`), and for
-# command lines that print the help or are refused (`help`, `refused`). The words say which of these; none: all of
+# others of tests/faults/page.h, for `check`, `import`, `route`, `replay` and `run`, for `run --metrics` (`shown`), and
+# for command lines that print the help or are refused (`help`, `refused`). The words say which of these; none: all of
 # them. Prints how many calls of a kind were refused, and how many of these runs ended otherwise than
 # docs/FORMATS.md says.
 set -eu
@@ -29,4 +29,5 @@ first=$(cat examples/first-datagram.hex)
 } > "$room/datagrams"
 
 bin/faults "$router" "$PWD/bin/faults-preload.so" \
-    examples/border-router.toml "$room/datagrams" examples/replay.txt tests/faults/router.toml "$@"
+    examples/border-router.toml "$room/datagrams" examples/replay.txt tests/faults/router.toml \
+    examples/scionproto "$@"

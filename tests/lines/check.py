@@ -32,6 +32,8 @@ ROUTE = ["route", "--config", "c", "--link", "1", "--now", "1694499816"]
 REPLAY = ["replay", "--config", "c"]
 CHECK = ["check", "--config", "c"]
 RUN = ["run", "--config", "c"]
+IMPORT = ["import", "--topology", "t", "--router", "br1-ff00_0_110-1", "--keys", "."]
+SCIONPROTO = os.path.join(TOP, "examples", "scionproto")
 
 # The routers of examples/three-ases, in the order of a path.
 NET = ["first.toml", "core-1.toml", "core-2.toml", "last.toml"]
@@ -105,6 +107,8 @@ class Trial:
             )
         except subprocess.TimeoutExpired:
             return -1, b"", f"(no end within {SECONDS} seconds)".encode()
+        if words[:1] == ["import"] and re.search(rb"[0-9a-f]{32}", done.stderr):
+            return -1, b"", b"(a key on standard error)"
         return done.returncode, done.stdout, done.stderr
 
     def count(self, row, is_good, *told):
@@ -118,14 +122,19 @@ class Trial:
             for line in told:
                 print(f"  {line[:400]}")
 
-    def compare(self, row, wanted, words, config, given=b""):
-        """Counts a row by how a command ends."""
+    def compare(self, row, wanted, words, config, given=b"", first_line=False):
+        """Counts a row by how a command ends; where just the first line of the output counts, by that one."""
         status, output, errors = self.run(words, config, given)
+        output = output[: output.find(b"\n") + 1] if first_line else output
         is_good = (status, output) == wanted[:2] and re.fullmatch(wanted[2], errors, re.DOTALL) is not None
         self.count(row, is_good, f"wanted {wanted}", f"came   {(status, output, errors)}")
 
 
 # Words and configurations.
+
+
+# The ends of a command line that are tried where there is no file `c`.
+NO_FILE = ("no file", "unread", "unread topology", "refused")
 
 
 def try_words(trial):
@@ -138,12 +147,13 @@ def try_words(trial):
         "no file": faults(b"file"),
         "no link": faults(b"link"),
         "unread": (1, b"", b"fault: file: [^\n]+\n"),
+        "unread topology": (1, b"", b"fault: topology: [^\n]+\n"),
         "refused": (2, b"", b".+"),
     }
     for row in rows_of("words.txt"):
         end, words = row.split(":", 1)
         # where words are wrongly taken, a missing `c` shows it, and starts no router
-        trial.compare(row, ends[end], words.split(), None if end in ("no file", "unread", "refused") else config)
+        trial.compare(row, ends[end], words.split(), None if end in NO_FILE else config)
 
 
 def try_addresses(trial):
@@ -188,6 +198,106 @@ def try_warnings(trial):
         config = changed(sound, old, new)
         trial.compare(row, (0, b"ok\n", warned), CHECK, config)
         trial.compare(f"--strict: {row}", (1, b"", warned + b"fault: warnings\n"), [*CHECK, "--strict"], config)
+
+
+# The import of scionproto's topology and key.
+
+
+def example(name):
+    with open(os.path.join(SCIONPROTO, name), encoding="utf-8") as file:
+        return file.read()
+
+
+def put(trial, name, given):
+    """Writes a file beside the configuration."""
+    with open(os.path.join(trial.folder, name), "wb") as file:
+        file.write(given)
+
+
+def like(words):
+    """A pattern of words, of which `..` at the end stands for the rest of the line."""
+    return re.escape(words[:-2]) + "[^\n]*" if words.endswith("..") else re.escape(words)
+
+
+def try_imports(trial):
+    topology, config = example("topology.json"), example("router.toml")
+    put(trial, "master0.key", example("keys/master0.key").encode())
+    for row in rows_of("imports.txt"):
+        old, new, words = row.split(" -> ", 2)
+        put(trial, "t", changed(topology, old, new).encode())
+        trial.compare(f"import: {row}", (1, b"", f"fault: {like(words)}\n".encode()), IMPORT, None)
+    for row in rows_of("imported.txt"):
+        old, new, part, instead = f"{row} ".split(" -> ", 3)
+        put(trial, "t", changed(topology, old, new).encode())
+        wanted = changed(config, part, instead.rstrip(" "))
+        trial.compare(f"import: {row}", writes(wanted.encode()), [*IMPORT, "--port-range", "--strict"], None)
+        trial.compare(f"check: {row}", writes(b"ok\n"), [*CHECK, "--strict"], wanted)
+    for row in rows_of("import-warnings.txt"):
+        old, new, words = row.split(" -> ", 2)
+        warned = f"warning: {like(words)}\n".encode()
+        put(trial, "t", changed(topology, old, new).encode())
+        trial.compare(f"import: {row}", (0, b"version = 2\n", warned), [*IMPORT, "--port-range"], None, first_line=True)
+        strict = (1, b"", warned + b"fault: warnings\n")
+        trial.compare(f"import --strict: {row}", strict, [*IMPORT, "--port-range", "--strict"], None)
+
+
+def try_import_files(trial):
+    """Where the import's files are, and where they aren't."""
+    config = example("router.toml")
+    put(trial, "t", example("topology.json").encode())
+    put(trial, "master0.key", example("keys/master0.key").encode())
+    left_out = b"warning: `dispatched_ports` 31000-32767 is left out: --port-range carries it\n"
+    bare = changed(config, "dispatched_ports = [31000, 32767]\n", "")
+    trial.compare("import without ports", (0, bare.encode(), left_out), IMPORT, None)
+    strict = (1, b"", left_out + b"fault: warnings\n")
+    trial.compare("import --strict without ports", strict, [*IMPORT, "--strict"], None)
+    trial.compare("no topology", (1, b"", b"fault: topology: [^\n]+\n"), [*IMPORT[:2], "none", *IMPORT[3:]], None)
+    trial.compare("no keys", (1, b"", b"fault: master key: [^\n]+\n"), [*IMPORT[:-1], "none"], None)
+    trial.compare("no folder", (1, b"", b"fault: out: [^\n]+\n"), [*IMPORT, "--port-range", "--out", "none/o"], None)
+    path = os.path.join(trial.folder, "o")
+    os.symlink("t", path)
+    for special in (".", "/dev/null", "o"):
+        wanted = faults(b"out: it is there, and no regular file")
+        trial.compare(f"--out {special}", wanted, [*IMPORT, "--port-range", "--out", special], None)
+    os.remove(path)
+    for before in (None, 0o644, 0o400):
+        if before:
+            os.chmod(path, before)
+            # what a run that was cut off may leave
+            put(trial, "o.part", b"another text")
+        trial.compare("import --out", writes(b""), [*IMPORT, "--port-range", "--out", "o"], None)
+        with open(path, encoding="utf-8") as file:
+            trial.count("what --out wrote", file.read() == config)
+        trial.count("the mode of --out", os.stat(path).st_mode & 0o777 == 0o600, oct(os.stat(path).st_mode))
+    beside = [name for name in os.listdir(trial.folder) if name.startswith("o")]
+    trial.count("files beside --out", beside == ["o"], beside)
+
+
+def try_master_keys(trial):
+    config = example("router.toml")
+    put(trial, "t", example("topology.json").encode())
+    for row in rows_of("master-keys.txt"):
+        told, text = row.split(" <- ", 1)
+        put(trial, "master0.key", unescaped(text))
+        if told.startswith("="):
+            wanted = writes(changed(config, "014f838b9e1db547479909e7710bc7c8", told[1:]).encode())
+        else:
+            wanted = (1, b"", f"fault: master key: {like(told)}\n".encode())
+        trial.compare(f"master key: {row}", wanted, [*IMPORT, "--port-range"], None)
+
+
+def try_malicious_imports(trial):
+    """A topology cut at each length, and with each byte turned: one line and status 1, or a configuration."""
+    put(trial, "master0.key", example("keys/master0.key").encode())
+    whole = "".join(line.strip() for line in example("topology.json").split("\n")).encode()
+    given = [whole[:end] for end in range(len(whole))]
+    given += [turned(whole, at, 1 << at % 8) for at in range(len(whole))]
+    for text in given:
+        put(trial, "t", text)
+        status, output, errors = trial.run([*IMPORT, "--port-range"], None)
+        refused = status == 1 and output == b"" and re.fullmatch(b"(warning: [^\n]+\n)*fault: [^\n]+\n", errors)
+        taken = status == 0 and output.startswith(b"version = 2\n") and re.fullmatch(b"(warning: [^\n]+\n)*", errors)
+        trial.count(f"import: {text!r}", bool(refused or taken), (status, output, errors))
 
 
 def try_sockets(trial):
@@ -597,6 +707,10 @@ def main():
         try_warnings(trial)
         try_sockets(trial)
         try_nets(trial)
+        try_imports(trial)
+        try_import_files(trial)
+        try_master_keys(trial)
+        try_malicious_imports(trial)
         try_datagrams(trial)
         try_one_hops(trial)
         try_bfd(trial)
