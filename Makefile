@@ -198,3 +198,10 @@ pictures:
 	docs/pictures/crates.py > docs/pictures/crates.dot
 	dot -Tsvg docs/pictures/crates.dot -o docs/pictures/crates.svg
 	dot -Tsvg docs/pictures/pipeline.dot -o docs/pictures/pipeline.svg
+
+.PHONY: compare-keys
+
+# Compares the forwarding keys that `router import` derives with those of OpenSSL, over random master keys; it needs python3
+# and openssl too.
+compare-keys: bin/router
+	tests/keys/compare.py
