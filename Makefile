@@ -87,7 +87,7 @@ install: bin/router
 	install -d $(DESTDIR)$(PREFIX)/share/doc/yewpleat $(DESTDIR)$(PREFIX)/lib/systemd/system
 	install -m 755 bin/router $(DESTDIR)$(PREFIX)/bin/router
 	install -m 644 packaging/router.1 $(DESTDIR)$(PREFIX)/share/man/man1/router.1
-	install -m 644 docs/OPERATING.md docs/CONFIGURATION.md docs/FORMATS.md docs/LIMITS.md \
+	install -m 644 docs/OPERATING.md docs/CONFIGURATION.md docs/FORMATS.md docs/LIMITS.md docs/FROM-SCIONPROTO.md \
 		examples/border-router.toml $(DESTDIR)$(PREFIX)/share/doc/yewpleat
 	install -d $(DESTDIR)$(PREFIX)/share/doc/yewpleat/pictures
 	install -m 644 docs/pictures/metrics.svg $(DESTDIR)$(PREFIX)/share/doc/yewpleat/pictures
