@@ -5,9 +5,9 @@ docs/FORMATS.md says, no packet may be lost for it, counts may only grow, the ro
 report at its end has to be at least what was shown.
 
 With `--prometheus`, Debian's `prometheus` scrapes the router for a minute besides, under a load that grows, and then with
-a closed link. Its own API has to give the figures that the router shows, `promtool` may have nothing to say to them nor
-to the alerts of packaging/, and of these that of a closed link has to be pending. Both programs are looked for on the
-PATH. With `--picture` what it tells of that minute is drawn into docs/pictures/metrics.svg.
+a closed link. Its own API has to give the figures that the router shows, `promtool` may have nothing to say to them, the
+alerts of packaging/ have to do what alerts.yml says, and that of a closed link has to be pending. Both programs are
+looked for on the PATH. With `--picture` what it tells of that minute is drawn into docs/pictures/metrics.svg.
 
 Use: tests/metrics/check.py [--prometheus [--picture]] [PROGRAM], where PROGRAM is bin/router if it isn't named. It takes
 ports 45000 to 45003, 45100 and 45101, and 45190 of 127.0.0.1.
@@ -37,6 +37,7 @@ KEY = "2b7e151628aed2a6abf7158809cf4f3c"
 HOST = "127.0.0.1"
 SHOWN_AT = (HOST, 45003)
 PROMETHEUS_AT = f"{HOST}:45190"
+ALERTS = os.path.join(HERE, "alerts.yml")
 RULES = os.path.join(TOP, "packaging", "prometheus", "rules.yml")
 PICTURE = os.path.join(TOP, "docs", "pictures", "metrics.svg")
 # So many packets have room in a socket's buffer, and the link has buffers for them: none is to be lost.
@@ -402,9 +403,10 @@ def draw(begin, end):
         file.write(picture.picture(panels))
 
 
-def has_nothing_to_say(words, given=""):
-    done = subprocess.run(["promtool", "check", *words], input=given, capture_output=True, text=True, timeout=60)
-    expect(done.returncode == 0 and (words != ["metrics"] or not done.stdout + done.stderr), f"promtool check {words}: {done}")
+def promtool_takes(words, given=""):
+    done = subprocess.run(["promtool", *words], input=given, capture_output=True, text=True, timeout=60)
+    is_silent = not done.stdout + done.stderr
+    expect(done.returncode == 0 and (is_silent or not given), f"promtool {words}: {done}")
 
 
 def prometheus_trial(program, config, folder, is_drawn):
@@ -413,9 +415,9 @@ def prometheus_trial(program, config, folder, is_drawn):
         file.write(SCRAPES)
     router = Router(program, [config, "--metrics", f"{HOST}:{SHOWN_AT[1]}"])
     expect(router.line() == "ready", "it is ready")
-    has_nothing_to_say(["metrics"], page())
-    has_nothing_to_say(["rules", RULES])
-    has_nothing_to_say(["config", scrapes])
+    promtool_takes(["check", "metrics"], page())
+    promtool_takes(["check", "config", scrapes])
+    promtool_takes(["test", "rules", ALERTS])
     words = ["prometheus", f"--config.file={scrapes}", f"--storage.tsdb.path={folder}/data", f"--web.listen-address={PROMETHEUS_AT}"]
     server = subprocess.Popen(words, stdout=subprocess.DEVNULL, stderr=subprocess.DEVNULL)
     time.sleep(5)
