@@ -2,7 +2,7 @@
 
 ghost use Rattle.std.specs.Prelude.{◌≡◌, ◌*◌, ◌≤◌};
 
-use packet_ledger::{Blank, Book, RunBrand, Share};
+use packet_ledger::{Blank, Book, Look, RunBrand, Share};
 use process_packet::{CAUSES, Cause, Totals};
 use std::alloc::Global;
 use std::marker::Brand;
@@ -168,4 +168,52 @@ fn no_share<N: RunBrand, R: Abort + Wait>(rt: &R, alloc: Global, blank: Blank) -
 fn nobody_counts(rt: HostRuntime) {
     let blank = Blank::new(rt.alloc()).expect(&rt, "memory");
     assert!(rt; no_share::<Brand, _>(&rt, rt.alloc(), blank) == NOTHING);
+}
+
+// Whether a look shows these sums, and these rows of the shares.
+fn shows<N: RunBrand>(look: &Look<N>, totals: Totals, inputs: &[u128], outputs: &[u128]) -> bool {
+    *look.totals() == totals && look.inputs() == inputs && look.outputs() == outputs
+}
+
+// Whether looks at a book of two shares show none of what isn't posted, each share's own row, and at the end all that
+// was posted; and the totals.
+fn looks<N: RunBrand, R: Abort + Wait>(rt: &R, alloc: Global, blank: Blank) -> (bool, Totals)
+    requires name { blank.table ≡ N.table }
+    requires two { N.workers ≡ 2 }
+{
+    let (book, mut shares) = Book::<N>::new(alloc, blank, 2).expect(rt, "memory");
+    let mut second = shares.pop().expect(rt, "share");
+    let mut first = shares.pop().expect(rt, "share");
+    let mut early = book.watch(rt, alloc).expect(rt, "memory");
+    receive(&mut first, 3);
+    count_one(&mut second, 1);
+    count_one(&mut second, 2);
+    book.post(rt, &mut first);
+    book.look(rt, &mut early);
+    book.post(rt, &mut second);
+    drop_one(&mut second, Cause::LinkFull);
+    let mut late = book.watch(rt, alloc).expect(rt, "memory");
+    shares.push(first).expect(rt, "memory");
+    shares.push(second).expect(rt, "memory");
+    let totals = book.close_after(rt, shares, &mut late);
+    let mut wanted = NOTHING;
+    wanted.received = 3;
+    let is_early = shows(&early, wanted, &[3, 0], &[0, 0]);
+    wanted.sent = 1;
+    wanted.answered = 1;
+    let is_late = shows(&late, wanted, &[3, 0], &[0, 2]);
+    (is_early && is_late, totals)
+}
+
+#[test]
+fn looks_show_what_was_posted(rt: HostRuntime) {
+    let blank = Blank::new(rt.alloc()).expect(&rt, "memory");
+    let (are_right, totals) = looks::<Brand, _>(&rt, rt.alloc(), blank);
+    assert!(rt; are_right);
+    let mut wanted = NOTHING;
+    wanted.received = 3;
+    wanted.sent = 1;
+    wanted.answered = 1;
+    wanted.dropped[12] = 1;
+    assert!(rt; totals == wanted);
 }
