@@ -1,1 +1,2 @@
 mod KeyLemmas
+mod ListLemmas

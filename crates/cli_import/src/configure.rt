@@ -1,6 +1,6 @@
 //! From the texts of the files to the configuration, with what is told on the way.
 
-ghost use Rattle.std.specs.Prelude.{◌≡◌, ◌&&◌, ◌⊎◌, IfErr, IfOk, Some, None, Ok, Err, true, false, []};
+ghost use Rattle.std.specs.Prelude.{◌≡◌, ◌&&◌, ◌||◌, ◌⊎◌, IfErr, IfOk, Some, None, Ok, Err, true, false, []};
 ghost use Rattle.serde_json.specs.Read.{read};
 ghost use Rattle.serde_json.specs.View.{view};
 ghost use Rattle.cli_faults.specs.declared.fault.Fault.TheVariants as fault;
@@ -47,12 +47,13 @@ fn tell_left_out<R: Eprint>(rt: &R, list: &[LeftOut<'_>]) -> bool
     !list.is_empty()
 }
 
-/// What comes of an import of which something was told: a fault, where that is one.
-fn verdict_of(is_told: bool, strict: bool) -> Result<(), Fault>
-    ensures warned { (is_told && strict) ≡ true → result ≡ Err fault.Warned }
-    ensures good { (is_told && strict) ≡ false → result ≡ Ok tt }
+/// What comes of an import of which this was told: a fault, where anything that is told is one.
+fn verdict_of(is_left_out: bool, is_warned: bool, strict: bool) -> Result<(), Fault>
+    ensures warned { ((is_left_out || is_warned) && strict) ≡ true → result ≡ Err fault.Warned }
+    ensures good { ((is_left_out || is_warned) && strict) ≡ false → result ≡ Ok tt }
+    ensures silent { IfOk result (λ _. strict ≡ true → (is_left_out ≡ false) × (is_warned ≡ false)) }
 {
-    if is_told && strict {
+    if (is_left_out || is_warned) && strict {
         Err(Fault::Warned)
     } else {
         Ok(())
@@ -85,6 +86,6 @@ where
     )?;
     let is_left_out = tell_left_out(rt, left_out.as_slice());
     let is_warned = tell_warnings(rt, &made.config, made.text.as_str())?;
-    verdict_of(is_left_out || is_warned, words.strict)?;
+    verdict_of(is_left_out, is_warned, words.strict)?;
     Ok(made)
 }
