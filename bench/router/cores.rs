@@ -12,8 +12,9 @@ unsafe extern "C" {
 /// A set of cores: bit k stands for core k.
 type Mask = [u64; 16];
 
-/// From this number of cores on sender and reader have one each, on which nothing else of the bench runs.
-const ENOUGH: usize = 4;
+/// From this number of cores on sender and reader have one each, on which nothing else of the bench runs: the router needs one
+/// for each of its busy threads, which are three with one processor.
+const ENOUGH: usize = 6;
 
 /// The cores of each.
 #[derive(Clone, Copy)]

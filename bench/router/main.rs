@@ -1,8 +1,8 @@
 //! Times the router over loopback beside plain Rust and C. `bench ROUTER PLAIN FORWARD ROOM`: the programs, and a
 //! directory for configurations. Each round starts each of them for each size of datagram, floods it for a while, and
 //! then sends at a steady pace; then each is left alone. Medians of all rounds are printed, and of a flood the least and
-//! the most too. The environment may have
-//! ROUNDS, SECONDS, how long each of these takes, and ONLY, a part of the names of those that are timed.
+//! the most too. The environment may have ROUNDS, SECONDS, how long each of these takes, and ONLY, a part of the names of
+//! those that are timed.
 
 #[path = "../decision/cipher.rs"]
 #[allow(dead_code)]
@@ -129,7 +129,11 @@ fn main() {
     let cores = Cores::new();
     eprintln!(
         "sender and reader {}",
-        if cores.are_apart() { "have a core each" } else { "share the cores with the programs" }
+        if cores.are_apart() {
+            "have a core each"
+        } else {
+            "share the cores with the programs"
+        }
     );
     let mut figures: Vec<[Figures; 2]> = CONTENDERS.iter().map(|_| Default::default()).collect();
     let mut idle: Vec<Vec<f64>> = IDLE.iter().map(|_| vec![]).collect();
