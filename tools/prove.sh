@@ -4,7 +4,7 @@
 set -eu
 
 crate=$1
-# A crate that waits for those below it has a place too: with as many places as lanes a third of the time went by unused.
+# A crate that waits for those below it has a place too: with as many places as lanes a quarter of the time went by unused.
 jobs=$((2 * $2))
 top=$(cd "$(dirname "$0")/.." && pwd)
 log=$(mktemp)
