@@ -57,10 +57,14 @@ provider_from (Some d) = option_map unless_udp (as_str d)
 unfoldable pub provider_of : Data → Option (Option (List ℕ))
 provider_of underlay = provider_from (get (codes "provider") underlay)
 
--- where this router's end is: at `local`, or at `public` in older files
+-- at `public`, unless its IP address stands at `bind`
+unfoldable pub public_of : Data → Option Underlay
+public_of underlay = if is_some (get (codes "bind") underlay) then None else address_at (codes "public") underlay
+
+-- where this router's end is: at `local`, or as older files have it
 unfoldable pub local_of : Data → Option Underlay
 local_of underlay = if not (is_some (get (codes "local") underlay)) && is_some (get (codes "public") underlay)
-    then address_at (codes "public") underlay else address_at (codes "local") underlay
+    then public_of underlay else address_at (codes "local") underlay
 
 -- a link of this kind, over UDP
 unfoldable pub link_of : List ℕ → LinkKind → Data → Data → Option LinkValues

@@ -2,7 +2,7 @@
 
 ghost use Rattle.std.specs.Prelude.{◌≡◌, option_map};
 ghost use Rattle.serde_json.specs.View.{view};
-ghost use Rattle.topology.specs.Interface.{carried_values, id_of, interface_of, link_of, link_values, local_of, of_kind, provider_of, relation_at, relation_of};
+ghost use Rattle.topology.specs.Interface.{carried_values, id_of, interface_of, link_of, link_values, local_of, of_kind, provider_of, public_of, relation_at, relation_of};
 ghost use Rattle.topology.specs.Outcome.{taken};
 
 use crate::bfd::bfd_of;
@@ -125,13 +125,30 @@ fn provider_of<'t>(place: Place<'t>, underlay: &'t Value) -> Result<Option<&'t s
     }
 }
 
+/// The address at `public`, as older files have it; none where `bind` has another IP address for it.
+#[tactic(auto, unfolding(crate::specs::Interface::public_of))]
+fn public_of<'t>(place: Place<'t>, underlay: &'t Value) -> Result<Underlay, Refusal<'t>>
+    ensures { taken (λ address. address) result ≡ public_of (view underlay.now) }
+{
+    let bind = underlay.get("bind");
+    if bind.is_some() {
+        return Err(refused(
+            place,
+            "bind",
+            bind,
+            "`local`, with this address and the port",
+        ));
+    }
+    address_at(place, underlay, "public")
+}
+
 /// The address of this router's end: `local`, or `public` in older files.
 #[tactic(auto, unfolding(crate::specs::Interface::local_of))]
 fn local_of<'t>(place: Place<'t>, underlay: &'t Value) -> Result<Underlay, Refusal<'t>>
     ensures { taken (λ address. address) result ≡ local_of (view underlay.now) }
 {
     if underlay.get("local").is_none() && underlay.get("public").is_some() {
-        return address_at(place, underlay, "public");
+        return public_of(place, underlay);
     }
     address_at(place, underlay, "local")
 }
