@@ -9,3 +9,4 @@ pub mod PortRange
 pub mod Routers
 pub mod Servers
 pub mod Topology
+pub mod Example
