@@ -1,3 +1,4 @@
 pub mod Reasons
 pub mod Samples
 pub mod Families
+pub mod Example
