@@ -1,3 +1,4 @@
+pub mod Heads
 pub mod Heard
 pub mod Joined
 pub mod Paths

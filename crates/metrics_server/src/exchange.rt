@@ -1,8 +1,9 @@
 //! One request and its response, over any reader and writer.
 
-ghost use Rattle.std.specs.Prelude.{◌≡◌, ◌≤◌, ℕ, List, Option, IfSome, OnOk, length, take};
+ghost use Rattle.std.specs.Prelude.{◌≡◌, ◌<◌, ◌≤◌, ℕ, List, Option, IfSome, OnOk, length, take};
 ghost use Rattle.std.specs.Io.KnownBytes.{Consumes};
 ghost use Rattle.metrics_server.specs.Exchange.{Heard, Prepares, Tells};
+ghost use Rattle.metrics_server.specs.Request.{AsksWithin, most};
 
 use crate::page::Page;
 use crate::request::{Asked, request_of};
@@ -45,11 +46,11 @@ impl Room {
 }
 
 // Reads some bytes into a buffer, behind those that were read before. How many are there then; none
-// where the reader ends or fails, or has no room.
+// where the reader ends or fails.
 fn read_more<I: Read>(reader: &mut I, buffer: &mut [u8], len: usize) -> Option<usize>
-    requires { len ≤ length buffer.old }
+    requires { len < length buffer.old }
     ensures same { length buffer.new ≡ length buffer.old }
-    ensures within { IfSome result (λ more. more ≤ length buffer.new) }
+    ensures within { IfSome result (λ more. (len < more) × (more ≤ length buffer.new)) }
     ensures bytes { IfSome result (λ more. (input : Option (List ℕ)) → Consumes input (I.remaining reader.old) (take len buffer.old)
         → Consumes input (I.remaining reader.new) (take more buffer.new)) }
 {
@@ -59,24 +60,36 @@ fn read_more<I: Read>(reader: &mut I, buffer: &mut [u8], len: usize) -> Option<u
     }
 }
 
-// Reads until what came is a request, or none can come of it: where the reader ends or fails, or
-// gives more than the buffer holds.
+// What bytes ask for, of which there may be no more than 8,192.
+fn asked_within(bytes: &[u8]) -> Asked
+    requires { length bytes.now ≤ most }
+    ensures { AsksWithin bytes.now result }
+{
+    match request_of(bytes) {
+        Asked::Unfinished if bytes.len() == REQUEST_MOST => Asked::Unreadable,
+        asked => asked,
+    }
+}
+
+// Reads until what came is a request, or none of at most 8,192 bytes can come of it, or the reader
+// ends or fails.
 fn read_request<I: Read>(reader: &mut I, buffer: &mut [u8]) -> Asked
-    ensures heard { IfSome (I.remaining reader.old) (λ input. Heard (length buffer.old) input result) }
+    requires { length buffer.old ≡ most }
+    ensures heard { IfSome (I.remaining reader.old) (λ input. Heard input result) }
     ensures same { length buffer.new ≡ length buffer.old }
 {
     let mut len = 0;
-    for _ in 0..buffer.len() {
+    for _turn in 0..REQUEST_MOST {
         match read_more(reader, buffer, len) {
             Some(more) => len = more,
-            None => return Asked::Unreadable,
+            None => return Asked::Unfinished,
         }
-        let so_far = request_of(&buffer[..len]);
+        let so_far = asked_within(&buffer[..len]);
         if so_far != Asked::Unfinished {
             return so_far;
         }
     }
-    Asked::Unreadable
+    unreachable!()
 }
 
 // The response to what was asked for, in the room's response.
@@ -99,7 +112,7 @@ pub fn answer_one<I: Read, O: Write, P: Page>(
     page: &mut P,
     room: &mut Room,
 ) -> Option<Asked>
-    ensures heard { IfSome (I.remaining reader.old) (λ input. IfSome result (Heard 8192 input)) }
+    ensures heard { IfSome (I.remaining reader.old) (λ input. IfSome result (Heard input)) }
     ensures told { IfSome result (λ asked. Tells P.shows asked page.old page.new (O.contents writer.old) (O.contents writer.new)) }
 {
     let asked = read_request(reader, room.request.as_mut_slice());

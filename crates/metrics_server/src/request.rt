@@ -6,8 +6,9 @@ ghost use Rattle.metrics_server.specs.Request.{AskedBy, Asks, IsGet, IsPage};
 use httparse::Status;
 use httparse::spans::{EMPTY_HEADER_SPAN, parse_request};
 
-/// The most fields of a request's head.
-const FIELDS: usize = 64;
+/// More fields than a head of 8,192 bytes has, since a field takes three at least: a letter of its name, a
+/// colon and a line's end.
+const FIELDS: usize = 2730;
 
 /// What the bytes that came so far ask for.
 #[derive(Clone, Copy, PartialEq, Eq)]
@@ -20,7 +21,7 @@ pub enum Asked {
     OtherPath,
     /// The page, but not to get it.
     OtherMethod,
-    /// No request can come of them, or one with more than 64 fields.
+    /// No request can come of them, or one whose head is longer than 8,192 bytes.
     Unreadable,
 }
 

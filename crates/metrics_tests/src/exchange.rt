@@ -92,6 +92,20 @@ fn a_request_of_8192_bytes_is_the_longest(rt: HostRuntime) {
 }
 
 #[test]
+fn a_request_may_have_as_many_fields_as_8192_bytes_hold(rt: HostRuntime) {
+    let mut request = Vec::new(rt.alloc());
+    request
+        .extend_from_slice(b"GET /metrics HTTP/1.1\n")
+        .expect(&rt, "memory");
+    for _ in 0..2723 {
+        request.extend_from_slice(b"a:\n").expect(&rt, "memory");
+    }
+    request.extend_from_slice(b"\n").expect(&rt, "memory");
+    assert!(rt; request.len() == 8192);
+    assert!(rt; told(&rt, request.as_slice(), 4096).as_slice() == PAGE.as_bytes());
+}
+
+#[test]
 fn what_is_asked_for(rt: HostRuntime) {
     assert!(rt; request_of(b"GET /metrics HTTP/1.1\r\n\r\n") == Asked::Metrics);
     assert!(rt; request_of(b"GET /metric") == Asked::Unfinished);

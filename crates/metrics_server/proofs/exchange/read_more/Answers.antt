@@ -21,7 +21,7 @@ pub returns-in-Ok-clause-bytes : goal.returns-in-Ok-clause-bytes
 returns-in-Ok-clause-bytes g c = λ input before.
     let from = c.args.len in
     let room = length c.args.buffer.now - from in
-    let within = c.requires in
+    let within : from ≤ length c.args.buffer.now = omega (arith, c.requires) in
     let part = slice_range-put_mid from room c.in-Ok.count c.args.buffer.now c.read.new.buf within c.in-Ok.ensures.bound.0 in
     let joined = take_split from (from + c.in-Ok.count) c.args.buffer.now (put_mid from room c.args.buffer.now c.read.new.buf) (omega arith) (take-put_mid_below _ _ _ _ _ (le_refl _) within) in
     subst (Consumes _ _) (ap (λ l. take from c.args.buffer.now ++ l) (sym part) ∙ joined) (Consumes-trans _ _ _ _ _ before c.in-Ok.ensures.bytes.0)
