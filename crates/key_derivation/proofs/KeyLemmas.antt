@@ -1,5 +1,5 @@
 -- The steps of the loops, and a key of half a block.
-use Rattle.std.proofs.Common.{◌≡◌, ◌∙◌, ◌<◌, ◌+◌, ◌++◌, ℕ, List, add-one, ap, arith, codes, drop, get_or, length, map, refl, set, sym, take}
+use Rattle.std.proofs.Common.{◌≡◌, ◌<◌, ◌+◌, ◌++◌, ℕ, List, add-one, arith, codes, drop, get_or, length, map, refl, set, take}
 use Rattle.std.specs.Prelude.{bit_xor}
 use Rattle.std.specs.Int.{w32, to_be_bytes}
 use Rattle.std.proofs.lemmas.List.{get_or_default, length-append, length-drop, length-map, length-take}
