@@ -4,6 +4,8 @@ ghost use Rattle.std.specs.Prelude.{◌≡◌, ◌+◌, ◌-◌, ◌^◌, ◌<�
 ghost use Rattle.worker_laws.specs.Forwards.{AddsTo};
 ghost use Rattle.worker_parts.specs.Heard.{failures_of, fits, heard};
 ghost use Rattle.worker_parts.specs.Buffer.{buffer_len};
+ghost use Rattle.udp_devices.specs.Address.{underlay_of};
+ghost use Rattle.udp_devices.specs.Arrival.{Arrives, GoesOn};
 
 use crate::address::underlay_of;
 use crate::readiness::wait_for_datagram;
@@ -49,10 +51,12 @@ fn now_of<R: Clock>(clock: &R) -> Option<u64> {
     Some(since.as_secs())
 }
 
-/// The datagram of this length that was read now, with its source.
+/// The datagram of this length that was read now, with its source; a failure where the clock can't
+/// be read.
 fn arrived<R: Clock>(clock: &R, len: usize, from: SocketAddr) -> NextLen
     requires { len < 9218 }
-    ensures { fits result }
+    ensures fits { fits result }
+    ensures arrives { Arrives len (underlay_of from) result }
 {
     match now_of(clock) {
         Some(now) => NextLen::Datagram {
@@ -69,6 +73,7 @@ fn read_one<R: Clock>(clock: &R, socket: &UdpSocket, buffer: &mut [u8]) -> NextL
     requires { length buffer.old ≡ buffer_len }
     ensures same { length buffer.new ≡ length buffer.old }
     ensures fits { fits result }
+    ensures goes_on { GoesOn result }
 {
     match socket.recv_from(buffer) {
         Ok((len, from)) => arrived(clock, len, from),
@@ -115,7 +120,16 @@ impl<R: Clock + Drop> Source for UdpSource<R> {
 
     ghost waits = { λ s said. Unit {0} };
 
-    fn next_into(&mut self, buffer: &mut [u8]) -> NextLen {
+    fn next_into(&mut self, buffer: &mut [u8]) -> NextLen
+        requires failures { self.old.failed < 2 ^ 64 - 1 }
+        requires room { length buffer.old ≡ buffer_len }
+        ensures same { length buffer.new ≡ length buffer.old }
+        ensures fits { fits result }
+        ensures failed { self.new.failed ≡ self.old.failed + failures_of result }
+        ensures told { AddsTo None (heard buffer.new result) None }
+        ensures device { self.new.local ≡ self.old.local }
+        ensures goes_on { GoesOn result }
+    {
         let answer = read_one(&self.clock, &self.socket, buffer);
         if answer == NextLen::Failed {
             self.failed += 1;
