@@ -1,1 +1,2 @@
 pub mod CountsPage
+pub mod Becoming

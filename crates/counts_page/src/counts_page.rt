@@ -124,8 +124,15 @@ impl<N: RunBrand, R: Wait + Drop> CountsPage<N, R> {
 
 impl<N: RunBrand, R: Wait + Drop> Page for CountsPage<N, R> {
     ghost use Rattle.counts_page.specs.CountsPage.{Shows};
+    ghost use Rattle.counts_page.specs.Becoming.{Becomes, becomes_self, becomes_then};
 
     ghost shows = { λ old page new. Shows old page new };
+
+    ghost becomes = { λ old new. Becomes old new };
+
+    ghost becomes_self = { λ x. becomes_self x };
+
+    ghost becomes_then = { λ x y z p q. becomes_then x y z p q };
 
     fn push(&mut self, text: &mut Vec<u8>) -> Result<(), AllocError> {
         self.book.look(&self.rt, &mut self.look);

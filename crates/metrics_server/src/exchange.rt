@@ -94,7 +94,8 @@ fn read_request<I: Read>(reader: &mut I, buffer: &mut [u8]) -> Asked
 
 // The response to what was asked for, in the room's response.
 fn prepare<P: Page>(asked: Asked, page: &mut P, room: &mut Room) -> Result<(), AllocError>
-    ensures { OnOk result (Prepares P.shows asked page.old page.new room.new) }
+    ensures prepares { OnOk result (Prepares P.shows asked page.old page.new room.new) }
+    ensures becomes { P.becomes page.old page.new }
 {
     room.page.clear();
     room.response.clear();
@@ -114,6 +115,7 @@ pub fn answer_one<I: Read, O: Write, P: Page>(
 ) -> Option<Asked>
     ensures heard { IfSome (I.remaining reader.old) (λ input. IfSome result (Heard input)) }
     ensures told { IfSome result (λ asked. Tells P.shows asked page.old page.new (O.contents writer.old) (O.contents writer.new)) }
+    ensures becomes { P.becomes page.old page.new }
 {
     let asked = read_request(reader, room.request.as_mut_slice());
     prepare(asked, page, room).ok()?;

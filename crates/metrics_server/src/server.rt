@@ -20,7 +20,9 @@ fn serve_one<P: Page, R: Clock>(
     stop: &AtomicU64,
     page: &mut P,
     room: &mut Room,
-) {
+)
+    ensures { P.becomes page.old page.new }
+{
     if let Ok(connection) = Connection::of(rt, stream, stop) {
         let mut reader = End(&connection);
         let mut writer = End(&connection);
@@ -40,7 +42,9 @@ fn serve_next<P: Page, R: Clock>(
     stop: &AtomicU64,
     page: &mut P,
     room: &mut Room,
-) {
+)
+    ensures { P.becomes page.old page.new }
+{
     match listener.accept() {
         Ok((stream, _)) => serve_one(rt, stream, stop, page, room),
         Err(_) => rest(rt),
@@ -48,14 +52,16 @@ fn serve_next<P: Page, R: Clock>(
 }
 
 /// Serves the page to each who asks, one after the other, until the word isn't 0 any more. Then it
-/// gives the page back.
+/// gives the page back, as it became.
 pub fn serve<P: Page, R: Wait + Clock>(
     rt: &R,
     listener: &TcpListener,
     stop: &AtomicU64,
     page: P,
     room: Room,
-) -> P {
+) -> P
+    ensures { P.becomes page result }
+{
     let mut page = page;
     let mut room = room;
     for _ in rt.forever() {
