@@ -1,6 +1,9 @@
 //! Which links were closed.
 
+ghost use Rattle.std.specs.Prelude.{◌≡◌, ◌≤◌, IfOk, false, length};
+
 use std::alloc::{AllocError, Global};
+use std::marker::Model;
 use std::sync::atomic::{AtomicU64, Ordering};
 
 // A link's interface, and 1 once it was closed.
@@ -10,15 +13,25 @@ struct Link {
     closed: AtomicU64,
 }
 
-/// Which links were closed, in ascending order of their interfaces.
+/// Which links were closed, in ascending order of their interfaces. Contracts see these.
 #[derive(Drop)]
 pub struct Closings {
     links: Vec<Link>,
 }
 
+impl Model for Closings {
+    ghost use Rattle.std.specs.Prelude.{ℕ, List, map};
+
+    ghost Value = { List ℕ };
+
+    ghost view = { λ closings. map (λ link. link.interface) closings.links.items };
+}
+
 impl Closings {
     /// Links with these interfaces, none of them closed. At `Err` no memory was left.
-    pub fn new(alloc: Global, interfaces: &[u16]) -> Result<Closings, AllocError> {
+    pub fn new(alloc: Global, interfaces: &[u16]) -> Result<Closings, AllocError>
+        ensures { IfOk result (λ closings. closings ≡ interfaces.now) }
+    {
         let mut links = Vec::with_capacity(alloc, interfaces.len())?;
         for interface in interfaces {
             links.push(Link {
@@ -38,8 +51,10 @@ impl Closings {
         }
     }
 
-    /// Whether the link at a place was closed.
-    pub fn is_closed(&self, place: usize) -> bool {
+    /// Whether the link at a place was closed; false where there is none.
+    pub fn is_closed(&self, place: usize) -> bool
+        ensures { length self.now ≤ place → result ≡ false }
+    {
         match self.links.get(place) {
             Some(link) => link.closed.load(Ordering::SeqCst) != 0,
             None => false,

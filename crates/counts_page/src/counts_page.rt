@@ -1,6 +1,7 @@
 //! The page.
 
 ghost use Rattle.std.specs.Prelude.{◌≡◌, ◌+◌, ◌-◌, ◌<◌, ◌≤◌, ℕ, List, IfOk, length, map};
+ghost use Rattle.std.specs.Arc.{arc_value};
 ghost use Rattle.counts_page.specs.CountsPage.{AreCounts, IsCountOf};
 
 use crate::closings::Closings;
@@ -70,8 +71,8 @@ fn tally<N: RunBrand>(links: &mut [LinkCounts], look: &Look<N>, closings: &Closi
 }
 
 impl<N: RunBrand, R: Wait + Drop> CountsPage<N, R> {
-    /// The page of a book, for links with these interfaces, of which there are no more than shares.
-    /// At `Err` no memory was left.
+    /// The page of a book, for links with these interfaces, of which there are no more than shares,
+    /// and for closings of the same links. At `Err` no memory was left.
     pub fn new(
         rt: R,
         alloc: Global,
@@ -81,7 +82,8 @@ impl<N: RunBrand, R: Wait + Drop> CountsPage<N, R> {
         version: &'static str,
         start: u64,
     ) -> Result<CountsPage<N, R>, AllocError>
-        requires { length interfaces.now ≤ N.workers }
+        requires shares { length interfaces.now ≤ N.workers }
+        requires closings { arc_value closings ≡ interfaces.now }
         ensures { IfOk result (λ p. (map (λ l. l.interface) p.links ≡ interfaces.now) × (p.version ≡ version.now) × (p.start ≡ start)) }
     {
         let look = book.watch(&rt, alloc)?;
