@@ -1,3 +1,4 @@
 pub mod Pieces
 pub mod Address
 pub mod Shown
+pub mod Example
