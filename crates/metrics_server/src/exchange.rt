@@ -1,6 +1,6 @@
 //! One request and its response, over any reader and writer.
 
-ghost use Rattle.std.specs.Prelude.{◌≡◌, ◌<◌, ◌≤◌, ℕ, List, Option, IfSome, OnOk, length, take};
+ghost use Rattle.std.specs.Prelude.{◌≡◌, ◌<◌, ◌≤◌, ℕ, List, [], Option, IfOk, IfSome, OnOk, length, take};
 ghost use Rattle.std.specs.Io.KnownBytes.{Consumes};
 ghost use Rattle.metrics_server.specs.Exchange.{Heard, Prepares, Tells};
 ghost use Rattle.metrics_server.specs.Request.{AsksWithin, most};
@@ -35,8 +35,10 @@ impl Model for Room {
 }
 
 impl Room {
-    /// Room for a request of 8,192 bytes. At `Err` no memory was left.
-    pub fn new(alloc: Global) -> Result<Room, AllocError> {
+    /// Room for a request of 8,192 bytes, with no response in it. At `Err` no memory was left.
+    pub fn new(alloc: Global) -> Result<Room, AllocError>
+        ensures { IfOk result (λ room. room ≡ []) }
+    {
         Ok(Room {
             request: vec![in alloc; 0; REQUEST_MOST]?,
             page: Vec::new(alloc),
