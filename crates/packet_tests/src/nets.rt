@@ -1,7 +1,8 @@
 //! Nets that agree, and nets that don't for one clause alone.
 
 use crate::wires::{end, wire};
-use net_laws::{End, Net, Wire, agrees};
+use net_check::{is_wired, net_of_configs, open_words, words_of};
+use net_laws::{End, Net, Wire, agrees, misfit_of};
 use router_config::read_config;
 use std::process::Abort;
 
@@ -299,4 +300,88 @@ fn a_link_is_on_one_wire(rt: HostRuntime) {
         wires: Vec::new(rt.alloc()),
     };
     assert!(rt; agrees(&empty));
+}
+
+/// The net that the configurations make by themselves.
+fn made(rt: &(impl AllocGlobal + Abort), changes: [Change; 2]) -> Net {
+    let Net { configs, .. } = net(rt, changes, &[]);
+    net_of_configs(rt.alloc(), configs).expect(rt, "net")
+}
+
+#[test]
+fn configurations_make_a_net(rt: HostRuntime) {
+    let net = made(&rt, [NONE, NONE]);
+    assert!(rt; misfit_of(&net).is_none());
+    assert!(rt; net.configs.len() == 3 && net.wires.len() == 1);
+    assert!(rt; is_wired(&net, &end(0, 1)) && is_wired(&net, &end(2, 17)));
+    assert!(rt; !is_wired(&net, &end(1, 2)));
+    let link = net.configs[1].links[0];
+    let words = open_words(rt.alloc(), "b", &link).expect(&rt, "words");
+    assert!(rt;
+        words.as_str() == "link 2 in b leads to 10.3.0.2:40000, which is in none of these files"
+    );
+}
+
+/// Changes of the net, and what it says of the first thing that doesn't fit then.
+const MISFITS: [(&str, [Change; 2]); 3] = [
+    (
+        "`key` of a is not that of b; both are of 1-ff00:0:110",
+        [
+            (1, KEY, "key = \"2b7e151628aed2a6abf7158809cf4f3d\"\n"),
+            NONE,
+        ],
+    ),
+    (
+        "`kind` of link 1 in a is \"core\", and that of its other end, link 17 in c, is \"parent\"; wanted there: \"core\"",
+        [
+            (
+                0,
+                LINK,
+                "link = [{id=1, kind=\"core\", local=\"10.1.0.1:40000\", remote=\"10.1.0.2:40000\"}]\n",
+            ),
+            (
+                1,
+                SIBLING,
+                "sibling = [{id=1, kind=\"core\", at=\"10.0.0.1:30000\"}]\n",
+            ),
+        ],
+    ),
+    (
+        "`local` is 10.1.0.1:40000 of link 1 in a and of link 2 in b: link 17 in c has two other ends",
+        [
+            (
+                1,
+                LINK,
+                "link = [{id=2, kind=\"child\", local=\"10.1.0.1:40000\", remote=\"10.1.0.2:40000\"}]\n",
+            ),
+            (
+                0,
+                SIBLING,
+                "sibling = [{id=2, kind=\"child\", at=\"10.0.0.2:30000\"}]\n",
+            ),
+        ],
+    ),
+];
+
+/// What `words_of` tells of the first misfit of a net of the files `a`, `b` and `c`.
+fn tells(rt: &(impl AllocGlobal + Abort), net: &Net, wanted: &str) -> bool {
+    let mut names = Vec::new(rt.alloc());
+    for name in ["a", "b", "c"] {
+        let name = String::from_str(rt.alloc(), name).expect(rt, "name");
+        names.push(name).expect(rt, "names");
+    }
+    match misfit_of(net) {
+        Some(misfit) => {
+            let words = words_of(rt.alloc(), net, names.as_slice(), misfit).expect(rt, "words");
+            words.as_str() == wanted
+        }
+        None => false,
+    }
+}
+
+#[test]
+fn misfits_are_told(rt: HostRuntime) {
+    for (words, changes) in MISFITS {
+        assert!(&rt; tells(&rt, &made(&rt, changes), words), "{words}");
+    }
 }
