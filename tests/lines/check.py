@@ -263,14 +263,37 @@ def try_import_files(trial):
     for before in (None, 0o644, 0o400):
         if before:
             os.chmod(path, before)
-            # what a run that was cut off may leave
-            put(trial, "o.part", b"another text")
         trial.compare("import --out", writes(b""), [*IMPORT, "--port-range", "--out", "o"], None)
         with open(path, encoding="utf-8") as file:
             trial.count("what --out wrote", file.read() == config)
         trial.count("the mode of --out", os.stat(path).st_mode & 0o777 == 0o600, oct(os.stat(path).st_mode))
     beside = [name for name in os.listdir(trial.folder) if name.startswith("o")]
     trial.count("files beside --out", beside == ["o"], beside)
+
+
+def try_part_files(trial):
+    """What has the name of a file of --out that isn't whole yet stays, and nothing is written."""
+    put(trial, "t", example("topology.json").encode())
+    put(trial, "master0.key", example("keys/master0.key").encode())
+    path = os.path.join(trial.folder, "p.part")
+    makers = {
+        "a file": lambda: put(trial, "p.part", b"another text"),
+        "a link to a file": lambda: os.symlink("p", path),
+        "a link to nothing": lambda: os.symlink("nothing", path),
+    }
+    for what, make in makers.items():
+        put(trial, "p", b"an old text")
+        make()
+        before = os.lstat(path)
+        wanted = faults(b'out: "p.part" already exists')
+        trial.compare(f"--out beside {what}", wanted, [*IMPORT, "--port-range", "--out", "p"], None)
+        trial.count(f"{what} stays", os.lstat(path) == before, os.lstat(path))
+        names = sorted(name for name in os.listdir(trial.folder) if name.startswith(("p", "nothing")))
+        trial.count(f"files beside {what}", names == ["p", "p.part"], names)
+        with open(os.path.join(trial.folder, "p"), "rb") as file:
+            trial.count("what was at --out", file.read() == b"an old text")
+        os.remove(path)
+    os.remove(os.path.join(trial.folder, "p"))
 
 
 def try_master_keys(trial):
@@ -709,6 +732,7 @@ def main():
         try_nets(trial)
         try_imports(trial)
         try_import_files(trial)
+        try_part_files(trial)
         try_master_keys(trial)
         try_malicious_imports(trial)
         try_datagrams(trial)

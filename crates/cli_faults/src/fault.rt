@@ -63,6 +63,9 @@ pub enum Fault {
     /// Where an import is to write its configuration there is something else than a regular file.
     #[error("out: it is there, and no regular file")]
     Special,
+    /// There is something already by this name, under which an import is to begin its file.
+    #[error("out: {0:?} already exists")]
+    Exists(String),
     /// The configuration has no such link.
     #[error("link")]
     Link,
@@ -111,6 +114,19 @@ impl Fault {
         match error.kind() {
             io::ErrorKind::OutOfMemory => Fault::Memory,
             _ => Fault::Import(file, error),
+        }
+    }
+
+    /// What an error in making an import's new file of this name means.
+    pub fn of_new(name: String, error: io::Error) -> Fault
+        ensures memory { error_kind error ≡ kind.OutOfMemory → result ≡ fault.Memory }
+        ensures exists { error_kind error ≡ kind.AlreadyExists → result ≡ fault.Exists name }
+        ensures out { error_kind error ≢ kind.OutOfMemory → error_kind error ≢ kind.AlreadyExists → result ≡ fault.Import ImportFile.Out error }
+    {
+        match error.kind() {
+            io::ErrorKind::OutOfMemory => Fault::Memory,
+            io::ErrorKind::AlreadyExists => Fault::Exists(name),
+            _ => Fault::Import(ImportFile::Out, error),
         }
     }
 
