@@ -1,6 +1,7 @@
 //! What will hurt, in lines on standard error.
 
-ghost use Rattle.std.specs.Prelude.{◌≡◌, ℕ, IfOk, [], false};
+ghost use Rattle.std.specs.Prelude.{◌≡◌, ℕ, IfErr, IfOk, [], false};
+ghost use Rattle.cli_faults.specs.declared.fault.Fault.TheVariants.{Memory};
 ghost use Rattle.config_warnings.specs.Warnings.{warnings_of};
 
 use cli_faults::Fault;
@@ -19,7 +20,8 @@ fn cores_of<R: Threads>(rt: &R) -> usize {
 
 /// Tells of the values that will hurt. Whether there are any.
 fn tell_values<R: Eprint + AllocGlobal + Threads>(rt: &R, config: &Config) -> Result<bool, Fault>
-    ensures { IfOk result (λ is_told. is_told ≡ false → (cores : ℕ) × (warnings_of config.now cores ≡ [])) }
+    ensures told { IfOk result (λ is_told. is_told ≡ false → (cores : ℕ) × (warnings_of config.now cores ≡ [])) }
+    ensures fault { IfErr result (λ fault. fault ≡ Memory) }
 {
     let Ok(list) = warnings_of(rt.alloc(), config, cores_of(rt)) else {
         return Err(Fault::Memory);
@@ -31,7 +33,9 @@ fn tell_values<R: Eprint + AllocGlobal + Threads>(rt: &R, config: &Config) -> Re
 }
 
 /// Tells of the keys that aren't read. Whether there are any.
-fn tell_keys<R: Eprint + AllocGlobal>(rt: &R, text: &str) -> Result<bool, Fault> {
+fn tell_keys<R: Eprint + AllocGlobal>(rt: &R, text: &str) -> Result<bool, Fault>
+    ensures { IfErr result (λ fault. fault ≡ Memory) }
+{
     let Ok(table) = toml::table_from_str(rt.alloc(), text) else {
         return Err(Fault::Memory);
     };
@@ -50,7 +54,8 @@ pub fn tell_warnings<R: Eprint + AllocGlobal + Threads>(
     config: &Config,
     text: &str,
 ) -> Result<bool, Fault>
-    ensures { IfOk result (λ is_told. is_told ≡ false → (cores : ℕ) × (warnings_of config.now cores ≡ [])) }
+    ensures told { IfOk result (λ is_told. is_told ≡ false → (cores : ℕ) × (warnings_of config.now cores ≡ [])) }
+    ensures fault { IfErr result (λ fault. fault ≡ Memory) }
 {
     let is_key = tell_keys(rt, text)?;
     let is_value = tell_values(rt, config)?;

@@ -1,2 +1,4 @@
+mod FaultLemmas
+mod ImportLemmas
 mod KeyLemmas
 mod ListLemmas

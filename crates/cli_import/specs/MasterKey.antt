@@ -1,13 +1,13 @@
 -- The forwarding key of an AS, by the text of its master key.
-use Rattle.std.specs.Prelude.{◌≡◌, ◌⊎◌, ℕ, ◌-◌, List, [], ◌∷◌, Option, Some, None, Result, Ok, Err, drop, length, take}
+use Rattle.std.specs.Prelude.{◌≡◌, ℕ, ◌-◌, List, [], ◌∷◌, Option, Some, None, Result, Ok, Err, drop, length, take}
 use Rattle.std.specs.Char.{is_ascii_whitespace}
 use Rattle.std.specs.List.{prefix_len, suffix_len}
 use Rattle.base64.specs.Engines.{standard}
 use Rattle.base64.specs.GeneralPurpose.{decode_of}
 use Rattle.cli_faults.specs.declared.fault.Fault.{Fault}
-use Rattle.cli_faults.specs.declared.fault.Fault.TheVariants as fault
 use Rattle.key_derivation.specs.Pbkdf2.{forwarding_key}
 use Rattle.text_values.specs.Pieces.{◌>>=◌}
+use Rattle.cli_import.specs.Faults.{IsOfKey}
 
 -- a text without the blanks at its beginning, and at its end
 abbrev pub without_first : List ℕ → List ℕ
@@ -36,7 +36,7 @@ derived (byte ∷ bytes) = Some (forwarding_key (byte ∷ bytes))
 abbrev pub key_of : List ℕ → Option (List ℕ)
 key_of text = master_of text >>= derived
 
--- The answer is this key, and a fault where there is none; want of memory says nothing.
+-- The answer is this key, and the master key's fault where there is none; want of memory says nothing.
 abbrev pub GivesKey : Result (List ℕ) Fault → Option (List ℕ) → Type 0
 GivesKey (Ok key) wanted = wanted ≡ Some key
-GivesKey (Err e) wanted = (e ≡ fault.Memory) ⊎ (wanted ≡ None)
+GivesKey (Err told) wanted = IsOfKey (wanted ≡ None) told

@@ -1,10 +1,11 @@
 //! From the texts of the files to the configuration, with what is told on the way.
 
-ghost use Rattle.std.specs.Prelude.{◌≡◌, ◌&&◌, ◌||◌, ◌⊎◌, IfErr, IfOk, Some, None, Ok, Err, true, false, []};
+ghost use Rattle.std.specs.Prelude.{◌≡◌, ◌&&◌, ◌||◌, IfErr, IfOk, Some, None, Ok, Err, true, false, [], ⊤};
 ghost use Rattle.serde_json.specs.Read.{read};
 ghost use Rattle.serde_json.specs.View.{view};
 ghost use Rattle.cli_faults.specs.declared.fault.Fault.TheVariants as fault;
-ghost use Rattle.cli_import.specs.Import.{IsMadeOf};
+ghost use Rattle.cli_import.specs.Faults.{IsOfTopology};
+ghost use Rattle.cli_import.specs.Import.{IsMadeOf, NotMade};
 
 use crate::imported::{Imported, import_topology};
 use crate::made::Made;
@@ -18,7 +19,9 @@ use std::thread::Threads;
 use topology::LeftOut;
 
 /// The fault of a text that isn't JSON.
-fn not_json(alloc: Global, error: &serde_json::Error) -> Fault {
+fn not_json(alloc: Global, error: &serde_json::Error) -> Fault
+    ensures { IsOfTopology ⊤ result }
+{
     match format!(in alloc; "not JSON: {error}") {
         Ok(words) => Fault::Topology(words),
         Err(_) => Fault::Memory,
@@ -28,7 +31,7 @@ fn not_json(alloc: Global, error: &serde_json::Error) -> Fault {
 /// The JSON value that a text is.
 fn value_of(alloc: Global, text: &str) -> Result<Value, Fault>
     ensures read { IfOk result (λ value. read text.now ≡ Some (view value)) }
-    ensures fault { IfErr result (λ it. (it ≡ fault.Memory) ⊎ (read text.now ≡ None)) }
+    ensures fault { IfErr result (λ told. IsOfTopology (read text.now ≡ None) told) }
 {
     match Value::from_str(alloc, text) {
         Ok(value) => Ok(value),
@@ -52,6 +55,7 @@ fn verdict_of(is_left_out: bool, is_warned: bool, strict: bool) -> Result<(), Fa
     ensures warned { ((is_left_out || is_warned) && strict) ≡ true → result ≡ Err fault.Warned }
     ensures good { ((is_left_out || is_warned) && strict) ≡ false → result ≡ Ok tt }
     ensures silent { IfOk result (λ _. strict ≡ true → (is_left_out ≡ false) × (is_warned ≡ false)) }
+    ensures strict { IfErr result (λ told. (told ≡ fault.Warned) × (strict ≡ true)) }
 {
     if (is_left_out || is_warned) && strict {
         Err(Fault::Warned)
@@ -71,8 +75,8 @@ pub(crate) fn configure<R>(
 ) -> Result<Made, Fault>
 where
     R: Eprint + AllocGlobal + Threads,
-    ensures { IfOk result (λ made. IsMadeOf topology.now master_key.now words.now.border_router.now
-        words.now.port_range words.now.strict made) }
+    ensures made { IfOk result (λ made. IsMadeOf topology.now master_key.now words.now made) }
+    ensures fault { IfErr result (λ told. NotMade topology.now master_key.now words.now told) }
 {
     let alloc = rt.alloc();
     let key = key_of(alloc, master_key)?;

@@ -1,9 +1,10 @@
 //! What comes of a topology.
 
-ghost use Rattle.std.specs.Prelude.{◌≡◌, ◌⊎◌, IfErr, IfOk, Some, None, map};
+ghost use Rattle.std.specs.Prelude.{◌≡◌, IfErr, IfOk, Some, None, map, ⊤};
 ghost use Rattle.serde_json.specs.View.{view};
 ghost use Rattle.cli_faults.specs.declared.fault.Fault.TheVariants.{Memory};
-ghost use Rattle.cli_import.specs.Import.{IsImportOf, left_of, ports_if};
+ghost use Rattle.cli_import.specs.Faults.{IsOfTopology};
+ghost use Rattle.cli_import.specs.Import.{IsImportOf, NoImportOf, left_of, ports_if};
 ghost use Rattle.topology.specs.LeftOut.{left};
 ghost use Rattle.topology.specs.Topology.{topology_of, topology_values};
 
@@ -22,7 +23,9 @@ pub(crate) struct Imported<'t> {
 }
 
 /// The fault of a topology that says nothing to a router.
-fn fault_of_refusal(alloc: Global, refusal: &Refusal<'_>) -> Fault {
+fn fault_of_refusal(alloc: Global, refusal: &Refusal<'_>) -> Fault
+    ensures { IsOfTopology ⊤ result }
+{
     match format!(in alloc; "{refusal}") {
         Ok(words) => Fault::Topology(words),
         Err(_) => Fault::Memory,
@@ -32,7 +35,7 @@ fn fault_of_refusal(alloc: Global, refusal: &Refusal<'_>) -> Fault {
 /// What a topology says to a router. The fault of one that says nothing to it has its words.
 fn topology_for<'t>(alloc: Global, value: &'t Value, router: &'t str) -> Result<Topology<'t>, Fault>
     ensures said { IfOk result (λ topology. topology_of router.now (view value.now) ≡ Some (topology_values topology)) }
-    ensures fault { IfErr result (λ fault. (fault ≡ Memory) ⊎ (topology_of router.now (view value.now) ≡ None)) }
+    ensures fault { IfErr result (λ told. IsOfTopology (topology_of router.now (view value.now) ≡ None) told) }
 {
     match read_topology(alloc, value, router) {
         Ok(topology) => Ok(topology),
@@ -50,7 +53,8 @@ fn ports_of(topology: &Topology<'_>, port_range: bool) -> Option<PortRange>
 
 /// What of a topology isn't carried over.
 fn left_out_of(topology: Topology<'_>, port_range: bool) -> Result<Vec<LeftOut<'_>>, Fault>
-    ensures { IfOk result (λ list. map left list.items ≡ left_of (topology_values topology.entry) port_range) }
+    ensures left { IfOk result (λ list. map left list.items ≡ left_of (topology_values topology.entry) port_range) }
+    ensures fault { IfErr result (λ told. told ≡ Memory) }
 {
     let Topology { ports, lists, .. } = topology;
     let mut list = lists.left_out;
@@ -70,7 +74,8 @@ pub(crate) fn import_topology<'t>(
     key: &[u8; 16],
     port_range: bool,
 ) -> Result<Imported<'t>, Fault>
-    ensures { IfOk result (λ it. IsImportOf (view value.now) router.now key.now port_range it) }
+    ensures made { IfOk result (λ it. IsImportOf (view value.now) router.now key.now port_range it) }
+    ensures fault { IfErr result (λ told. NoImportOf (view value.now) router.now key.now port_range told) }
 {
     let topology = topology_for(alloc, value, router)?;
     let ports = ports_of(&topology, port_range);

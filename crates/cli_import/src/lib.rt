@@ -8,4 +8,4 @@ mod made;
 mod master_key;
 mod out;
 
-pub use import::import_config;
+pub use import::{import_config, import_texts};

@@ -1,10 +1,10 @@
 //! The configuration that is made.
 
-ghost use Rattle.std.specs.Prelude.{◌≡◌, IfOk, string_bytes};
+ghost use Rattle.std.specs.Prelude.{◌≡◌, IfErr, IfOk, string_bytes};
 ghost use Rattle.hex.specs.Hex.{encode_lower};
 ghost use Rattle.config_text.specs.Text.{config_text};
 ghost use Rattle.topology.specs.Topology.{topology_values};
-ghost use Rattle.cli_import.specs.Import.{IsRead};
+ghost use Rattle.cli_import.specs.Import.{IsNoText, IsRead, IsRefused};
 
 use cli_check::config_of;
 use cli_faults::Fault;
@@ -28,7 +28,8 @@ fn text_of(
     key: &[u8; 16],
     ports: Option<PortRange>,
 ) -> Result<String, Fault>
-    ensures { IfOk result (λ text. string_bytes text ≡ config_text (topology_values topology.now) (encode_lower key.now) ports) }
+    ensures text { IfOk result (λ text. string_bytes text ≡ config_text (topology_values topology.now) (encode_lower key.now) ports) }
+    ensures fault { IfErr result (λ told. IsNoText (config_text (topology_values topology.now) (encode_lower key.now) ports) told) }
 {
     let Ok(digits) = hex::encode(alloc, key) else {
         return Err(Fault::Memory);
@@ -51,7 +52,8 @@ pub(crate) fn made_of(
     key: &[u8; 16],
     ports: Option<PortRange>,
 ) -> Result<Made, Fault>
-    ensures { IfOk result (λ made. IsRead (config_text (topology_values topology.now) (encode_lower key.now) ports) made) }
+    ensures made { IfOk result (λ made. IsRead (config_text (topology_values topology.now) (encode_lower key.now) ports) made) }
+    ensures fault { IfErr result (λ told. IsRefused (config_text (topology_values topology.now) (encode_lower key.now) ports) told) }
 {
     let text = text_of(alloc, topology, key, ports)?;
     let config = config_of(alloc, text.as_str())?;
