@@ -47,6 +47,32 @@ fn added_each(xs: &[u128; CAUSES], ys: &[u128; CAUSES]) -> [u128; CAUSES]
     sums
 }
 
+/// Sets each count that differs. The others aren't written, so that they stay in the caches of other cores.
+pub fn update(counts: &mut Totals, to: &Totals)
+    ensures { counts.new ≡ to.now }
+{
+    if counts.received != to.received {
+        counts.received = to.received;
+    }
+    if counts.sent != to.sent {
+        counts.sent = to.sent;
+    }
+    if counts.answered != to.answered {
+        counts.answered = to.answered;
+    }
+    update_each(&mut counts.dropped, &to.dropped);
+}
+
+fn update_each(counts: &mut [u128; CAUSES], to: &[u128; CAUSES])
+    ensures { counts.new ≡ to.now }
+{
+    for i in 0..CAUSES {
+        if counts[i] != to[i] {
+            counts[i] = to[i];
+        }
+    }
+}
+
 /// Whether no count is above `most`.
 pub fn at_most(counts: &Totals, most: u128) -> bool
     ensures { MatchBool result (AtMost most counts.now) (AtMost most counts.now → ⊥) }

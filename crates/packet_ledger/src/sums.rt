@@ -8,7 +8,7 @@ ghost use Rattle.packet_ledger.specs.Shown.{AddUp, HasBooked, HasGrown, IsUpTo, 
 ghost use Rattle.packet_ledger.specs.Tokens.{gathered, keeper, unlooked};
 ghost use Rattle.packet_ledger.specs.Share.{MayPost, counts_of, emptied, new_share, posted_by};
 
-use crate::amounts::{MOST, added, at_most, none};
+use crate::amounts::{MOST, added, at_most, none, update};
 use crate::look::Look;
 use crate::run_brand::RunBrand;
 use crate::share::{ALL_LEFT, Share};
@@ -135,7 +135,7 @@ impl<N: RunBrand> Sums<N> {
         share.posted = posted;
         share.counts = none();
         share.left = ALL_LEFT;
-        self.totals = sums;
+        update(&mut self.totals, &sums);
         true
     }
 

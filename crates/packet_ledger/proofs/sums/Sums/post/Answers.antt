@@ -39,7 +39,7 @@ returns-clause-sums g c =
     let place : c.share.inside.place < length c.self.inside.inputs.items = let within = c.share.invariant.6 in let each = c.self.invariant.5 in omega arith in
     books (record { totals = c.self.inside.totals; inputs = c.self.inside.inputs.items; outputs = c.self.inside.outputs.items }) c.args.self.now
     (record { counts = c.share.inside.counts; posted = c.share.inside.posted }) c.args.share.now
-    c.added-sums.result c.raise.new.row.items c.raise-2.new.row.items c.share.inside.place c.self.view_is c.share.view_is place c.added-sums.ensures c.raise.ensures.row c.raise-2.ensures.row
+    c.update.new.counts c.raise.new.row.items c.raise-2.new.row.items c.share.inside.place c.self.view_is c.share.view_is place (c.update.ensures ∙ c.added-sums.ensures) c.raise.ensures.row c.raise-2.ensures.row
 
 pub invariant_of-self : goal.invariant_of-self
 invariant_of-self g c =
@@ -55,10 +55,10 @@ invariant_of-self g c =
     let given = c.give.ensures.kept.1 ∙ (λ i. kept 1 c.share.inside.counts (rows_of (c.as_slice-3.ensures.value i) (c.as_slice-4.ensures.value i)) (cell_view c.audit.new.keeper)) in
     let moved = posts g.N.RunBrand.workers totals posted c.share.inside.counts rows next _ _ _ c.self.invariant.3 (c.audit.ensures.known.0 ∙ all) given c.give.ensures.given.2 in (
       c.give.ensures.kept.0 ∙ c.audit.ensures.own ∙ c.take_in.ensures.0 ∙ c.give-spare.ensures.kept.0 ∙ c.self.invariant.0,
-      moved.0 ∙ (λ i. keeper (65537 - g.N.RunBrand.workers) nothing (sym c.added-sums.ensures i) next),
-      booked_most _ totals posted c.share.inside.counts c.added-sums.result rows _ all c.audit.ensures.known.1 c.share.invariant.3 c.added-sums.ensures,
+      moved.0 ∙ (λ i. keeper (65537 - g.N.RunBrand.workers) nothing (sym (c.update.ensures ∙ c.added-sums.ensures) i) next),
+      booked_most _ totals posted c.share.inside.counts c.update.new.counts rows _ all c.audit.ensures.known.1 c.share.invariant.3 (c.update.ensures ∙ c.added-sums.ensures),
       c.self.invariant.3,
-      adds_up totals c.share.inside.counts c.added-sums.result c.self.inside.inputs.items c.self.inside.outputs.items c.raise.new.row.items c.raise-2.new.row.items c.self.invariant.4 c.added-sums.ensures c.raise.ensures.sum c.raise-2.ensures.sum,
+      adds_up totals c.share.inside.counts c.update.new.counts c.self.inside.inputs.items c.self.inside.outputs.items c.raise.new.row.items c.raise-2.new.row.items c.self.invariant.4 (c.update.ensures ∙ c.added-sums.ensures) c.raise.ensures.sum c.raise-2.ensures.sum,
       c.raise.ensures.same ∙ c.self.invariant.5,
       c.raise-2.ensures.same ∙ c.self.invariant.6,
     )
