@@ -5,7 +5,6 @@ ghost use Rattle.std.specs.Prelude.{◌≡◌, IfOk, IfSome, true};
 use crate::idle::{Idle, nap};
 use crate::pace::Pace;
 use crate::thread_control::ThreadControl;
-use crossbeam_utils::sync::Key;
 use std::snapshot::Snapshot;
 use std::sync::Wait;
 use std::sync::atomic::{AtomicU64, Ordering};
@@ -94,11 +93,13 @@ fn rest_posted<B, W: Turns<B>, R: Clock>(rt: &R, worker: &mut W, pace: &mut Pace
 }
 
 // Sleeps until there is a push, where only one can end the worker's quiet.
-fn sleep_posted<B, W: Turns<B>, R: Wait>(rt: &R, worker: &W, key: Key<'_>)
+fn sleep_posted<B, W: Turns<B>, R: Wait>(rt: &R, worker: &W, event: &Event)
     requires { W.is_drained worker.now }
 {
     if worker.awaits_push() {
-        key.wait(rt);
+        event.sleep(rt);
+    } else {
+        event.withdraw();
     }
 }
 
@@ -115,12 +116,15 @@ fn sleep_on<B, W: Turns<B>, R: Wait>(
     ensures same { W.same worker.old worker.new }
     ensures ended { result ≡ true → W.has_ended worker.new × W.is_drained worker.new }
 {
-    let key = event.prepare_wait();
+    event.announce();
     match attempt(rt, worker, book, pace) {
-        Turn::Did => false,
+        Turn::Did => {
+            event.withdraw();
+            false
+        }
         Turn::Quiet => {
             worker.post(rt, book);
-            sleep_posted(rt, worker, key);
+            sleep_posted(rt, worker, event);
             false
         }
         Turn::Ended => true,
