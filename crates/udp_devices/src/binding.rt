@@ -8,7 +8,7 @@ ghost use Rattle.udp_devices.specs.declared.binding.BindFault.TheVariants.{Memor
 
 use crate::address::socket_address;
 use crate::ends::{Ends, ends_of};
-use crate::readiness::widen;
+use crate::readiness::{limit_waits, widen};
 use crate::udp_sink::UdpSink;
 use crate::udp_source::UdpSource;
 use process_packet::Config;
@@ -45,10 +45,11 @@ pub struct Devices<R: Clock + Drop> {
     pub sinks: Vec<UdpSink>,
 }
 
-/// A socket at an address that neither waits nor is connected, twice, with a large receive buffer.
+/// A socket at an address that doesn't wait and isn't connected, twice, with a large receive buffer.
 fn open<R: Net>(rt: &R, ends: &Ends) -> io::Result<(UdpSocket, UdpSocket)> {
     let socket = UdpSocket::bind(rt, socket_address(ends.local))?;
     socket.set_nonblocking(true)?;
+    limit_waits(&socket)?;
     widen(&socket);
     let other = socket.try_clone()?;
     Ok((socket, other))

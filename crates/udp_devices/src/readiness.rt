@@ -1,39 +1,39 @@
-//! Sockets that don't wait, and waiting for one of them.
+//! How long a socket's reads and sends wait.
 
 use libc::net as c;
 use libc::types::pollfd;
+use std::io;
 use std::net::UdpSocket;
 use std::os::fd::AsRawFd;
+use std::time::Duration;
 
-/// The longest wait for a datagram, in milliseconds: so long may it take until a source that nothing
-/// arrives at is seen to be told to stop.
-const LONGEST_FOR_DATAGRAM: i32 = 100;
+/// The longest wait for a datagram, in milliseconds. A receiver that nothing arrives at sees after at most two of them
+/// that it is told to stop: it looks for that before each read.
+const LONGEST_FOR_DATAGRAM: u64 = 50;
 
 /// The longest wait for room to send, in milliseconds.
 const LONGEST_FOR_ROOM: i32 = 10;
 
-/// Waits for an event. False where it can't be waited for, so that a caller doesn't ask again at once.
-fn wait_for(socket: &UdpSocket, event: i16, millis: i32) -> bool {
+/// Limits the waits of a socket whose reads and sends wait. Those of a source do at times, and its sink has the same
+/// socket, so its sends do then too.
+pub(crate) fn limit_waits(socket: &UdpSocket) -> io::Result<()> {
+    socket.set_read_timeout(Some(Duration::from_millis(LONGEST_FOR_DATAGRAM)))?;
+    socket.set_write_timeout(Some(Duration::from_millis(LONGEST_FOR_ROOM as u64)))
+}
+
+/// Waits until there is room to send, for 10 milliseconds at most. False where it can't be waited for, so that a caller
+/// doesn't ask again at once.
+pub(crate) fn wait_for_room(socket: &UdpSocket) -> bool {
     let mut asked = [pollfd {
         fd: socket.as_raw_fd(),
-        events: event,
+        events: c::POLLOUT,
         revents: 0,
     }];
-    match c::poll(&mut asked, millis) {
+    match c::poll(&mut asked, LONGEST_FOR_ROOM) {
         0 => true,
-        1 => asked[0].revents & event != 0,
+        1 => asked[0].revents & c::POLLOUT != 0,
         _ => false,
     }
-}
-
-/// Waits until there is a datagram to read, for 100 milliseconds at most. False where it can't.
-pub(crate) fn wait_for_datagram(socket: &UdpSocket) -> bool {
-    wait_for(socket, c::POLLIN, LONGEST_FOR_DATAGRAM)
-}
-
-/// Waits until there is room to send, for 10 milliseconds at most. False where it can't.
-pub(crate) fn wait_for_room(socket: &UdpSocket) -> bool {
-    wait_for(socket, c::POLLOUT, LONGEST_FOR_ROOM)
 }
 
 /// Asks for the largest receive buffer; the system gives what it allows.

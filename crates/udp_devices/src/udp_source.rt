@@ -8,7 +8,6 @@ ghost use Rattle.udp_devices.specs.Address.{underlay_of};
 ghost use Rattle.udp_devices.specs.Arrival.{Arrives, GoesOn};
 
 use crate::address::underlay_of;
-use crate::readiness::wait_for_datagram;
 use process_packet::Underlay;
 use std::io::ErrorKind;
 use std::marker::Model;
@@ -16,13 +15,20 @@ use std::net::{SocketAddr, UdpSocket};
 use std::time::{Clock, SystemTime, UNIX_EPOCH};
 use worker_parts::{NextLen, Source};
 
-/// Reads a socket without waiting, and the machine's clock. It never answers that there will be none any
-/// more. Contracts see the address at which the socket was opened, and how often it failed.
+/// Reads a socket, and the machine's clock. A read waits only where the source was told to wait before it: to wait for
+/// a datagram first, and read then, would be a call of the system more for each. It never answers that there will be
+/// none any more. Contracts see the address at which the socket was opened, and how often it failed.
 pub struct UdpSource<R: Clock + Drop> {
     clock: R,
     socket: UdpSocket,
     local: Underlay,
     failed: u64,
+    // Whether the last read failed: the next one may fail at once too, and wouldn't wait.
+    fails: bool,
+    // Whether the next read is to wait.
+    awaits: bool,
+    // Whether the socket's reads wait. It is changed only where it has to be, since that is a call of the system too.
+    blocks: bool,
 }
 
 impl<R: Clock + Drop> Model for UdpSource<R> {
@@ -40,6 +46,9 @@ impl<R: Clock + Drop> Drop for UdpSource<R> {
             socket: _,
             local: _,
             failed: _,
+            fails: _,
+            awaits: _,
+            blocks: _,
         } = self;
     }
 }
@@ -92,7 +101,20 @@ impl<R: Clock + Drop> UdpSource<R> {
             socket,
             local,
             failed: 0,
+            fails: false,
+            awaits: false,
+            blocks: false,
         }
+    }
+
+    // The next read waits only where it is to.
+    fn choose_mode(&mut self)
+        ensures { self.new ≡ self.old }
+    {
+        if self.blocks && !self.awaits {
+            self.blocks = self.socket.set_nonblocking(true).is_err();
+        }
+        self.awaits = false;
     }
 
     /// The address at which the socket is; none where the system doesn't tell.
@@ -130,15 +152,26 @@ impl<R: Clock + Drop> Source for UdpSource<R> {
         ensures device { self.new.local ≡ self.old.local }
         ensures goes_on { GoesOn result }
     {
+        self.choose_mode();
         let answer = read_one(&self.clock, &self.socket, buffer);
+        self.fails = false;
         if answer == NextLen::Failed {
             self.failed += 1;
+            self.fails = true;
         }
         answer
     }
 
+    /// Has the next read wait, for 50 milliseconds at most. False after one that failed.
     fn wait(&mut self) -> bool {
-        wait_for_datagram(&self.socket)
+        if self.fails {
+            return false;
+        }
+        if !self.blocks {
+            self.blocks = self.socket.set_nonblocking(false).is_ok();
+        }
+        self.awaits = self.blocks;
+        self.awaits
     }
 
     fn failures(&self) -> u64 {

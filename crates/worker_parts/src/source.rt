@@ -57,8 +57,8 @@ pub trait Source {
         ensures told { AddsTo (told self.old) (heard buffer.new result) (told self.new) }
         ensures device { same self.old self.new };
 
-    /// Waits until there may be a datagram, and says whether it waited: at false its caller has to wait
-    /// in a way of its own. It may return at any moment, and is to return within a tenth of a second.
+    /// Waits until there may be a datagram, or has the next read wait for one, and says whether it does: at false its
+    /// caller has to wait in a way of its own. Either may end at any moment, and is to end within a tenth of a second.
     fn wait(&mut self) -> bool
         ensures told { told self.new ≡ told self.old }
         ensures failed { failed self.new ≡ failed self.old }
