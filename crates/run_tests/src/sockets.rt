@@ -5,7 +5,7 @@ use router_rules::Outgoing;
 use std::net::Net;
 use std::process::Abort;
 use std::test::*;
-use std::time::Clock;
+use std::time::{Clock, Duration, Instant};
 use udp_devices::{Ends, UdpSink, UdpSource, open_link};
 use worker_parts::{BUFFER_LEN, NextLen, Sink, Source};
 
@@ -211,4 +211,27 @@ fn a_link_has_one_other_end(rt: HostRuntime) {
     let (mut near, mut sink) = open(&rt, ends);
     assert!(rt; goes_to_the_other_end(&rt, &near, &mut sink, far));
     assert!(rt; is_dead(&mut near, &mut sink));
+}
+
+/// How long a read takes that finds nothing.
+fn length_of_quiet<R: Abort + Clock + Drop>(rt: &R, source: &mut UdpSource<R>) -> Duration {
+    let start = Instant::now(rt).expect(rt, "clock");
+    assert!(rt; is_quiet(source));
+    start.elapsed(rt).expect(rt, "clock")
+}
+
+/// A read waits if the source was told to wait before it, and only then.
+#[test]
+fn a_read_waits_where_it_is_to(rt: HostRuntime) {
+    let (mut source, _) = open(&rt, HERE);
+    for _ in 0..2 {
+        assert!(rt; source.wait());
+        assert!(rt; length_of_quiet(&rt, &mut source) >= Duration::from_millis(40));
+        // a busy machine may hold this thread up now and then, and not each time
+        let mut at_once = false;
+        for _ in 0..20 {
+            at_once |= length_of_quiet(&rt, &mut source) < Duration::from_millis(40);
+        }
+        assert!(rt; at_once);
+    }
 }
