@@ -28,6 +28,8 @@ pub enum Kind {
     One,
     /// C by recvmmsg and sendmmsg.
     Many,
+    /// C by three threads, which hand each datagram on.
+    Three,
 }
 
 impl fmt::Display for Kind {
@@ -37,6 +39,7 @@ impl fmt::Display for Kind {
             Kind::Plain { links, processors } => write!(f, "rust, {links} links, {processors}"),
             Kind::One => write!(f, "c, recvfrom and sendto"),
             Kind::Many => write!(f, "c, recvmmsg and sendmmsg"),
+            Kind::Three => write!(f, "c, three threads"),
         }
     }
 }
@@ -77,12 +80,12 @@ fn command(programs: &Programs, kind: Kind) -> Command {
             command.arg(links.to_string()).arg(processors.to_string());
             command
         }
-        Kind::One | Kind::Many => {
+        Kind::One | Kind::Many | Kind::Three => {
             let mut command = Command::new(programs.forward);
-            let how = if matches!(kind, Kind::One) {
-                "one"
-            } else {
-                "many"
+            let how = match kind {
+                Kind::Many => "many",
+                Kind::Three => "three",
+                _ => "one",
             };
             command.args([how, "41001", "41002", "42002"]);
             command

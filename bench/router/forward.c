@@ -1,16 +1,22 @@
 /* Carries datagrams from one UDP socket of the loopback address to another, without looking at them: what the sockets
-   alone cost one thread.
+   alone cost one thread, and what a pipeline of three threads costs that does nothing else.
 
-   forward one|many IN OUT TO: by recvfrom and sendto, or by recvmmsg and sendmmsg with up to 64 at a time. It reads at
-   port IN, sends from port OUT to port TO, and prints "ready" once it can. */
+   forward one|many|three IN OUT TO: by recvfrom and sendto, by recvmmsg and sendmmsg with up to 64 at a time, or by
+   recvfrom, a thread between, and sendto. It reads at port IN, sends from port OUT to port TO, and prints "ready" once
+   it can. */
 #define _GNU_SOURCE
 #include <arpa/inet.h>
+#include <linux/futex.h>
+#include <pthread.h>
+#include <stdatomic.h>
 #include <stdio.h>
 #include <stdlib.h>
 #include <string.h>
 #include <sys/socket.h>
+#include <sys/syscall.h>
+#include <unistd.h>
 
-enum { ROOM = 9217, MANY = 64 };
+enum { ROOM = 9217, MANY = 64, SLOTS = 1024 };
 
 static struct sockaddr_in at(const char *port)
 {
@@ -70,6 +76,107 @@ static void many_by_many(int in, int out, struct sockaddr_in to)
     }
 }
 
+struct datagram {
+    ssize_t len;
+    char bytes[ROOM];
+};
+
+/* A queue from one thread to one other, which sleeps on `asleep` where there is nothing to take. */
+struct queue {
+    _Alignas(64) atomic_uint pushed;
+    _Alignas(64) atomic_uint taken;
+    _Alignas(64) atomic_uint asleep;
+    struct datagram *slots[SLOTS];
+};
+
+/* Of all pushes after a sleep was announced, one wakes. */
+static void push(struct queue *queue, struct datagram *item)
+{
+    unsigned at = atomic_load_explicit(&queue->pushed, memory_order_relaxed);
+    queue->slots[at % SLOTS] = item;
+    atomic_store(&queue->pushed, at + 1);
+    if (atomic_load(&queue->asleep) && atomic_exchange(&queue->asleep, 0))
+        syscall(SYS_futex, &queue->asleep, FUTEX_WAKE_PRIVATE, 1, NULL, NULL, 0);
+}
+
+static struct datagram *take(struct queue *queue)
+{
+    unsigned at = atomic_load_explicit(&queue->taken, memory_order_relaxed);
+    if (at == atomic_load(&queue->pushed))
+        return NULL;
+    struct datagram *item = queue->slots[at % SLOTS];
+    atomic_store(&queue->taken, at + 1);
+    return item;
+}
+
+static struct datagram *await(struct queue *queue)
+{
+    for (;;) {
+        struct datagram *item = take(queue);
+        if (item)
+            return item;
+        atomic_store(&queue->asleep, 1);
+        item = take(queue);
+        if (item) {
+            atomic_store(&queue->asleep, 0);
+            return item;
+        }
+        syscall(SYS_futex, &queue->asleep, FUTEX_WAIT_PRIVATE, 1, NULL, NULL, 0);
+    }
+}
+
+/* Each has room for all buffers, so no push is refused. */
+static struct queue received, decided, unused;
+static struct sockaddr_in target;
+static int source, sink;
+
+static void *read_all(void *none)
+{
+    struct datagram *room = take(&unused);
+    for (;;) {
+        struct sockaddr_in from;
+        socklen_t size = sizeof from;
+        room->len = recvfrom(source, room->bytes, ROOM, 0, (struct sockaddr *)&from, &size);
+        struct datagram *next = room->len < 0 ? NULL : take(&unused);
+        if (next) { /* else it is dropped */
+            push(&received, room);
+            room = next;
+        }
+    }
+    return none;
+}
+
+static void *pass_all_on(void *none)
+{
+    for (;;)
+        push(&decided, await(&received));
+    return none;
+}
+
+static void *send_all(void *none)
+{
+    for (;;) {
+        struct datagram *item = await(&decided);
+        sendto(sink, item->bytes, item->len, 0, (struct sockaddr *)&target, sizeof target);
+        push(&unused, item);
+    }
+    return none;
+}
+
+static void by_three_threads(int in, int out, struct sockaddr_in to)
+{
+    static struct datagram buffers[SLOTS];
+    for (int i = 0; i < SLOTS; i++)
+        push(&unused, &buffers[i]);
+    source = in;
+    sink = out;
+    target = to;
+    pthread_t middle, last;
+    if (pthread_create(&middle, NULL, pass_all_on, NULL) || pthread_create(&last, NULL, send_all, NULL))
+        exit(1);
+    read_all(NULL);
+}
+
 int main(int count, char **words)
 {
     if (count != 5)
@@ -79,6 +186,8 @@ int main(int count, char **words)
     fflush(stdout);
     if (strcmp(words[1], "many") == 0)
         many_by_many(in, out, at(words[4]));
+    else if (strcmp(words[1], "three") == 0)
+        by_three_threads(in, out, at(words[4]));
     else
         one_by_one(in, out, at(words[4]));
 }

@@ -42,7 +42,7 @@ const fn plain(processors: u16) -> Kind {
 }
 
 /// What is compared stands side by side, and so runs one after the other.
-const CONTENDERS: [Kind; 8] = [
+const CONTENDERS: [Kind; 9] = [
     router(1),
     plain(1),
     router(2),
@@ -51,6 +51,7 @@ const CONTENDERS: [Kind; 8] = [
     plain(4),
     Kind::One,
     Kind::Many,
+    Kind::Three,
 ];
 
 const IDLE: [Kind; 4] = [
@@ -229,11 +230,13 @@ fn main() {
         let sides = best.zip(of(Kind::One, at));
         let ratio = sides.map(|(own, c)| median(&ratios(&own.flooded, &c.flooded)));
         print_or_skip(&format!("run/c {size}"), ratio, 2);
-        let sides = of(router(1), at).zip(of(Kind::One, at));
-        let ratio = sides.map(|(own, c)| median(&ratios(&own.nanos, &c.nanos)));
-        print_or_skip(&format!("time/c {size}"), ratio, 2);
-        let ratio = sides.map(|(own, c)| median(&ratios(&own.middle, &c.middle)));
-        print_or_skip(&format!("median/c {size}"), ratio, 2);
+        for (name, kind) in [("", router(1)), ("rust ", plain(1)), ("three threads ", Kind::Three)] {
+            let sides = of(kind, at).zip(of(Kind::One, at));
+            let ratio = sides.map(|(own, c)| median(&ratios(&own.nanos, &c.nanos)));
+            print_or_skip(&format!("{name}time/c {size}"), ratio, 2);
+            let ratio = sides.map(|(own, c)| median(&ratios(&own.middle, &c.middle)));
+            print_or_skip(&format!("{name}median/c {size}"), ratio, 2);
+        }
     }
     print_or_skip("idle", is_timed(&router(1)).then(|| median(&idle[0])), 1);
 }
