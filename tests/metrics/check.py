@@ -217,7 +217,9 @@ def wrong_requests():
         (b"\x16\x03\x01\x02\x00\x01\x00\x01", b""),
         (b"GET /metrics\r\n\r\n", b""),
         (b"GET /metrics HTTP/1.1\r\nX: " + 9000 * b"a" + b"\r\n\r\n", b""),
-        (b"GET /metrics HTTP/1.1\r\n" + 65 * b"X: 1\r\n" + b"\r\n", b""),
+        (b"GET /metrics HTTP/1.1\r\n" + 1300 * b"X: 1\r\n" + b"\r\n", b"HTTP/1.1 200"),
+        (b"GET /metrics HTTP/1.1\r\n" + 2700 * b"X:\n" + b"\r\n", b"HTTP/1.1 200"),
+        (b"GET /metrics HTTP/1.1\r\n" + 1400 * b"X: 1\r\n" + b"\r\n", b""),
     ]
     for request, begin in answers:
         answer = asked(request)
