@@ -7,7 +7,7 @@ mkdir -p bin
 rustc="${RUSTC:-rustc} --edition 2024 -C opt-level=3 -C codegen-units=1 -C target-cpu=x86-64-v2"
 $rustc -o bin/bench-router bench/router/main.rs
 $rustc -o bin/bench-router-plain bench/router/plain.rs
-${CC:-cc} -O3 -o bin/bench-router-forward bench/router/forward.c
+${CC:-cc} -O3 -pthread -o bin/bench-router-forward bench/router/forward.c
 room=$(mktemp -d)
 trap 'rm -rf "$room"' EXIT
 trap 'exit 130' INT
