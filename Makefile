@@ -18,7 +18,7 @@ LANES ?= $(shell awk -v cores=$$(nproc) '/^MemAvailable/ { n = int($$2 / 4194304
 # Proves the program and all that it stands on, and builds it. Where nothing changed it is taken as it is: the kit takes
 # minutes to find that out.
 bin/router: $(PROVED)
-	RT="$(RT)" tools/prove.sh router_program $(LANES)
+	RT="$(RT)" tools/prove.sh router_program router_run $(LANES)
 	cd crates/router_program && $(RT) run -- --version
 	mkdir -p bin
 	cp $(PROGRAM) bin/router
