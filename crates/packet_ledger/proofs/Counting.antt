@@ -6,7 +6,7 @@ use Rattle.process_packet.specs.declared.totals.Totals.{Totals}
 use Rattle.packet_ledger.specs.Amounts.{count_at, nothing, add_each, plus}
 use Rattle.std.specs.Prelude.{Bool, true, false, MatchBool}
 
-zero_of : (n k : ℕ) → slice_index_or {A = ℕ} (replicate n 0) k 0 ≡ 0
+pub zero_of : (n k : ℕ) → slice_index_or {A = ℕ} (replicate n 0) k 0 ≡ 0
 zero_of zero k = refl
 zero_of (suc n) zero = refl
 zero_of (suc n) (suc k) = zero_of n k

@@ -1,5 +1,5 @@
 -- A post: after it a share holds nothing, or more than may stand in the book; and the rows still add up.
-use Rattle.std.proofs.Common.{◌≡◌, ◌+◌, ◌^◌, ◌<◌, ℕ, List, length, slice_index, slice_set, inl, inr, ap, subst, arith}
+use Rattle.std.proofs.Common.{◌≡◌, ◌+◌, ◌^◌, ◌<◌, ℕ, List, slice_index, slice_set, inl, inr, ap, subst, arith}
 use Rattle.std.specs.List.{sum}
 use Rattle.process_packet.specs.declared.totals.Totals.{Totals}
 use Rattle.packet_ledger.specs.Amounts.{AtMost, plus}
@@ -9,6 +9,10 @@ use Rattle.packet_ledger.specs.Shown.{AddUp, HasBooked, Shown}
 pub posted_drains : (old new : Held) → IsPosted old new → IsDrained new
 posted_drains old new (inl is) = inl (ap (λ (s : Held). s.counts) is.1)
 posted_drains old new (inr is) = inr (λ may. is.0 (subst (λ (s : Held). MayPost s) is.1 may))
+
+pub posted_place : (old new : Held) → IsPosted old new → new.place ≡ old.place
+posted_place old new (inl is) = ap (λ (s : Held). s.place) is.1
+posted_place old new (inr is) = ap (λ (s : Held). s.place) is.1
 
 -- there is room for a share's counts in the sums of its row's kind
 pub row_rooms : (totals counts : Totals) (inputs outputs : List ℕ) → AtMost (2 ^ 126) totals → AtMost (2 ^ 100) counts → AddUp (record { totals = totals; inputs = inputs; outputs = outputs })
@@ -23,9 +27,9 @@ adds_up totals counts sums inputs outputs more_in more_out add is ins outs =
     let r = ap (λ (t : Totals). t.received) is in let s = ap (λ (t : Totals). t.sent) is in let a = ap (λ (t : Totals). t.answered) is in let i = add.0 in let o = add.1 in (omega arith, omega arith)
 
 -- what a post books, as it is seen from outside
-pub books : (s now : Shown) (h held : Held) (sums : Totals) (more_in more_out : List ℕ) (place : ℕ) → s ≡ now → h ≡ held → place < length s.inputs → sums ≡ plus s.totals h.counts
+pub books : (s now : Shown) (h held : Held) (sums : Totals) (more_in more_out : List ℕ) (place : ℕ) → s ≡ now → h ≡ held → place ≡ h.place → sums ≡ plus s.totals h.counts
     → more_in ≡ slice_set s.inputs place (slice_index s.inputs place + h.counts.received) → more_out ≡ slice_set s.outputs place (slice_index s.outputs place + (h.counts.sent + h.counts.answered))
-    → HasBooked held.counts now (record { totals = sums; inputs = more_in; outputs = more_out })
-books s now h held sums more_in more_out place same own within is ins outs =
-    let P : Shown × Held → Type 0 = λ p. HasBooked p.1.counts p.0 (record { totals = sums; inputs = more_in; outputs = more_out }) in
-    subst P (λ i. (same i, own i)) (is, (place, within, ins, outs))
+    → HasBooked held.place held.counts now (record { totals = sums; inputs = more_in; outputs = more_out })
+books s now h held sums more_in more_out place same own there is ins outs =
+    let P : Shown × Held → Type 0 = λ p. HasBooked p.1.place p.1.counts p.0 (record { totals = sums; inputs = more_in; outputs = more_out }) in
+    subst P (λ i. (same i, own i)) (subst (λ (k : ℕ). HasBooked k h.counts s (record { totals = sums; inputs = more_in; outputs = more_out })) there (is, ins, outs))

@@ -1,22 +1,34 @@
 -- What contracts see of a share.
-use Rattle.std.specs.Prelude.{◌≡◌, ◌⊎◌, ℕ, ◌+◌, ◌-◌, ◌^◌, ◌<◌, ◌≤◌, List, fold, slice_set}
+use Rattle.std.specs.Prelude.{◌≡◌, ◌⊎◌, ℕ, ◌+◌, ◌-◌, ◌^◌, ◌<◌, ◌≤◌, ◌==◌, if◌then◌else◌, List, [], ◌∷◌, fold, slice_index, slice_set}
 use Rattle.process_packet.specs.declared.cause.Cause.{Cause}
 use Rattle.process_packet.specs.declared.totals.Totals.{Totals}
 use Rattle.process_packet.specs.Cause.{number_of}
 use Rattle.process_packet.specs.Totals.{dropped_for}
 use Rattle.packet_ledger.specs.Amounts.{AtMost, count_at, nothing, plus}
+use Rattle.packet_ledger.specs.Shown.{Shown, add_rows, counted_at, no_rows}
+use Rattle.packet_ledger.specs.declared.tokens.Table.{Table}
 
--- what it counted since it was posted, and the sums of all that it ever posted
+-- what it counted since it was posted, the sums of all that it ever posted, and where its row stands in the book
 pub record Held : Type 0 where
   pub counts : Totals
   pub posted : Totals
+  pub place : ℕ
 
-abbrev pub new_share : Held
-new_share = record { counts = nothing; posted = nothing }
+-- the share at a place, with nothing counted
+abbrev pub new_share : ℕ → Held
+new_share place = record { counts = nothing; posted = nothing; place = place }
+
+abbrev pub IsNew : Held → Type 0
+IsNew s = s ≡ new_share s.place
+
+-- new shares, one after another from this place on
+abbrev pub AreNew : ℕ → List Held → Type 0
+AreNew place [] = Unit {0}
+AreNew place (s ∷ shares) = (s ≡ new_share place) × AreNew (place + 1) shares
 
 -- a share with these counts in place of its own
 abbrev pub counting : Held → Totals → Held
-counting s counts = record { counts = counts; posted = s.posted }
+counting s counts = record { counts = counts; posted = s.posted; place = s.place }
 
 abbrev pub with_received : ℕ → Totals → Totals
 with_received n t = record { received = t.received + n; sent = t.sent; answered = t.answered; dropped = t.dropped }
@@ -45,7 +57,7 @@ MayRaise t = (t.received + 1 ≤ 2 ^ 100) × (t.sent + 1 ≤ 2 ^ 100) × (t.answ
 
 -- a share after its counts moved into the book
 abbrev pub emptied : Held → Held
-emptied s = record { counts = nothing; posted = plus s.posted s.counts }
+emptied s = record { counts = nothing; posted = plus s.posted s.counts; place = s.place }
 
 -- All that it ever counted can stand in the book: no sum of one share passes 2^109.
 abbrev pub MayPost : Held → Type 0
@@ -69,3 +81,22 @@ posted_by shares = fold (λ (t : Totals) (s : Held). plus t s.posted) nothing sh
 
 abbrev pub counts_of : List Held → Totals
 counts_of shares = fold (λ (t : Totals) (s : Held). plus t s.counts) nothing shares
+
+-- the rows of what all shares posted
+abbrev pub rows_by : List Held → Table
+rows_by shares = fold (λ (t : Table) (s : Held). add_rows t (counted_at s.place s.posted)) no_rows shares
+
+-- one number of each share at a place, added up
+abbrev pub sum_at : (Held → ℕ) → ℕ → List Held → ℕ
+sum_at f place [] = 0
+sum_at f place (s ∷ shares) = (if place == s.place then f s else 0) + sum_at f place shares
+
+-- the rows at each place are no more than what the shares at that place posted
+pub record AreWithinTheirs (shares : List Held) (look : Shown) : Type 0 where
+  pub inputs : (place : ℕ) → slice_index look.inputs place ≤ sum_at (λ s. s.posted.received) place shares
+  pub outputs : (place : ℕ) → slice_index look.outputs place ≤ sum_at (λ s. s.posted.sent + s.posted.answered) place shares
+
+-- they are just that
+pub record AreTheirRows (shares : List Held) (look : Shown) : Type 0 where
+  pub inputs : (place : ℕ) → slice_index look.inputs place ≡ sum_at (λ s. s.posted.received) place shares
+  pub outputs : (place : ℕ) → slice_index look.outputs place ≡ sum_at (λ s. s.posted.sent + s.posted.answered) place shares

@@ -1,10 +1,10 @@
 //! The book.
 
-ghost use Rattle.std.specs.Prelude.{◌≡◌, ◌≤◌, ℕ, All, IfOk, length};
+ghost use Rattle.std.specs.Prelude.{◌≡◌, ◌≤◌, ℕ, IfOk, length};
 ghost use Rattle.crossbeam_utils.specs.Seq.{cell_view};
 ghost use Rattle.packet_ledger.specs.Amounts.{count_at, nothing, plus};
 ghost use Rattle.packet_ledger.specs.Shown.{AddUp, HasGrown};
-ghost use Rattle.packet_ledger.specs.Share.{IsPosted, counts_of, new_share, posted_by};
+ghost use Rattle.packet_ledger.specs.Share.{AreNew, AreTheirRows, AreWithinTheirs, IsPosted, counts_of, posted_by};
 
 use crate::look::Look;
 use crate::run_brand::RunBrand;
@@ -34,7 +34,7 @@ impl Model for Blank {
 
     ghost view = { λ b. record { table = b.cell.table.shared.table_id; booked = (cell_view b.token).booked } };
 
-    ghost invariant = { λ b. (b.token.table_id ≡ b.cell.table.shared.table_id) × (cell_view b.token ≡ keeper 65537 nothing nothing no_rows) };
+    ghost invariant = { λ b. (b.token.table_id ≡ b.cell.table.shared.table_id) × (cell_view b.token ≡ keeper 65537 nothing no_rows nothing no_rows) };
 }
 
 impl Blank {
@@ -61,8 +61,8 @@ impl<N: RunBrand> Drop for Book<N> {
 }
 
 impl<N: RunBrand> Book<N> {
-    /// A book with nothing posted, and its shares, one for each worker, with nothing counted: from 0 to
-    /// 65,536.
+    /// A book with nothing posted, and its shares, one for each worker, each at its own place, with nothing
+    /// counted: from 0 to 65,536.
     pub fn new(
         alloc: Global,
         blank: Blank,
@@ -71,7 +71,7 @@ impl<N: RunBrand> Book<N> {
         requires name { blank.table ≡ N.table }
         requires workers { (workers ≡ N.workers) × (workers ≤ 65536) }
         ensures count { IfOk result (λ r. length r.1.items ≡ workers) }
-        ensures shares { IfOk result (λ r. All (λ s. s ≡ new_share) r.1.items) }
+        ensures shares { IfOk result (λ r. AreNew 0 r.1.items) }
     {
         let Blank { cell, mut token } = blank;
         let inputs = vec![in alloc; 0; workers]?;
@@ -113,13 +113,16 @@ impl<N: RunBrand> Book<N> {
         self.sums.lock(rt).close(rt, &self.cell, shares)
     }
 
-    /// The same after a last look, which shows just what the shares posted. No look showed more than the totals.
+    /// The same after a last look, which shows just what the shares posted, each in the row at its place. No look showed
+    /// more than the totals.
     pub fn close_after<R: Wait>(&self, rt: &R, shares: Vec<Share<N>>, look: &mut Look<N>) -> Totals
         requires { length shares.items ≡ N.workers }
         ensures totals { result ≡ plus (posted_by shares.items) (counts_of shares.items) }
         ensures last { look.new.totals ≡ posted_by shares.items }
+        ensures rows { AreTheirRows shares.items look.new }
         ensures grown { HasGrown look.old look.new }
         ensures within { (i : ℕ) → count_at i look.old.totals ≤ count_at i result }
+        ensures rows_within { AreWithinTheirs shares.items look.old }
     {
         self.sums.lock(rt).close_after(rt, &self.cell, shares, look)
     }

@@ -17,7 +17,8 @@ pub const ROOM: u128 = 1 << 100;
 /// How many more times each count is known to fit where nothing is counted.
 pub(crate) const ALL_LEFT: u64 = u64::MAX;
 
-/// One worker's counts, and the sums of all that it ever posted into the book `N`.
+/// One worker's counts, the sums of all that it ever posted into the book `N`, and the place of its row there. Contracts
+/// see all three.
 #[derive(Drop)]
 pub struct Share<N: RunBrand> {
     pub(crate) counts: Totals,
@@ -25,7 +26,6 @@ pub struct Share<N: RunBrand> {
     // Each count can be raised by one at least this many times, so that most looks for room need not
     // read each count.
     pub(crate) left: u64,
-    // Where its row stands in the book.
     pub(crate) place: usize,
     pub(crate) token: Token,
     pub(crate) of: PhantomData<N>,
@@ -35,14 +35,15 @@ impl<N: RunBrand> Model for Share<N> {
     ghost use Rattle.std.specs.Prelude.{◌≡◌, ◌^◌, ◌<◌, []};
     ghost use Rattle.crossbeam_utils.specs.Seq.{cell_view};
     ghost use Rattle.packet_ledger.specs.Amounts.{AtMost};
+    ghost use Rattle.packet_ledger.specs.Shown.{counted_at};
     ghost use Rattle.packet_ledger.specs.Tokens.{holder};
     ghost use Rattle.packet_ledger.specs.Share.{Held, Leaves};
 
     ghost Value = { Held };
 
-    ghost view = { λ s. record { counts = s.counts; posted = s.posted } };
+    ghost view = { λ s. record { counts = s.counts; posted = s.posted; place = s.place } };
 
-    ghost invariant = { λ s. (s.token.table_id ≡ N.table) × (s.token.me.1 ≡ []) × (cell_view s.token ≡ holder 1 s.posted) × AtMost (2 ^ 100) s.counts × AtMost (2 ^ 109) s.posted × Leaves s.left s.counts × (s.place < N.workers) };
+    ghost invariant = { λ s. (s.token.table_id ≡ N.table) × (s.token.me.1 ≡ []) × (cell_view s.token ≡ holder 1 s.posted (counted_at s.place s.posted)) × AtMost (2 ^ 100) s.counts × AtMost (2 ^ 109) s.posted × Leaves s.left s.counts × (s.place < N.workers) };
 }
 
 // What is left after a count was raised by `n`.

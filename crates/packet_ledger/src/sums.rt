@@ -1,12 +1,12 @@
 //! What lies under the book's lock.
 
-ghost use Rattle.std.specs.Prelude.{◌≡◌, ℕ, ◌+◌, ◌-◌, ◌*◌, ◌^◌, ◌<◌, ◌≤◌, [], true, All, IfOk, length, MatchBool, replicate, slice_index, slice_set};
+ghost use Rattle.std.specs.Prelude.{◌≡◌, ℕ, ◌+◌, ◌-◌, ◌*◌, ◌^◌, ◌<◌, ◌≤◌, [], true, IfOk, length, MatchBool, replicate, slice_index, slice_set};
 ghost use Rattle.std.specs.List.{sum};
 ghost use Rattle.crossbeam_utils.specs.Seq.{cell_view};
 ghost use Rattle.packet_ledger.specs.Amounts.{AtMost, count_at, nothing, plus};
-ghost use Rattle.packet_ledger.specs.Shown.{AddUp, HasBooked, HasGrown, IsUpTo, no_rows};
+ghost use Rattle.packet_ledger.specs.Shown.{AddUp, HasBooked, HasGrown, add_rows, counted_at, no_rows, single};
 ghost use Rattle.packet_ledger.specs.Tokens.{gathered, keeper, unlooked};
-ghost use Rattle.packet_ledger.specs.Share.{MayPost, counts_of, emptied, new_share, posted_by};
+ghost use Rattle.packet_ledger.specs.Share.{AreNew, AreTheirRows, MayPost, counts_of, emptied, new_share, posted_by, rows_by};
 
 use crate::amounts::{MOST, added, at_most, none, update};
 use crate::look::Look;
@@ -33,14 +33,14 @@ impl<N: RunBrand> Model for Sums<N> {
     ghost use Rattle.std.specs.Prelude.{◌≡◌, ◌-◌, ◌^◌, ◌≤◌, length};
     ghost use Rattle.crossbeam_utils.specs.Seq.{cell_view};
     ghost use Rattle.packet_ledger.specs.Amounts.{AtMost, nothing};
-    ghost use Rattle.packet_ledger.specs.Shown.{AddUp, Shown as Seen, rows_of};
+    ghost use Rattle.packet_ledger.specs.Shown.{AddUp, Shown as Seen, no_rows, rows_of};
     ghost use Rattle.packet_ledger.specs.Tokens.{keeper};
 
     ghost Value = { Seen };
 
     ghost view = { λ s. record { totals = s.totals; inputs = s.inputs.items; outputs = s.outputs.items } };
 
-    ghost invariant = { λ s. (s.token.table_id ≡ N.table) × (cell_view s.token ≡ keeper (65537 - N.workers) nothing s.totals (rows_of s.inputs.items s.outputs.items)) × AtMost (2 ^ 126) s.totals × (N.workers ≤ 65536) × AddUp (record { totals = s.totals; inputs = s.inputs.items; outputs = s.outputs.items }) × (length s.inputs.items ≡ N.workers) × (length s.outputs.items ≡ N.workers) };
+    ghost invariant = { λ s. (s.token.table_id ≡ N.table) × (cell_view s.token ≡ keeper (65537 - N.workers) nothing no_rows s.totals (rows_of s.inputs.items s.outputs.items)) × AtMost (2 ^ 126) s.totals × (N.workers ≤ 65536) × AddUp (record { totals = s.totals; inputs = s.inputs.items; outputs = s.outputs.items }) × (length s.inputs.items ≡ N.workers) × (length s.outputs.items ≡ N.workers) };
 }
 
 impl<N: RunBrand> Drop for Sums<N> {
@@ -61,7 +61,7 @@ fn raise(row: &mut Vec<u128>, place: usize, n: u128)
     requires room { sum row.old.items + n < 2 ^ 128 }
     ensures row { row.new.items ≡ slice_set row.old.items place (slice_index row.old.items place + n) }
     ensures sum { sum row.new.items ≡ sum row.old.items + n }
-    ensures up { IsUpTo row.old.items row.new.items }
+    ensures up { (k : ℕ) → slice_index row.new.items k ≡ slice_index row.old.items k + slice_index (single place n) k }
     ensures same { length row.new.items ≡ length row.old.items }
 {
     row[place] += n;
@@ -72,7 +72,7 @@ impl<N: RunBrand> Sums<N> {
     pub fn new(cell: &Cell, token: Token, inputs: Vec<u128>, outputs: Vec<u128>) -> Sums<N>
         requires cell { cell.now.table.shared.table_id ≡ N.table }
         requires name { token.table_id ≡ N.table }
-        requires token { cell_view token ≡ keeper (65537 - N.workers) nothing nothing no_rows }
+        requires token { cell_view token ≡ keeper (65537 - N.workers) nothing no_rows nothing no_rows }
         requires workers { N.workers ≤ 65536 }
         requires inputs { inputs.items ≡ replicate N.workers 0 }
         requires outputs { outputs.items ≡ replicate N.workers 0 }
@@ -85,6 +85,7 @@ impl<N: RunBrand> Sums<N> {
             &mut token,
             0,
             &totals,
+            0,
             inputs.as_slice(),
             outputs.as_slice(),
         );
@@ -101,7 +102,7 @@ impl<N: RunBrand> Sums<N> {
     /// 2^109 nothing moves.
     pub fn post<R: Wait>(&mut self, rt: &R, cell: &Cell, share: &mut Share<N>) -> bool
         requires { cell.now.table.shared.table_id ≡ N.table }
-        ensures sums { MatchBool result (HasBooked share.old.counts self.old self.new) (self.new ≡ self.old) }
+        ensures sums { MatchBool result (HasBooked share.old.place share.old.counts self.old self.new) (self.new ≡ self.old) }
         ensures share { MatchBool result (share.new ≡ emptied share.old) (share.new ≡ share.old) }
         ensures room { MatchBool result (MayPost share.old) (MayPost share.old → ⊥) }
     {
@@ -115,6 +116,7 @@ impl<N: RunBrand> Sums<N> {
             &mut self.token,
             0,
             &none(),
+            0,
             self.inputs.as_slice(),
             self.outputs.as_slice(),
         );
@@ -129,6 +131,7 @@ impl<N: RunBrand> Sums<N> {
             &mut self.token,
             1,
             &share.counts,
+            share.place,
             self.inputs.as_slice(),
             self.outputs.as_slice(),
         );
@@ -181,6 +184,7 @@ impl<N: RunBrand> Sums<N> {
         requires shares { length shares.items ≡ N.workers }
         ensures totals { result ≡ plus (posted_by shares.items) (counts_of shares.items) }
         ensures posted { self.old.totals ≡ posted_by shares.items }
+        ensures rows { AreTheirRows shares.items self.old }
         ensures sums { self.new ≡ self.old }
     {
         let parts = shares.len();
@@ -192,6 +196,7 @@ impl<N: RunBrand> Sums<N> {
             &mut self.token,
             parts,
             &none(),
+            0,
             self.inputs.as_slice(),
             self.outputs.as_slice(),
         );
@@ -210,6 +215,7 @@ impl<N: RunBrand> Sums<N> {
         requires shares { length shares.items ≡ N.workers }
         ensures totals { result ≡ plus (posted_by shares.items) (counts_of shares.items) }
         ensures last { look.new.totals ≡ posted_by shares.items }
+        ensures rows { AreTheirRows shares.items look.new }
         ensures grown { HasGrown look.old look.new }
         ensures sums { self.new ≡ self.old }
     {
@@ -227,12 +233,12 @@ pub fn split_shares<N: RunBrand>(
 ) -> Result<Vec<Share<N>>, AllocError>
     requires cell { cell.now.table.shared.table_id ≡ N.table }
     requires own { token.old.table_id ≡ N.table }
-    requires token { cell_view token.old ≡ keeper 65537 nothing nothing no_rows }
+    requires token { cell_view token.old ≡ keeper 65537 nothing no_rows nothing no_rows }
     requires workers { (workers ≡ N.workers) × (workers ≤ 65536) }
     ensures count { IfOk result (λ v. length v.items ≡ workers) }
-    ensures shares { IfOk result (λ v. All (λ s. s ≡ new_share) v.items) }
+    ensures shares { IfOk result (λ v. AreNew 0 v.items) }
     ensures own { token.new.table_id ≡ N.table }
-    ensures token { IfOk result (λ _. cell_view token.new ≡ keeper (65537 - workers) nothing nothing no_rows) }
+    ensures token { IfOk result (λ _. cell_view token.new ≡ keeper (65537 - workers) nothing no_rows nothing no_rows) }
 {
     let mut shares = Vec::with_capacity(alloc, workers)?;
     for place in 0..workers {
@@ -245,15 +251,15 @@ pub fn split_shares<N: RunBrand>(
 fn split_share<N: RunBrand>(cell: &Cell, token: &mut Token, place: usize) -> Share<N>
     requires cell { cell.now.table.shared.table_id ≡ N.table }
     requires own { token.old.table_id ≡ N.table }
-    requires token { let v = cell_view token.old in (v ≡ keeper v.parts nothing nothing no_rows) × (0 < v.parts) }
+    requires token { let v = cell_view token.old in (v ≡ keeper v.parts nothing no_rows nothing no_rows) × (0 < v.parts) }
     requires place { place < N.workers }
-    ensures share { result ≡ new_share }
+    ensures share { result ≡ new_share place }
     ensures own { token.new.table_id ≡ N.table }
-    ensures token { cell_view token.new ≡ keeper ((cell_view token.old).parts - 1) nothing nothing no_rows }
+    ensures token { cell_view token.new ≡ keeper ((cell_view token.old).parts - 1) nothing no_rows nothing no_rows }
 {
     let counts = none();
     Share {
-        token: give(cell, token, 1, &counts, &[], &[]),
+        token: give(cell, token, 1, &counts, place, &[], &[]),
         counts,
         posted: counts,
         left: ALL_LEFT,
@@ -266,10 +272,10 @@ fn split_share<N: RunBrand>(cell: &Cell, token: &mut Token, place: usize) -> Sha
 fn take_all<N: RunBrand>(cell: &Cell, token: &mut Token, shares: Vec<Share<N>>) -> Totals
     requires cell { cell.now.table.shared.table_id ≡ N.table }
     requires own { token.old.table_id ≡ N.table }
-    requires fresh { ((cell_view token.old).posted ≡ nothing) × (unlooked (cell_view token.old) ≡ cell_view token.old) }
+    requires fresh { ((cell_view token.old).posted ≡ nothing) × ((cell_view token.old).own ≡ no_rows) × (unlooked (cell_view token.old) ≡ cell_view token.old) }
     requires few { length shares.items ≤ 65536 }
     ensures own { token.new.table_id ≡ N.table }
-    ensures token { cell_view token.new ≡ gathered (length shares.items) (posted_by shares.items) (cell_view token.old) }
+    ensures token { cell_view token.new ≡ gathered (length shares.items) (posted_by shares.items) (rows_by shares.items) (cell_view token.old) }
     ensures counts { result ≡ counts_of shares.items }
     ensures few { AtMost (2 ^ 117) result }
     ensures posted { (i : ℕ) → count_at i (posted_by shares.items) ≤ length shares.items * 2 ^ 109 }
@@ -292,7 +298,7 @@ fn add_share<N: RunBrand>(
     requires own { token.old.table_id ≡ N.table }
     requires few { AtMost (2 ^ 117) counts.now }
     ensures own { token.new.table_id ≡ N.table }
-    ensures token { let v = cell_view token.old in cell_view token.new ≡ gathered 1 (plus v.posted share.posted) v }
+    ensures token { let v = cell_view token.old in cell_view token.new ≡ gathered 1 (plus v.posted share.posted) (add_rows v.own (counted_at share.place share.posted)) v }
     ensures counts { result ≡ plus counts.now share.counts }
     ensures few { AtMost (2 ^ 100) share.counts }
     ensures posted { AtMost (2 ^ 109) share.posted }

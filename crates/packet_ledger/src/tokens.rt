@@ -4,7 +4,7 @@ ghost use Rattle.std.specs.Prelude.{◌≡◌, ℕ, ◌+◌, ◌-◌, ◌*◌, �
 ghost use Rattle.crossbeam_utils.specs.Seq.{cell_view};
 ghost use Rattle.process_packet.specs.Cause.{causes};
 ghost use Rattle.packet_ledger.specs.Amounts.{count_at};
-ghost use Rattle.packet_ledger.specs.Shown.{AreUpTo, rows_of};
+ghost use Rattle.packet_ledger.specs.Shown.{AreRaised, rows_of};
 ghost use Rattle.packet_ledger.specs.Tokens.{Audited, given, joined, kept, looker, unlooked};
 
 use atomic_table::{Join, Split};
@@ -23,19 +23,20 @@ pub struct Table {
     pub outputs: [u128; MOST_SHARES],
 }
 
-/// What a token knows: a share's what it posted, the book's what the sums and the rows are, a look's what it
-/// saw of them. The parts are those of the right to know that no share is missing. No value of it is made.
+/// What a token knows: a share's what it posted, and into which row; the book's what the sums and the rows are; a
+/// look's what it saw of them. The parts are those of the right to know that no share is missing. No value of it is made.
 pub struct View {
     pub keeps: bool,
     pub parts: usize,
     pub posted: Totals,
+    pub own: Table,
     pub booked: Totals,
     pub rows: Table,
     pub seen: Totals,
     pub seen_rows: Table,
 }
 
-/// The sums of the book's token are those of what all tokens posted, and no look saw more than them and the rows.
+/// The sums and the rows of the book's token are those of what all tokens posted, and no look saw more than them.
 pub struct Balance;
 
 impl Protocol<[u64; 1], View> for Balance {
@@ -45,7 +46,7 @@ impl Protocol<[u64; 1], View> for Balance {
 
     ghost holds = { Balanced };
 
-    ghost first = { keeper 65537 nothing nothing no_rows };
+    ghost first = { keeper 65537 nothing no_rows nothing no_rows };
 }
 
 /// The private cell that holds the rule of a book's tokens.
@@ -54,7 +55,7 @@ pub type Cell = RuledSeqCell<[u64; 1], View, Balance, 1>;
 /// The token of a share or of the book, with what it knows.
 pub type Token = Pass<[u64; 1], View>;
 
-/// Amounts, parts and rows that a call picks.
+/// Amounts, parts, rows and a place among them that a call picks.
 pub trait Amount {
     ghost use Rattle.std.specs.Prelude.{ℕ};
     ghost use Rattle.process_packet.specs.declared.totals.Totals.{Totals};
@@ -63,6 +64,8 @@ pub trait Amount {
     ghost counts: { Totals };
 
     ghost parts: { ℕ };
+
+    ghost place: { ℕ };
 
     ghost rows: { Rows };
 }
@@ -75,11 +78,13 @@ impl Amount for Brand {
 
     ghost parts = { 0 };
 
+    ghost place = { 0 };
+
     ghost rows = { no_rows };
 }
 
-/// The book's token gives away some parts, with all that it knows as posted, and more counts; its rows are these
-/// from then on.
+/// The book's token gives away some parts, with all that it knows as posted, and more counts at a place; its rows are
+/// these from then on.
 pub struct Gives<K> {
     of: PhantomData<K>,
 }
@@ -89,7 +94,7 @@ impl<K: Amount> Split<View> for Gives<K> {
 
     ghost left = { λ v. kept K.parts K.counts K.rows v };
 
-    ghost right = { λ v. given K.parts K.counts v };
+    ghost right = { λ v. given K.parts K.counts K.place v };
 }
 
 /// A look's token is cut off that of the book: it saw all that the book's knows.
@@ -114,8 +119,8 @@ impl Join<View> for Takes {
     ghost spent = { nobody };
 }
 
-/// What the book's token tells: with all parts it knows just what was booked, and that has its bound; and what it
-/// took in from a look is at most what it knows.
+/// What the book's token tells: with all parts it knows just what was booked, sums and rows, and that has its bound; and
+/// what it took in from a look is at most what it knows.
 pub struct Audits;
 
 impl Outcome<[u64; 1], View> for Audits {
@@ -124,13 +129,14 @@ impl Outcome<[u64; 1], View> for Audits {
     ghost then = { λ v before after w. Audited v w };
 }
 
-/// Gives away some parts of the book's token, with what it knows as posted and these counts. Its rows are these from
-/// then on, none of them below what it was.
+/// Gives away some parts of the book's token, with what it knows as posted and these counts, which stand at a place of its
+/// rows from then on.
 pub fn give(
     cell: &Cell,
     keeper: &mut Token,
     parts: usize,
     counts: &Totals,
+    place: usize,
     inputs: &[u128],
     outputs: &[u128],
 ) -> Token
@@ -139,11 +145,11 @@ pub fn give(
     requires parts { parts ≤ (cell_view keeper.old).parts }
     requires long { length counts.now.dropped ≡ causes }
     requires few { (i : ℕ) → count_at i (cell_view keeper.old).posted + count_at i counts.now ≤ parts * 2 ^ 109 }
-    requires rows { AreUpTo (cell_view keeper.old).rows (rows_of inputs.now outputs.now) }
+    requires rows { AreRaised place counts.now (cell_view keeper.old).rows (rows_of inputs.now outputs.now) }
     ensures kept { (keeper.new.table_id ≡ keeper.old.table_id) × (cell_view keeper.new ≡ kept parts counts.now (rows_of inputs.now outputs.now) (cell_view keeper.old)) }
-    ensures given { (result.table_id ≡ keeper.old.table_id) × (result.me.1 ≡ []) × (cell_view result ≡ given parts counts.now (cell_view keeper.old)) }
+    ensures given { (result.table_id ≡ keeper.old.table_id) × (result.me.1 ≡ []) × (cell_view result ≡ given parts counts.now place (cell_view keeper.old)) }
 {
-    give_as::<Brand>(cell, keeper, parts, counts, inputs, outputs)
+    give_as::<Brand>(cell, keeper, parts, counts, place, inputs, outputs)
 }
 
 fn give_as<K: Amount>(
@@ -151,21 +157,23 @@ fn give_as<K: Amount>(
     keeper: &mut Token,
     parts: usize,
     counts: &Totals,
+    place: usize,
     inputs: &[u128],
     outputs: &[u128],
 ) -> Token
-    requires pick { (K.parts ≡ parts) × (K.counts ≡ counts.now) × (K.rows ≡ rows_of inputs.now outputs.now) }
+    requires pick { (K.parts ≡ parts) × (K.counts ≡ counts.now) × (K.place ≡ place) × (K.rows ≡ rows_of inputs.now outputs.now) }
     requires own { keeper.old.table_id ≡ cell.now.table.shared.table_id }
     requires keeps { (cell_view keeper.old).keeps ≡ true }
     requires parts { parts ≤ (cell_view keeper.old).parts }
     requires long { length counts.now.dropped ≡ causes }
     requires few { (i : ℕ) → count_at i (cell_view keeper.old).posted + count_at i counts.now ≤ parts * 2 ^ 109 }
-    requires rows { AreUpTo (cell_view keeper.old).rows (rows_of inputs.now outputs.now) }
+    requires rows { AreRaised place counts.now (cell_view keeper.old).rows (rows_of inputs.now outputs.now) }
     ensures kept { (keeper.new.table_id ≡ keeper.old.table_id) × (cell_view keeper.new ≡ kept parts counts.now (rows_of inputs.now outputs.now) (cell_view keeper.old)) }
-    ensures given { (result.table_id ≡ keeper.old.table_id) × (result.me.1 ≡ []) × (cell_view result ≡ given parts counts.now (cell_view keeper.old)) }
+    ensures given { (result.table_id ≡ keeper.old.table_id) × (result.me.1 ≡ []) × (cell_view result ≡ given parts counts.now place (cell_view keeper.old)) }
 {
     let _ = parts;
     let _ = counts;
+    let _ = place;
     let _ = inputs;
     let _ = outputs;
     cell.split_pass::<Gives<K>>(keeper)

@@ -4,6 +4,7 @@ pub mod Crews
 pub mod Came
 pub mod Begin
 pub mod CrewLemmas
+pub mod Places
 pub mod Promised
 pub mod Finish
 pub mod TeamLemmas

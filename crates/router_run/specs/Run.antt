@@ -1,6 +1,7 @@
 -- A run: what it began with, and what it came to.
-use Rattle.std.specs.Prelude.{◌≡◌, ℕ, List, map, Option}
+use Rattle.std.specs.Prelude.{◌≡◌, ◌+◌, ◌≤◌, ℕ, List, map, Option, Some, slice_get, slice_index}
 use Rattle.packet_ledger.specs.Share.{forwarded}
+use Rattle.packet_ledger.specs.Shown.{Shown}
 use Rattle.process_packet.specs.declared.config.Config.{Config}
 use Rattle.process_packet.specs.declared.totals.Totals.{Totals}
 use Rattle.worker_order.specs.Heard.{Heard}
@@ -10,6 +11,7 @@ use Rattle.worker_forwarder.specs.Forwarding.{Forwarding}
 use Rattle.worker_receiver.specs.Receiving.{EndsQuietly, Receiving}
 use Rattle.ruled_pipe.specs.Producer.{Sender}
 use Rattle.order_laws.specs.Deeds.{Each}
+use Rattle.router_rules.specs.Links.{link_count}
 use Rattle.worker_parts.specs.Told.{Told, told_of}
 use Rattle.run_ends.specs.Shutting.{closed_at}
 use Rattle.run_report.specs.Crew.{Crew}
@@ -24,6 +26,11 @@ pub record Run (S G K : Type 0) : Type 0 where
   pub pipes : Piping
   pub fillers : List (Sender (List ℕ))
   pub crew : Crew S G K
+
+-- No row of a forwarder, which stand in a look in the order of the links after those of the receivers, the processors and the slow
+-- path, is above what its link sent.
+abbrev pub SentWithin : Config → Shown → List ℕ → Type 0
+SentWithin c look sent = (l n : ℕ) → slice_get sent l ≡ Some n → slice_index look.outputs (link_count c + c.processors + 1 + l) ≤ n
 
 -- the same router, but for the controller's ends
 pub record IsSameRun {S G K : Type 0} (old new : Run S G K) : Type 0 where

@@ -14,7 +14,7 @@ use Rattle.run_workers.specs.Kits.{Entry, Exit, IsAnsweringAt, IsEnteringAt, IsL
 module _ {S : Type 0} where
   -- a receiver without its source
   abbrev pub entry_of : Receiving S → Entry
-  entry_of r = record { config = r.side.config; link = r.side.link; free = r.side.stock.free; processors = r.side.processors }
+  entry_of r = record { config = r.side.config; link = r.side.link; free = r.side.stock.free; processors = r.side.processors; share = r.side.share }
 
   -- the receiver of a link has its interface, and the ends that it was made with
   abbrev pub IsReceivingAt : Config → Piping → ℕ → Receiving S → Type 0
@@ -23,7 +23,7 @@ module _ {S : Type 0} where
 module _ {K : Type 0} where
   -- a forwarder without its sink
   abbrev pub exit_of : Forwarding K → Exit
-  exit_of f = record { config = f.side.config; link = f.link; low = f.low; high = f.high; free = f.side.free }
+  exit_of f = record { config = f.side.config; link = f.link; low = f.low; high = f.high; free = f.side.free; share = f.side.share }
 
   -- the forwarder of a link has the ends that it was made with
   abbrev pub IsForwardingAt : Config → Piping → ℕ → Forwarding K → Type 0

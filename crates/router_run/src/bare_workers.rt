@@ -56,7 +56,7 @@ fn after_receivers<N: RunBrand, G: Gate + Drop>(
 ) -> Result<AfterReceivers<N, G>, AllocError>
     requires config { N.config ≡ Some (arc_value common.now.shared).config }
     requires pipes { (p : Piping) × HaveProcessors (arc_value common.now.shared).config 0 p pipes.old × (packets.items ≡ new_takers p.packets) × (requests ≡ taker_of p.requests) × (egress_packets.items ≡ new_takers p.egress_packets) }
-    requires shares { AreNewShares ((arc_value common.now.shared).config.processors + 1 + link_count (arc_value common.now.shared).config) shares.old }
+    requires shares { AreNewShares (link_count (arc_value common.now.shared).config) ((arc_value common.now.shared).config.processors + 1 + link_count (arc_value common.now.shared).config) shares.old }
     ensures { let c = (arc_value common.now.shared).config in IfOk result (λ a. (p : Piping) → HaveProcessors c 0 p pipes.old → packets.items ≡ new_takers p.packets → requests ≡ taker_of p.requests → egress_packets.items ≡ new_takers p.egress_packets → HaveForwarders c (link_count c) p pipes.new × AreAfterReceivers c p a.processors.items a.slow a.forwarders.items a.shutters.items) }
 {
     // At most 33, which bounds the controller's ends.
@@ -83,7 +83,7 @@ pub fn make_all<N: RunBrand, G: Gate + Drop, R: Wait>(
     shares: Vec<Share<N>>,
 ) -> Result<BareWorkers<N, G>, AllocError>
     requires config { N.config ≡ Some (arc_value common.now.shared).config }
-    requires shares { AreNewShares (2 * link_count (arc_value common.now.shared).config + (arc_value common.now.shared).config.processors + 1) shares.items }
+    requires shares { AreNewShares 0 (2 * link_count (arc_value common.now.shared).config + (arc_value common.now.shared).config.processors + 1) shares.items }
     ensures { IfOk result (λ m. AreBareWorkers (arc_value common.now.shared).config m) }
 {
     let (mut pipes, takers) = open_all(alloc, &common.shared)?;

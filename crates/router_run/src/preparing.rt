@@ -36,7 +36,7 @@ fn book_for<N: RunBrand>(
     requires name { blank.table ≡ N.table }
     requires few { (links ≤ 33) × (processors ≤ 16) }
     requires workers { N.workers ≡ 2 * links + processors + 1 }
-    ensures { IfOk result (λ r. AreNewShares (2 * links + processors + 1) r.1.items) }
+    ensures { IfOk result (λ r. AreNewShares 0 (2 * links + processors + 1) r.1.items) }
 {
     let made = Book::new(alloc, blank, 2 * links + processors + 1)?;
     Ok(made)
@@ -52,7 +52,7 @@ fn orders_for<N: RunBrand>(
     requires name { blank.table ≡ N.table }
     requires few { (links ≤ 33) × (processors ≤ 16) }
     requires workers { N.workers ≡ 2 * links + processors + 1 }
-    ensures { IfOk result (λ r. AreNewShares (2 * links + processors + 1) r.1.items) }
+    ensures { IfOk result (λ r. AreNewShares 0 (2 * links + processors + 1) r.1.items) }
 {
     let word = Arc::new(alloc, AtomicU64::new(Signal::Hold.word()))?;
     let (book, shares) = book_for(alloc, blank, links, processors)?;
@@ -91,7 +91,7 @@ fn base_for<N: RunBrand>(
     requires few { links ≤ 33 }
     requires workers { N.workers ≡ 2 * link_count config + config.processors + 1 }
     ensures shared { IfOk result (λ b. (arc_value b.0.common.shared).config ≡ config) }
-    ensures shares { IfOk result (λ b. AreNewShares (2 * link_count config + config.processors + 1) b.1.items) }
+    ensures shares { IfOk result (λ b. AreNewShares 0 (2 * link_count config + config.processors + 1) b.1.items) }
 {
     let processors = usize::from(config.processors);
     let (control, shares) = orders_for(alloc, blank, links, processors)?;

@@ -7,7 +7,7 @@ ghost use Rattle.packet_ledger.specs.Amounts.{count_at};
 ghost use Rattle.worker_order.specs.Heard.{ToldNothing};
 ghost use Rattle.router_rules.specs.Links.{link_count};
 ghost use Rattle.run_pipes.specs.Closing.{Closing};
-ghost use Rattle.router_run.specs.Run.{RouterHasRun, IsSameRun};
+ghost use Rattle.router_run.specs.Run.{RouterHasRun, IsSameRun, SentWithin};
 ghost use Rattle.router_run.specs.Prepared.{IsPrepared};
 ghost use Rattle.router_run.specs.Starting.{Begins, GivesBack, IsOneALink};
 
@@ -224,10 +224,12 @@ where
     }
 
     /// Ends the router: the workers come to their ends and are joined, and the pipes settled. It
-    /// takes no memory. The totals are no less than a look at its book saw of them.
+    /// takes no memory. The totals are no less than a look at its book saw of them, and what each link sent
+    /// is no less than its forwarder's row showed.
     pub fn finish(self, look: Option<Look<N>>) -> Report<S, K>
         ensures run { RouterHasRun S.told K.told K.failed S.same K.same self result.totals result.sent.items result.sources.items result.sinks.items }
         ensures seen { IfSome look (λ l. (i : ℕ) → count_at i l.totals ≤ count_at i result.totals) }
+        ensures rows { IfSome look (λ l. SentWithin self.config l result.sent.items) }
     {
         rules_are_lawful();
         links_stand_in_order();

@@ -2,7 +2,7 @@
 
 ghost use Rattle.std.specs.Prelude.{◌≡◌, ◌≤◌, ℕ, IfSome, [], map, length};
 ghost use Rattle.packet_ledger.specs.Amounts.{count_at};
-ghost use Rattle.packet_ledger.specs.Share.{forwarded};
+ghost use Rattle.packet_ledger.specs.Share.{AreWithinTheirs, forwarded};
 ghost use Rattle.worker_order.specs.Totals.{totals_of};
 ghost use Rattle.run_pipes.specs.Piping.{Piping};
 ghost use Rattle.run_pipes.specs.Pipes.{HaveAllBack};
@@ -114,7 +114,7 @@ where
     (takers, left)
 }
 
-// The totals of a book whose shares are all these. No count that a look saw is above them.
+// The totals of a book whose shares are all these. No count that a look saw is above them, and no row above its share's.
 fn close<N: RunBrand, R: Wait>(
     rt: &R,
     book: &Book<N>,
@@ -124,6 +124,7 @@ fn close<N: RunBrand, R: Wait>(
     requires { length shares.items ≡ N.workers }
     ensures totals { result ≡ totals_of shares.items }
     ensures seen { IfSome look (λ l. (i : ℕ) → count_at i l.totals ≤ count_at i result) }
+    ensures rows { IfSome look (λ l. AreWithinTheirs shares.items l) }
 {
     match look {
         Some(look) => {
@@ -135,7 +136,7 @@ fn close<N: RunBrand, R: Wait>(
 }
 
 /// The report of what is left, with the counts of all shares of the book summed up. They are no
-/// less than a look at the book saw of them while the router ran.
+/// less than a look at the book saw of them while the router ran, and neither is what each share posted.
 pub fn report_of<N: RunBrand, S, K, R: Wait>(
     rt: &R,
     book: &Book<N>,
@@ -145,6 +146,7 @@ pub fn report_of<N: RunBrand, S, K, R: Wait>(
     requires { length left.shares.items ≡ N.workers }
     ensures totals { result.totals ≡ totals_of left.shares.items }
     ensures seen { IfSome look (λ l. (i : ℕ) → count_at i l.totals ≤ count_at i result.totals) }
+    ensures rows { IfSome look (λ l. AreWithinTheirs left.shares.items l) }
     ensures sent { result.sent.items ≡ left.sent.items }
     ensures sources { result.sources.items ≡ left.sources.items }
     ensures sinks { result.sinks.items ≡ left.sinks.items }

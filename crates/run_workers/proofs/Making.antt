@@ -1,8 +1,6 @@
 -- A worker made of what is next of each list.
 use Rattle.std.proofs.Common.{◌≡◌, ◌≤◌, ℕ, zero, suc, ◌+◌, List, [], ◌∷◌, ◌++◌, length, Some, slice_get, sym, ◌∙◌, ap, subst, arith, append_assoc, append-nil}
-use Rattle.std.specs.List.{All}
-use Rattle.packet_ledger.specs.Share.{Held, new_share}
-use Rattle.order_laws.specs.Deeds.{Each}
+use Rattle.packet_ledger.specs.Share.{AreNew, Held, IsNew, new_share}
 use Rattle.ruled_pipe.specs.Consumer.{Taker, new_taker}
 use Rattle.ruled_pipe.specs.Pipe.{Shape, IsTakerOf}
 use Rattle.run_ends.specs.Rows.{AreFor}
@@ -10,27 +8,30 @@ use Rattle.run_pipes.specs.Piping.{IsTakerThere}
 use Rattle.run_workers.specs.Kits.{paired}
 use Rattle.run_workers.specs.Shares.{AreNewShares, HaveGone}
 
-each_of : {X : Type 0} (P : X → Type 0) (xs : List X) → All P xs → Each P xs
-each_of P [] all = tt
-each_of P (x ∷ xs) all = (all 0 x (omega arith), each_of P xs (λ k d lt. all (suc k) d (omega arith)))
-
-pub new_shares : (n : ℕ) (xs : List Held) → length xs ≡ n → All (λ (s : Held). s ≡ new_share) xs → AreNewShares n xs
-new_shares n xs long all = record { each = each_of (λ (s : Held). s ≡ new_share) xs all; enough = omega arith }
+pub new_shares : (n : ℕ) (xs : List Held) → length xs ≡ n → AreNew 0 xs → AreNewShares 0 n xs
+new_shares n xs long all = record { each = all; enough = omega arith }
 
 -- the shares, before the first is taken, and after the next
-pub none_gone : (n : ℕ) (xs : List Held) → AreNewShares n xs → HaveGone 0 xs xs
-none_gone n xs new = record { each = new.each; count = omega arith }
+pub none_gone : (place n : ℕ) (xs : List Held) → AreNewShares place n xs → HaveGone place 0 xs xs
+none_gone place n xs new = record { each = subst (λ (k : ℕ). AreNew k xs) (omega arith) new.each; count = omega arith }
 
-pub one_gone : (n : ℕ) (all old new : List Held) (x : Held) → old ≡ x ∷ new → HaveGone n all old → HaveGone (n + 1) all new
-one_gone n all old new x is gone =
-    let e = subst (λ (xs : List Held). Each (λ (s : Held). s ≡ new_share) xs) is gone.each in
-    record { each = e.1; count = let c = gone.count in let l = ap length is in omega arith }
+pub one_gone : (place n : ℕ) (all old new : List Held) (x : Held) → old ≡ x ∷ new → HaveGone place n all old → HaveGone place (n + 1) all new
+one_gone place n all old new x is gone =
+    let e = subst (λ (xs : List Held). AreNew (place + n) xs) is gone.each in
+    record { each = subst (λ (k : ℕ). AreNew k new) (omega arith) e.1; count = let c = gone.count in let l = ap length is in omega arith }
 
--- the next of them is new
-pub next_new : (n : ℕ) (all old new : List Held) (x : Held) → old ≡ x ∷ new → HaveGone n all old → x ≡ new_share
-next_new n all old new x is gone =
-    let e = subst (λ (xs : List Held). Each (λ (s : Held). s ≡ new_share) xs) is gone.each in
+-- the next of them is new, and stands at the next place
+pub next_new : (place n : ℕ) (all old new : List Held) (x : Held) → old ≡ x ∷ new → HaveGone place n all old → x ≡ new_share (place + n)
+next_new place n all old new x is gone =
+    let e = subst (λ (xs : List Held). AreNew (place + n) xs) is gone.each in
     e.0
+
+pub is_new : (place : ℕ) (x : Held) → x ≡ new_share place → IsNew x
+is_new place x is = is ∙ ap new_share (sym (ap (λ (s : Held). s.place) is))
+
+-- the shares that are left, for those who come next
+pub left_new : (place n m next : ℕ) (old new : List Held) → HaveGone place n old new → place + n ≡ next → n + m ≤ length old → AreNewShares next m new
+left_new place n m next old new gone at enough = record { each = subst (λ (k : ℕ). AreNew k new) at gone.each; enough = let c = gone.count in omega arith }
 
 producers_at : (n : ℕ) (ss : List Shape) (i : ℕ) (s : Shape) → AreFor n ss → slice_get ss i ≡ Some s → s.producers ≡ n
 producers_at n [] i s all at = cc

@@ -1,14 +1,13 @@
--- New shares, which the workers get one by one.
+-- New shares, which the workers get one by one, in the order of their places in the book.
 use Rattle.std.specs.Prelude.{◌≡◌, ◌+◌, ◌≤◌, ℕ, List, length}
-use Rattle.order_laws.specs.Deeds.{Each}
-use Rattle.packet_ledger.specs.Share.{Held, new_share}
+use Rattle.packet_ledger.specs.Share.{AreNew, Held}
 
--- at least n new shares
-pub record AreNewShares (n : ℕ) (xs : List Held) : Type 0 where
-  pub each : Each (λ (s : Held). s ≡ new_share) xs
+-- at least n new shares, from this place on
+pub record AreNewShares (place n : ℕ) (xs : List Held) : Type 0 where
+  pub each : AreNew place xs
   pub enough : n ≤ length xs
 
 -- n of them were taken
-pub record HaveGone (n : ℕ) (old new : List Held) : Type 0 where
-  pub each : Each (λ (s : Held). s ≡ new_share) new
+pub record HaveGone (place n : ℕ) (old new : List Held) : Type 0 where
+  pub each : AreNew (place + n) new
   pub count : n + length new ≡ length old

@@ -37,7 +37,7 @@ fn processor_of<N: RunBrand, G: Gate + Drop>(
     requires pipes { (p : Piping) × HaveProcessors (arc_value common.now.shared).config index p pipes.old }
     requires index { index < (arc_value common.now.shared).config.processors }
     requires taker { (taker.taken ≡ []) × (taker.producers ≡ link_count (arc_value common.now.shared).config) }
-    requires share { share ≡ new_share }
+    requires share { share ≡ new_share (link_count (arc_value common.now.shared).config + index) }
     ensures { let c = (arc_value common.now.shared).config in IfOk result (λ w. (p : Piping) → HaveProcessors c index p pipes.old → HaveProcessors c (index + 1) p pipes.new × ((own : Shape) → IsTakerOf own taker → IsWorkingAt c p index own w)) }
 {
     let producers = link_count(&common.shared.config);
@@ -65,8 +65,8 @@ pub fn processors_of<N: RunBrand, G: Gate + Drop>(
 ) -> Result<Vec<Processor<N, G>>, AllocError>
     requires config { N.config ≡ Some (arc_value common.now.shared).config }
     requires pipes { (p : Piping) × HaveProcessors (arc_value common.now.shared).config 0 p pipes.old × (takers.items ≡ new_takers p.packets) }
-    requires shares { AreNewShares (arc_value common.now.shared).config.processors shares.old }
-    ensures shares { IfOk result (λ _. HaveGone (arc_value common.now.shared).config.processors shares.old shares.new) }
+    requires shares { AreNewShares (link_count (arc_value common.now.shared).config) (arc_value common.now.shared).config.processors shares.old }
+    ensures shares { IfOk result (λ _. HaveGone (link_count (arc_value common.now.shared).config) (arc_value common.now.shared).config.processors shares.old shares.new) }
     ensures made { let c = (arc_value common.now.shared).config in IfOk result (λ v. (p : Piping) → HaveProcessors c 0 p pipes.old → takers.items ≡ new_takers p.packets → HaveProcessors c c.processors p pipes.new × IsRest (IsWorkingThere c p) 0 c.processors v.items) }
 {
     let count = common.shared.config.processors;
@@ -91,7 +91,7 @@ pub fn slow_path_of<N: RunBrand>(
 ) -> Result<SlowPath<N>, AllocError>
     requires config { N.config ≡ Some (arc_value common.now.shared).config }
     requires pipes { (p : Piping) × HaveProcessors (arc_value common.now.shared).config (arc_value common.now.shared).config.processors p pipes.old × (taker ≡ taker_of p.requests) }
-    requires share { share ≡ new_share }
+    requires share { share ≡ new_share (link_count (arc_value common.now.shared).config + (arc_value common.now.shared).config.processors) }
     ensures { let c = (arc_value common.now.shared).config in IfOk result (λ a. (p : Piping) → HaveProcessors c c.processors p pipes.old → taker ≡ taker_of p.requests → HaveSlowPath c p pipes.new × IsAnsweringAt c p a) }
 {
     let processors = usize::from(common.shared.config.processors);

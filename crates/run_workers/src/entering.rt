@@ -2,7 +2,7 @@
 
 ghost use Rattle.std.specs.Prelude.{◌≡◌, ◌<◌, IfOk, [], Some, length};
 ghost use Rattle.std.specs.Arc.{arc_value};
-ghost use Rattle.packet_ledger.specs.Share.{new_share};
+ghost use Rattle.packet_ledger.specs.Share.{IsNew};
 ghost use Rattle.router_rules.specs.Links.{link_count};
 ghost use Rattle.worker_parts.specs.Outlets.{AreFresh};
 ghost use Rattle.run_ends.specs.Rows.{new_takers};
@@ -40,16 +40,16 @@ pub struct Entering<N: RunBrand> {
 impl<N: RunBrand> Model for Entering<N> {
     ghost use Rattle.std.specs.Prelude.{◌≡◌, ◌<◌, [], Some, length};
     ghost use Rattle.std.specs.Arc.{arc_value};
-    ghost use Rattle.packet_ledger.specs.Share.{new_share};
+    ghost use Rattle.packet_ledger.specs.Share.{IsNew};
     ghost use Rattle.router_rules.specs.Links.{link_count};
     ghost use Rattle.worker_parts.specs.Outlets.{AreFresh};
     ghost use Rattle.run_workers.specs.Kits.{Entry};
 
     ghost Value = { Entry };
 
-    ghost view = { λ e. record { config = (arc_value e.shared).config; link = e.link; free = e.free; processors = e.processors.items } };
+    ghost view = { λ e. record { config = (arc_value e.shared).config; link = e.link; free = e.free; processors = e.processors.items; share = e.share } };
 
-    ghost invariant = { λ e. (N.config ≡ Some (arc_value e.shared).config) × (e.link < link_count (arc_value e.shared).config) × (length e.processors.items ≡ (arc_value e.shared).config.processors) × AreFresh e.processors.items × (e.free.looks ≡ []) × (e.share ≡ new_share) };
+    ghost invariant = { λ e. (N.config ≡ Some (arc_value e.shared).config) × (e.link < link_count (arc_value e.shared).config) × (length e.processors.items ≡ (arc_value e.shared).config.processors) × AreFresh e.processors.items × (e.free.looks ≡ []) × IsNew e.share };
 }
 
 impl<N: RunBrand> Drop for Entering<N> {
@@ -100,9 +100,10 @@ fn entering_at<N: RunBrand>(
     requires link { link < link_count (arc_value common.now.shared).config }
     requires processors { AreFresh processors.items × (length processors.items ≡ (arc_value common.now.shared).config.processors) }
     requires free { free.looks ≡ [] }
-    requires share { share ≡ new_share }
+    requires share { IsNew share }
     ensures config { IfOk result (λ e. (e.config ≡ (arc_value common.now.shared).config) × (e.link ≡ link)) }
     ensures ends { IfOk result (λ e. (e.free ≡ free) × (e.processors ≡ processors.items)) }
+    ensures share { IfOk result (λ e. e.share ≡ share) }
 {
     let stop = Arc::try_clone(&common.stop)?;
     let shared = Arc::try_clone(&common.shared);
@@ -128,8 +129,8 @@ pub fn all_entering<N: RunBrand>(
 ) -> Result<Vec<Entering<N>>, AllocError>
     requires config { N.config ≡ Some (arc_value common.now.shared).config }
     requires pipes { (p : Piping) × HaveReceivers (arc_value common.now.shared).config 0 p pipes.old × (free.items ≡ new_takers p.free) }
-    requires shares { AreNewShares (link_count (arc_value common.now.shared).config) shares.old }
-    ensures shares { IfOk result (λ _. HaveGone (link_count (arc_value common.now.shared).config) shares.old shares.new) }
+    requires shares { AreNewShares 0 (link_count (arc_value common.now.shared).config) shares.old }
+    ensures shares { IfOk result (λ _. HaveGone 0 (link_count (arc_value common.now.shared).config) shares.old shares.new) }
     ensures made { let c = (arc_value common.now.shared).config in IfOk result (λ v. (p : Piping) → HaveReceivers c 0 p pipes.old → free.items ≡ new_takers p.free → HaveReceivers c (link_count c) p pipes.new × IsRest (IsEnteringAt c p) 0 (link_count c) v.items) }
 {
     let links = link_count(&common.shared.config);

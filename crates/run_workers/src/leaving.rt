@@ -1,8 +1,8 @@
 //! What forwarders are made of.
 
-ghost use Rattle.std.specs.Prelude.{◌≡◌, IfOk, [], Some, length, false};
+ghost use Rattle.std.specs.Prelude.{◌≡◌, ◌+◌, IfOk, [], Some, length, false};
 ghost use Rattle.std.specs.Arc.{arc_value};
-ghost use Rattle.packet_ledger.specs.Share.{new_share};
+ghost use Rattle.packet_ledger.specs.Share.{IsNew};
 ghost use Rattle.router_rules.specs.Links.{link_count};
 ghost use Rattle.worker_forwarder.specs.Forwarding.{band};
 ghost use Rattle.run_ends.specs.Rows.{new_takers};
@@ -38,15 +38,15 @@ pub struct Leaving<N: RunBrand> {
 impl<N: RunBrand> Model for Leaving<N> {
     ghost use Rattle.std.specs.Prelude.{◌≡◌, [], Some, false, length};
     ghost use Rattle.std.specs.Arc.{arc_value};
-    ghost use Rattle.packet_ledger.specs.Share.{new_share};
+    ghost use Rattle.packet_ledger.specs.Share.{IsNew};
     ghost use Rattle.router_rules.specs.Links.{link_count};
     ghost use Rattle.run_workers.specs.Kits.{Exit};
 
     ghost Value = { Exit };
 
-    ghost view = { λ e. record { config = (arc_value e.shared).config; link = e.link; low = e.low; high = e.high; free = e.free.items } };
+    ghost view = { λ e. record { config = (arc_value e.shared).config; link = e.link; low = e.low; high = e.high; free = e.free.items; share = e.share } };
 
-    ghost invariant = { λ e. (N.config ≡ Some (arc_value e.shared).config) × (e.low.taker.taken ≡ []) × (e.low.shut ≡ false) × (e.high.taker.taken ≡ []) × (e.high.shut ≡ false) × (length e.free.items ≡ link_count (arc_value e.shared).config) × (e.share ≡ new_share) };
+    ghost invariant = { λ e. (N.config ≡ Some (arc_value e.shared).config) × (e.low.taker.taken ≡ []) × (e.low.shut ≡ false) × (e.high.taker.taken ≡ []) × (e.high.shut ≡ false) × (length e.free.items ≡ link_count (arc_value e.shared).config) × IsNew e.share };
 }
 
 impl<N: RunBrand> Drop for Leaving<N> {
@@ -96,9 +96,10 @@ fn leaving_at<N: RunBrand>(
     requires low { (low.taken ≡ []) × (low.producers ≡ producers) }
     requires high { (high.taken ≡ []) × (high.producers ≡ producers) }
     requires free { length free.items ≡ link_count (arc_value shared).config }
-    requires share { share ≡ new_share }
+    requires share { IsNew share }
     ensures config { (result.config ≡ (arc_value shared).config) × (result.link ≡ link) }
     ensures free { result.free ≡ free.items }
+    ensures share { result.share ≡ share }
     ensures bands { (result.low ≡ band low false) × (result.high ≡ band high false) }
 {
     Leaving {
@@ -121,7 +122,7 @@ pub fn all_leaving<N: RunBrand>(
 ) -> Result<Vec<Leaving<N>>, AllocError>
     requires config { N.config ≡ Some (arc_value common.now.shared).config }
     requires pipes { (p : Piping) × HaveForwarders (arc_value common.now.shared).config 0 p pipes.old × (takers.items ≡ new_takers p.egress_packets) }
-    requires shares { AreNewShares (link_count (arc_value common.now.shared).config) shares.old }
+    requires shares { AreNewShares (link_count (arc_value common.now.shared).config + (arc_value common.now.shared).config.processors + 1) (link_count (arc_value common.now.shared).config) shares.old }
     ensures { let c = (arc_value common.now.shared).config in IfOk result (λ v. (p : Piping) → HaveForwarders c 0 p pipes.old → takers.items ≡ new_takers p.egress_packets → HaveForwarders c (link_count c) p pipes.new × IsRest (IsLeavingAt c p) 0 (link_count c) v.items) }
 {
     let links = link_count(&common.shared.config);

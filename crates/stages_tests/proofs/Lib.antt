@@ -1,2 +1,3 @@
 pub mod DatagramLemmas
 pub mod EndLemmas
+pub mod ShareLemmas

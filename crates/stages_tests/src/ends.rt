@@ -1,7 +1,7 @@
 //! The ends of new pipes, and new counts. Want of memory ends a test, as everywhere here.
 
 ghost use Rattle.std.specs.Prelude.{◌≡◌, ◌+◌, ◌<◌, ◌≤◌, [], All, length};
-ghost use Rattle.packet_ledger.specs.Share.{new_share};
+ghost use Rattle.packet_ledger.specs.Share.{IsNew as IsNewShare};
 ghost use Rattle.stages_tests.specs.NewEnds.{IsFresh, IsNew, IsUntaken};
 
 use crate::new_ends::{ends_of, next_producer};
@@ -52,10 +52,10 @@ pub fn pipe_of_one<T: Drop, R: Abort>(
 
 /// The next new counts.
 pub fn next_share<N: RunBrand>(shares: &mut Vec<Share<N>>) -> Share<N>
-    requires new { All (λ s. s ≡ new_share) shares.old.items }
+    requires new { All (λ s. IsNewShare s) shares.old.items }
     requires some { 0 < length shares.old.items }
-    ensures next { result ≡ new_share }
-    ensures rest { All (λ s. s ≡ new_share) shares.new.items }
+    ensures next { IsNewShare result }
+    ensures rest { All (λ s. IsNewShare s) shares.new.items }
     ensures fewer { length shares.new.items + 1 ≡ length shares.old.items }
 {
     match shares.pop() {

@@ -1,7 +1,7 @@
 //! What a worker that passes packets on is given.
 
 ghost use Rattle.std.specs.Prelude.{◌≡◌, length};
-ghost use Rattle.packet_ledger.specs.Share.{new_share};
+ghost use Rattle.packet_ledger.specs.Share.{IsNew};
 ghost use Rattle.worker_parts.specs.Outlets.{AreFresh};
 ghost use Rattle.stages_tests.specs.NewEnds.{IsFresh};
 
@@ -24,14 +24,14 @@ pub struct Seat<N: RunBrand> {
 
 impl<N: RunBrand> Model for Seat<N> {
     ghost use Rattle.std.specs.Prelude.{◌≡◌, length};
-    ghost use Rattle.packet_ledger.specs.Share.{new_share};
+    ghost use Rattle.packet_ledger.specs.Share.{IsNew};
     ghost use Rattle.worker_parts.specs.Outlets.{AreFresh};
 
     ghost Value = { Unit {0} };
 
     ghost view = { λ s. tt };
 
-    ghost invariant = { λ s. (length s.links.items ≡ 8) × AreFresh s.links.items × (length s.free.items ≡ 4) × (s.share ≡ new_share) };
+    ghost invariant = { λ s. (length s.links.items ≡ 8) × AreFresh s.links.items × (length s.free.items ≡ 4) × IsNew s.share };
 }
 
 // Ends of the pipes of four links: but for those of link 1 or 2, of a pipe that nobody empties.
@@ -82,7 +82,7 @@ pub fn new_seat<N: RunBrand, R: Abort>(
     share: Share<N>,
 ) -> Seat<N>
     requires ends { IsFresh low × IsFresh high }
-    requires share { share ≡ new_share }
+    requires share { IsNew share }
 {
     Seat {
         links: new_links(rt, alloc, link, low, high),

@@ -1,8 +1,8 @@
 //! The workers for datagrams from link 1, with ends of new pipes.
 
-ghost use Rattle.std.specs.Prelude.{◌≡◌, ◌<◌, ◌≤◌, Some, [], All, false, length};
+ghost use Rattle.std.specs.Prelude.{◌≡◌, ◌<◌, ◌≤◌, Some, [], length};
 ghost use Rattle.std.specs.Arc.{arc_value};
-ghost use Rattle.packet_ledger.specs.Share.{new_share};
+ghost use Rattle.packet_ledger.specs.Share.{AreNew, IsNew};
 ghost use Rattle.worker_order.specs.Heard.{ToldNothing};
 ghost use Rattle.router_rules.specs.Links.{link_count};
 ghost use Rattle.stages_tests.specs.NewEnds.{IsFresh};
@@ -50,7 +50,7 @@ fn receiver<N: RunBrand, S: Source + Drop, R: Abort>(
     requires small { (link_count (arc_value shared.now).config ≡ 4) × ((arc_value shared.now).config.processors ≡ 1) }
     requires free { free.looks ≡ [] }
     requires processor { IsFresh processor }
-    requires share { share ≡ new_share }
+    requires share { IsNew share }
     requires untold { ToldNothing (S.told source) }
 {
     let shared = share_of(rt, shared);
@@ -117,7 +117,7 @@ fn forwarder<N: RunBrand, K: Sink + Drop, R: Abort>(
     requires config { N.config ≡ Some (arc_value shared.now).config }
     requires small { link_count (arc_value shared.now).config ≡ 4 }
     requires bands { IsNewBand low × IsNewBand high }
-    requires share { share ≡ new_share }
+    requires share { IsNew share }
     requires untold { ToldNothing (K.told sink) }
 {
     let shared = share_of(rt, shared);
@@ -147,7 +147,7 @@ pub fn start<N: RunBrand, S: Source + Drop, K: Sink + Drop, R: Abort + Wait>(
     requires small { (link_count (arc_value shared.now).config ≡ 4) × ((arc_value shared.now).config.processors ≡ 1) }
     requires capacity { (0 < sizes.capacity) × (sizes.capacity ≤ 65536) }
     requires untold { ToldNothing (S.told source) × ToldNothing (K.told sink) }
-    requires shares { All (λ s. s ≡ new_share) shares.items × (length shares.items ≡ 4) }
+    requires shares { AreNew 0 shares.items × (length shares.items ≡ 4) }
 {
     let mut shares = shares;
     let (mut frees, free) = pipe_of::<Buffer, R>(rt, alloc, BUFFERS, 4);

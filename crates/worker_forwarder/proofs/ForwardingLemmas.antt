@@ -1,6 +1,6 @@
 -- One turn of a forwarder keeps its law.
 use Rattle.std.proofs.Common.{◌≡◌, inl, inr, ℕ, ◌+◌, ◌||◌, min, Bool, true, false, List, [], Option, Some, None, refl, sym, ap, subst, ◌∙◌, arith}
-use Rattle.packet_ledger.specs.Share.{Held, IsPosted, new_share}
+use Rattle.packet_ledger.specs.Share.{Held, IsNew, IsPosted}
 use Rattle.order_laws.specs.Item.{Outgoing}
 use Rattle.order_laws.specs.Deeds as deeds
 use Rattle.order_laws.specs.Deeds.{payload_of}
@@ -109,9 +109,9 @@ module _ {K : Type 0} (told : K → Option (List Told)) (failed : K → ℕ) (lo
 
 -- nothing was taken yet
 pub keeps_first : {K : Type 0} (told : K → Option (List Told)) (failed : K → ℕ) (low high : Band) (began : ℕ) (side : Delivery K) → (low.taker.taken ≡ []) × (low.shut ≡ false) → (high.taker.taken ≡ []) × (high.shut ≡ false)
-    → side.share ≡ new_share → began ≡ failed side.sink → ToldNothing (told side.sink) → KeepsForwarding told failed low high began side
+    → IsNew side.share → began ≡ failed side.sink → ToldNothing (told side.sink) → KeepsForwarding told failed low high began side
 keeps_first told failed low high began side no_low no_high unraised count untold =
-    let first = forwards_first told_of low.taker high.taker (told side.sink) began no_low.0 no_high.0 untold in
+    let first = forwards_first told_of side.share.place low.taker high.taker (told side.sink) began no_low.0 no_high.0 untold in
     let P : Bool → Bool → ℕ → Held → Type 0 = λ l h f s. IsForwarding told_of low.taker high.taker l h (told side.sink) began f s in
     subst (λ (l : Bool). P l high.shut (failed side.sink) side.share) (sym no_low.1)
     (subst (λ (h : Bool). P false h (failed side.sink) side.share) (sym no_high.1) (subst (λ (f : ℕ). P false false f side.share) count (subst (λ (s : Held). P false false began s) (sym unraised) first)))

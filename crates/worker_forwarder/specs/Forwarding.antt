@@ -1,6 +1,6 @@
 -- What contracts see of a forwarder, and what a turn does.
 use Rattle.std.specs.Prelude.{◌≡◌, ◌⊎◌, ◌+◌, ◌-◌, ◌^◌, ◌<◌, ◌≤◌, ◌||◌, ℕ, Bool, true, false, List, Option, Some, None, if◌then◌else◌}
-use Rattle.packet_ledger.specs.Share.{Held, new_share}
+use Rattle.packet_ledger.specs.Share.{Held}
 use Rattle.order_laws.specs.Item.{Outgoing}
 use Rattle.order_laws.specs.Cause.{Cause as Fate}
 use Rattle.process_packet.specs.declared.config.Config.{Config}
@@ -136,8 +136,8 @@ module _ {K : Type 0} where
   abbrev pub with_share : Held → Delivery K → Delivery K
   with_share share d = record { config = d.config; sink = d.sink; free = d.free; share = share }
 
-  abbrev pub first_delivery : Config → K → List (Sender (List ℕ)) → Delivery K
-  first_delivery c sink free = record { config = c; sink = sink; free = free; share = new_share }
+  abbrev pub first_delivery : Config → K → List (Sender (List ℕ)) → Held → Delivery K
+  first_delivery c sink free share = record { config = c; sink = sink; free = free; share = share }
 
   abbrev pub first_forwarding : ℕ → Band → Band → ℕ → Delivery K → Forwarding K
   first_forwarding link low high began side = record { link = link; low = low; high = high; began = began; side = side }

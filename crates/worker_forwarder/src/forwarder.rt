@@ -2,7 +2,7 @@
 
 ghost use Rattle.std.specs.Prelude.{◌≡◌, [], false, MatchBool, Some, length};
 ghost use Rattle.std.specs.Arc.{arc_value};
-ghost use Rattle.packet_ledger.specs.Share.{new_share};
+ghost use Rattle.packet_ledger.specs.Share.{IsNew};
 ghost use Rattle.worker_order.specs.Heard.{ToldNothing};
 ghost use Rattle.worker_order.specs.Keeping.{IsForwarding};
 ghost use Rattle.router_rules.specs.Links.{link_count};
@@ -78,9 +78,9 @@ impl<N: RunBrand, K: Sink> Forwarder<N, K> {
         requires low { (low.taker.taken ≡ []) × (low.shut ≡ false) }
         requires high { (high.taker.taken ≡ []) × (high.shut ≡ false) }
         requires free { length free.items ≡ link_count (arc_value shared).config }
-        requires share { share ≡ new_share }
+        requires share { IsNew share }
         requires untold { ToldNothing (K.told sink) }
-        ensures { result ≡ first_forwarding link low high (K.failed sink) (first_delivery (arc_value shared).config sink free.items) }
+        ensures { result ≡ first_forwarding link low high (K.failed sink) (first_delivery (arc_value shared).config sink free.items share) }
     {
         let began = sink.failures();
         let delivery = Delivery {
@@ -217,5 +217,5 @@ impl<N: RunBrand, K: Sink> Turns<Book<N>> for Forwarder<N, K> {
 
     ghost wait_keeps = { λ waited x y is. forwarder_as K.same K.same_self x y is.1 };
 
-    ghost post_keeps = { λ x y is. (forwarder_posted K.same K.same_self x y is.1, λ ended. forwarder_still x y is.1 ended, posted_drains x.side.share y.side.share is.0) };
+    ghost post_keeps = { λ x y is. (forwarder_posted K.same K.same_self x y is.0 is.1, λ ended. forwarder_still x y is.1 ended, posted_drains x.side.share y.side.share is.0) };
 }

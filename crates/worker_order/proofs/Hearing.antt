@@ -38,16 +38,16 @@ one_deed share all raised ks e is = subst (λ xs. Counts (raise_all ks share) xs
 
 module _ (c : Config) (link interface : ℕ) where
   -- nothing is received yet
-  pub hears_none : (told : Option (List Heard)) (senders : List (Sender (Arrival kinds))) → ToldNothing told → ((i : ℕ) (s : Sender (Arrival kinds)) → slice_get senders i ≡ Some s → (s.offers ≡ []) × (s.refusals ≡ []))
-      → IsReceiving c link interface 0 told [] senders new_share
-  hears_none told senders untold fresh = record {
+  pub hears_none : (place : ℕ) (told : Option (List Heard)) (senders : List (Sender (Arrival kinds))) → ToldNothing told → ((i : ℕ) (s : Sender (Arrival kinds)) → slice_get senders i ≡ Some s → (s.offers ≡ []) × (s.refusals ≡ []))
+      → IsReceiving c link interface 0 told [] senders (new_share place)
+  hears_none place told senders untold fresh = record {
     log = [];
     law = receives_none (rules c) link senders fresh;
     stands = tt;
     count = refl;
     tells = λ hs e. ap (given link interface 1) (untold hs e);
     lacked = refl;
-    counts = counts_none;
+    counts = counts_none place;
   }
 
   module _ (number : ℕ) (told told' : Option (List Heard)) (looks looks' : List ℕ) (old new : List (Sender (Arrival kinds))) (share : Held) where

@@ -32,9 +32,9 @@ use Rattle.worker_order.proofs.Hearing.{one_deed}
 module _ (c : Config) where
   -- ---- a processor
 
-  pub works_none : (taker : Taker (Arrival kinds)) (senders : List (Sender (Outgoing kinds))) (slow : Sender (SlowPathRequest kinds)) → taker.taken ≡ []
-      → ((j : ℕ) (s : Sender (Outgoing kinds)) → slice_get senders j ≡ Some s → (s.offers ≡ []) × (s.refusals ≡ [])) → (slow.offers ≡ []) × (slow.refusals ≡ []) → IsWorking c taker None senders slow new_share
-  works_none taker senders slow untaken fresh asks = record { log = []; law = keeps_none (rules c) taker senders slow untaken fresh asks; counts = counts_none }
+  pub works_none : (place : ℕ) (taker : Taker (Arrival kinds)) (senders : List (Sender (Outgoing kinds))) (slow : Sender (SlowPathRequest kinds)) → taker.taken ≡ []
+      → ((j : ℕ) (s : Sender (Outgoing kinds)) → slice_get senders j ≡ Some s → (s.offers ≡ []) × (s.refusals ≡ [])) → (slow.offers ≡ []) × (slow.refusals ≡ []) → IsWorking c taker None senders slow (new_share place)
+  works_none place taker senders slow untaken fresh asks = record { log = []; law = keeps_none (rules c) taker senders slow untaken fresh asks; counts = counts_none place }
 
   module _ (taker : Taker (Arrival kinds)) (old new : List (Sender (Outgoing kinds))) (slow slow' : Sender (SlowPathRequest kinds)) (share : Held) where
     -- a packet is taken in hand
@@ -63,9 +63,9 @@ module _ (c : Config) where
 
   -- ---- the slow path
 
-  pub slow_none : (taker : Taker (SlowPathRequest kinds)) (senders : List (Sender (Outgoing kinds))) → taker.taken ≡ [] → ((j : ℕ) (s : Sender (Outgoing kinds)) → slice_get senders j ≡ Some s → (s.offers ≡ []) × (s.refusals ≡ []))
-      → IsAnswering c taker senders new_share
-  slow_none taker senders untaken fresh = record { log = []; law = answers_none (rules c) taker senders untaken fresh; counts = counts_none }
+  pub slow_none : (place : ℕ) (taker : Taker (SlowPathRequest kinds)) (senders : List (Sender (Outgoing kinds))) → taker.taken ≡ [] → ((j : ℕ) (s : Sender (Outgoing kinds)) → slice_get senders j ≡ Some s → (s.offers ≡ []) × (s.refusals ≡ []))
+      → IsAnswering c taker senders (new_share place)
+  slow_none place taker senders untaken fresh = record { log = []; law = answers_none (rules c) taker senders untaken fresh; counts = counts_none place }
 
   module _ (taker : Taker (SlowPathRequest kinds)) (old new : List (Sender (Outgoing kinds))) (share : Held) where
     -- a request is taken and worked on
@@ -94,17 +94,17 @@ module _ (c : Config) where
 pushes_more : (es : List (Entry (Outgoing kinds))) (e : Entry (Outgoing kinds)) → pushes (es ++ e ∷ []) ≡ pushes es ++ pushed_in e ∷ []
 pushes_more es e = map-append pushed_in es (e ∷ [])
 
-pub forwards_first : {T : Type 0} (shows : Handed kinds → T) (low high : Taker (Outgoing kinds)) (told : Option (List T)) (began : ℕ) → low.taken ≡ [] → high.taken ≡ [] → ToldNothing told → IsForwarding shows low high false false told began began new_share
-forwards_first shows low high told began no_low no_high untold = record {
+pub forwards_first : {T : Type 0} (shows : Handed kinds → T) (place : ℕ) (low high : Taker (Outgoing kinds)) (told : Option (List T)) (began : ℕ) → low.taken ≡ [] → high.taken ≡ [] → ToldNothing told → IsForwarding shows low high false false told began began (new_share place)
+forwards_first shows place low high told began no_low no_high untold = record {
   went = [];
   law =
       let P : List (Entry (Outgoing kinds)) → Type 0 = λ es. KeepsForwarder shows [] (pushes es) (pushes high.taken) false false told began began in
       let Q : List (Entry (Outgoing kinds)) → Type 0 = λ es. KeepsForwarder shows [] [] (pushes es) false false told began began in
       subst P (sym no_low) (subst Q (sym no_high) (forwards_none shows told began untold));
   counts =
-      let P : List (Entry (Outgoing kinds)) → Type 0 = λ es. Counts new_share (counted_forwarding [] (pushes es) (pushes high.taken)) in
-      let Q : List (Entry (Outgoing kinds)) → Type 0 = λ es. Counts new_share (counted_forwarding [] [] (pushes es)) in
-      subst P (sym no_low) (subst Q (sym no_high) counts_none);
+      let P : List (Entry (Outgoing kinds)) → Type 0 = λ es. Counts (new_share place) (counted_forwarding [] (pushes es) (pushes high.taken)) in
+      let Q : List (Entry (Outgoing kinds)) → Type 0 = λ es. Counts (new_share place) (counted_forwarding [] [] (pushes es)) in
+      subst P (sym no_low) (subst Q (sym no_high) (counts_none place));
 }
 
 -- one count more, where it was raised once more

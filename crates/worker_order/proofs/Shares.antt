@@ -137,6 +137,17 @@ counts_all share raised (k ∷ ks) is = subst (λ xs. Counts (raise_all ks (rais
     append_one [] k ks = refl
     append_one (x ∷ xs) k ks = ap (λ (l : List (Count kinds)). x ∷ l) (append_one xs k ks)
 
+-- the share's place stays
+pub raised_place : (k : Count kinds) (share : Held) → (raise k share).place ≡ share.place
+raised_place Received share = refl
+raised_place Sent share = refl
+raised_place Replied share = refl
+raised_place (Dropped c) share = refl
+
+pub all_place : (ks : List (Count kinds)) (share : Held) → (raise_all ks share).place ≡ share.place
+all_place [] share = refl
+all_place (k ∷ ks) share = all_place ks (raise k share) ∙ raised_place k share
+
 -- only how often each count was raised is told
 pub counts_same : (share : Held) (raised others : List (Count kinds)) → ((i : ℕ) → times i others ≡ times i raised) → Counts share raised → Counts share others
 counts_same share raised others same is = record { each = λ i. is.each i ∙ sym (same i); held = is.held; booked = is.booked }
@@ -152,8 +163,8 @@ nothing_at (suc (suc (suc k))) = none causes k
     none (suc n) zero = refl
     none (suc n) (suc k) = none n k
 
-pub counts_none : Counts new_share []
-counts_none = record { each = λ i. let n = nothing_at i in omega arith; held = refl; booked = refl }
+pub counts_none : (place : ℕ) → Counts (new_share place) []
+counts_none place = record { each = λ i. let n = nothing_at i in omega arith; held = refl; booked = refl }
 
 -- a post changes nothing of what was ever counted
 pub counts_posted : (share : Held) (raised : List (Count kinds)) → Counts share raised → Counts (emptied share) raised

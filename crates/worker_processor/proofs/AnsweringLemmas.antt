@@ -1,6 +1,6 @@
 -- One turn of the slow path keeps its law.
 use Rattle.std.proofs.Common.{◌≡◌, inl, inr, ℕ, ◌<◌, Bool, List, [], length, Option, Some, refl, sym, ap, subst, ◌∙◌, arith}
-use Rattle.packet_ledger.specs.Share.{Held, IsPosted, new_share}
+use Rattle.packet_ledger.specs.Share.{Held, IsNew, IsPosted}
 use Rattle.order_laws.specs.Item.{Outgoing}
 use Rattle.order_laws.specs.Rules.{Rules, Reply, Replies, Withholds}
 use Rattle.order_laws.specs.Deeds.{payload_of, Accepted, Refused, Counted}
@@ -77,10 +77,10 @@ module _ (q : SlowPathRequest kinds) (old : Leaving) (some : 0 < length old.link
   after_open (Withholds why) new d = (same_open new (ap (λ (n : Leaving). n.links) d.1), ap (λ (n : Leaving). n.config) d.1)
 
 -- nothing was taken yet
-pub keeps_first : (named : Option Config) (taker : Taker (SlowPathRequest kinds)) (side : Leaving) → named ≡ Some side.config → taker.taken ≡ [] → AreFresh side.links → side.share ≡ new_share → KeepsAnswering named taker side
+pub keeps_first : (named : Option Config) (taker : Taker (SlowPathRequest kinds)) (side : Leaving) → named ≡ Some side.config → taker.taken ≡ [] → AreFresh side.links → IsNew side.share → KeepsAnswering named taker side
 keeps_first named taker side config untaken fresh unraised = record {
   config = config;
-  law = subst (λ (s : Held). IsAnswering side.config taker (senders side.links) s) (sym unraised) (slow_none side.config taker (senders side.links) untaken (fresh_senders side.links fresh));
+  law = subst (λ (s : Held). IsAnswering side.config taker (senders side.links) s) (sym unraised) (slow_none side.config side.share.place taker (senders side.links) untaken (fresh_senders side.links fresh));
   unended = λ lt. fresh_open side.links fresh;
 }
 

@@ -1,6 +1,6 @@
 -- One turn of a processor keeps its law.
 use Rattle.std.proofs.Common.{◌≡◌, inl, inr, ℕ, ◌+◌, ◌*◌, ◌<◌, Bool, false, cond, ◌&&◌, List, [], ◌∷◌, length, Option, Some, None, is_some, refl, sym, ap, subst, ◌∙◌, arith}
-use Rattle.packet_ledger.specs.Share.{Held, IsPosted, new_share}
+use Rattle.packet_ledger.specs.Share.{Held, IsNew, IsPosted}
 use Rattle.order_laws.specs.Item.{Arrival, Outgoing, Out}
 use Rattle.order_laws.specs.Rules.{Rules, Decision, Sends, Asks, Drops}
 use Rattle.order_laws.specs.Pipes.{home, slow_seat}
@@ -177,11 +177,11 @@ nobody None e = refl
 nobody (Some x) e = absurd cc
 
 -- nothing was taken yet
-pub keeps_first : (named : Option Config) (taker : Taker (Arrival kinds)) (slow : Offering (SlowPathRequest kinds)) (side : Leaving) → named ≡ Some side.config → taker.taken ≡ [] → AreFresh side.links → AreFresh (slow ∷ []) → side.share ≡ new_share
+pub keeps_first : (named : Option Config) (taker : Taker (Arrival kinds)) (slow : Offering (SlowPathRequest kinds)) (side : Leaving) → named ≡ Some side.config → taker.taken ≡ [] → AreFresh side.links → AreFresh (slow ∷ []) → IsNew side.share
     → KeepsWorking named taker None slow side
 keeps_first named taker slow side config untaken fresh asks unraised = record {
   config = config;
-  law = subst (λ (s : Held). IsWorking side.config taker None (senders side.links) slow.sender s) (sym unraised) (works_none side.config taker (senders side.links) slow.sender untaken (fresh_senders side.links fresh) (asks.1, asks.2));
+  law = subst (λ (s : Held). IsWorking side.config taker None (senders side.links) slow.sender s) (sym unraised) (works_none side.config side.share.place taker (senders side.links) slow.sender untaken (fresh_senders side.links fresh) (asks.1, asks.2));
   unended = λ lt. (fresh_open side.links fresh, asks.0);
   busy = λ x e. absurd cc;
 }

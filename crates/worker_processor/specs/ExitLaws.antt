@@ -7,6 +7,8 @@ use Rattle.order_laws.specs.Settled.{SlowPathRequest}
 use Rattle.process_packet.specs.declared.cause.Cause.{Cause}
 use Rattle.process_packet.specs.declared.cause.Cause.TheVariants as cause
 use Rattle.process_packet.specs.declared.config.Config.{Config}
+use Rattle.packet_ledger.specs.Share.{IsPosted}
+use Rattle.packet_ledger.proofs.Posting.{posted_place}
 use Rattle.router_rules.specs.Links.{has_two_bands}
 use Rattle.router_rules.specs.Rules.{decided, is_urgent, kinds, replied}
 use Rattle.router_rules.specs.declared.worker.Worker.{Worker}
@@ -38,13 +40,14 @@ used_pipe c o = go (has_two_bands c o.link) (is_urgent o.parcel.bytes) refl
     go true false e = ap (are_used c) (let z : 2 * o.link + 0 ≡ 2 * o.link = omega arith in z) ∙ used_low (has_two_bands c) o.link
     go false urgent e = ap (are_used c) (let z : 2 * o.link + 0 ≡ 2 * o.link = omega arith in z) ∙ used_low (has_two_bands c) o.link
 
--- the same ends, and nothing else is asked of the buffers' pipes and counts
+-- the same ends, and the same row in the book; nothing else is asked of the buffers' pipes and counts
 record IsSameSide (old new : Leaving) : Type 0 where
   config : new.config ≡ old.config
   links : AreSameEnds (are_used old.config) old.links new.links
+  place : new.share.place ≡ old.share.place
 
 side_self : (s : Leaving) → IsSameSide s s
-side_self s = record { config = refl; links = ends_self (are_used s.config) s.links }
+side_self s = record { config = refl; links = ends_self (are_used s.config) s.links; place = refl }
 
 side_as : (old new : Leaving) → new ≡ old → IsSameSide old new
 side_as old new e = subst (λ (s : Leaving). IsSameSide old s) (sym e) (side_self old)
@@ -53,12 +56,14 @@ side_then : (a b c : Leaving) → IsSameSide a b → IsSameSide b c → IsSameSi
 side_then a b c p q = record {
   config = q.config ∙ p.config;
   links = ends_then (are_used a.config) a.links b.links c.links p.links (subst (λ (g : Config). AreSameEnds (are_used g) b.links c.links) p.config q.links);
+  place = q.place ∙ p.place;
 }
 
 drop_same : (link : ℕ) (why : Cause) (old new : Leaving) → DroppedAs link why old new → IsSameSide old new
 drop_same link why old new is = record {
   config = ap (λ (s : Leaving). s.config) is.1;
   links = ends_as (are_used old.config) old.links new.links (ap (λ (s : Leaving). s.links) is.1);
+  place = ap (λ (s : Leaving). s.share.place) is.1;
 }
 
 module _ (id : TableId) where
@@ -66,11 +71,13 @@ module _ (id : TableId) where
   sent_same o old new (inl is) = record {
     config = ap (λ (s : Leaving). s.config) is.1;
     links = gave_same id (are_used old.config) (pipe_for old.config o) o old.links new.links (used_pipe old.config o) is.0;
+    place = ap (λ (s : Leaving). s.share.place) is.1;
   }
   sent_same o old new (inr is) =
       let d = drop_same o.arrived cause.LinkFull (with_links new.links old) new is.1 in record {
         config = d.config;
         links = kept_same id (are_used old.config) (pipe_for old.config o) o old.links new.links (used_pipe old.config o) is.0;
+        place = d.place;
       }
 
   asked_same : (q : SlowPathRequest kinds) (old new : Leaving) (slow slow' : Offering (SlowPathRequest kinds)) → AskedAs q old new slow slow' → IsSameSide old new × IsSameEnd slow.sender slow'.sender
@@ -94,11 +101,11 @@ module _ {G : Type 0} where
 
   -- another state of its pipe and hand
   takes_same : (t : Taker (Arrival kinds)) (hand : Option (Arrival kinds)) (w : Working G) → IsSameTaker w.taker t → IsSameProcessor w (with_taker t hand w)
-  takes_same t hand w is = record { config = refl; index = refl; taker = is; slow = end_self w.slow.sender; links = ends_self (are_used w.side.config) w.side.links }
+  takes_same t hand w is = record { config = refl; index = refl; taker = is; slow = end_self w.slow.sender; links = ends_self (are_used w.side.config) w.side.links; place = refl }
 
   -- its own ends
   parts_same : (old new : Working G) → new.index ≡ old.index → IsSameTaker old.taker new.taker → IsSameEnd old.slow.sender new.slow.sender → IsSameSide old.side new.side → IsSameProcessor old new
-  parts_same old new index taker slow side = record { config = side.config; index = index; taker = taker; slow = slow; links = side.links }
+  parts_same old new index taker slow side = record { config = side.config; index = index; taker = taker; slow = slow; links = side.links; place = side.place }
 
   module _ (answers : G → Worker → ℕ → ℕ → Bool → Type 0) where
     works_same : (turn : Turn) (x : Arrival kinds) (old new : Working G) → WorksOn answers turn x old new → IsSameProcessor old new
@@ -129,7 +136,7 @@ module _ {G : Type 0} where
       worked_same turn (inr (inl is)) =
           let e = is.2 in let tried = e.1 in let same = e.2 in
           parts_same old new (ap (λ (w : Working G). w.index) same) (subst (λ (t : Taker (Arrival kinds)). IsSameTaker old.taker t) (sym (ap (λ (w : Working G). w.taker) same)) (taker_self old.taker)) (mark_same old.slow new.slow e.0)
-          (record { config = ap (λ (w : Working G). w.side.config) same; links = tried_same (are_used old.side.config) old.side.links new.side.links tried.1.tried })
+          (record { config = ap (λ (w : Working G). w.side.config) same; links = tried_same (are_used old.side.config) old.side.links new.side.links tried.1.tried; place = ap (λ (w : Working G). w.side.share.place) same })
       worked_same turn (inr (inr is)) = took_same turn old new is.2
 
       pub worked_ended : Worked answers Ended old new → ProcessorEnded new
@@ -144,10 +151,10 @@ module _ {G : Type 0} where
           }
       worked_ended (inr (inr is)) = absurd (took_on old new is.2)
 
-  pub processor_posted : (old new : Working G) → new ≡ working.posted new.side.share old → IsSameProcessor old new
-  processor_posted old new e =
+  pub processor_posted : (old new : Working G) → IsPosted old.side.share new.side.share → new ≡ working.posted new.side.share old → IsSameProcessor old new
+  processor_posted old new is e =
       subst (λ (w : Working G). IsSameProcessor old w) (sym e)
-      (record { config = refl; index = refl; taker = taker_self old.taker; slow = end_self old.slow.sender; links = ends_self (are_used old.side.config) old.side.links })
+      (record { config = refl; index = refl; taker = taker_self old.taker; slow = end_self old.slow.sender; links = ends_self (are_used old.side.config) old.side.links; place = posted_place old.side.share new.side.share is })
 
   pub processor_still : (old new : Working G) → new ≡ working.posted new.side.share old → ProcessorEnded old → ProcessorEnded new
   processor_still old new e is = subst (λ (w : Working G). ProcessorEnded w) (sym e) (record { done = is.done; hand = is.hand; slow = is.slow; links = is.links })
@@ -158,7 +165,7 @@ pub slow_as : (old new : Answering) → new ≡ old → IsSameSlowPath old new
 slow_as old new e = subst (λ (a : Answering). IsSameSlowPath old a) (sym e) (slow_self old)
 
 slow_parts : (old new : Answering) → IsSameTaker old.taker new.taker → IsSameSide old.side new.side → IsSameSlowPath old new
-slow_parts old new taker side = record { config = side.config; taker = taker; links = side.links }
+slow_parts old new taker side = record { config = side.config; taker = taker; links = side.links; place = side.place }
 
 request_same : (turn : Turn) (old new : Answering) → TakesRequest turn old new → IsSameSlowPath old new
 request_same turn old new (inl is) = subst (λ (a : Answering). IsSameSlowPath old a) (sym is.1) (slow_parts old _ (refl, refl, refl) (side_self old.side))
@@ -176,7 +183,7 @@ pub answered_same : (turn : Turn) (old new : Answering) → Answered turn old ne
 answered_same turn old new (inl is) =
     let tried = is.1.1 in let same = is.1.3 in
     slow_parts old new (subst (λ (t : Taker (SlowPathRequest kinds)). IsSameTaker old.taker t) (sym (ap (λ (a : Answering). a.taker) same)) (taker_self old.taker))
-    (record { config = ap (λ (a : Answering). a.side.config) same; links = tried_same (are_used old.side.config) old.side.links new.side.links tried.tried })
+    (record { config = ap (λ (a : Answering). a.side.config) same; links = tried_same (are_used old.side.config) old.side.links new.side.links tried.tried; place = ap (λ (a : Answering). a.side.share.place) same })
 answered_same turn old new (inr is) = request_same turn old new is.1
 
 pub answered_ended : (old new : Answering) → Answered Ended old new → SlowPathEnded new
@@ -189,8 +196,10 @@ answered_ended old new (inl is) =
     }
 answered_ended old new (inr is) = absurd (request_on old new is.1)
 
-pub slow_posted : (old new : Answering) → new ≡ answering.posted new.side.share old → IsSameSlowPath old new
-slow_posted old new e = subst (λ (a : Answering). IsSameSlowPath old a) (sym e) (record { config = refl; taker = taker_self old.taker; links = ends_self (are_used old.side.config) old.side.links })
+pub slow_posted : (old new : Answering) → IsPosted old.side.share new.side.share → new ≡ answering.posted new.side.share old → IsSameSlowPath old new
+slow_posted old new is e =
+    subst (λ (a : Answering). IsSameSlowPath old a) (sym e)
+    (record { config = refl; taker = taker_self old.taker; links = ends_self (are_used old.side.config) old.side.links; place = posted_place old.side.share new.side.share is })
 
 pub slow_still : (old new : Answering) → new ≡ answering.posted new.side.share old → SlowPathEnded old → SlowPathEnded new
 slow_still old new e is = subst (λ (a : Answering). SlowPathEnded a) (sym e) (record { done = is.done; links = is.links })

@@ -1,6 +1,6 @@
 -- What contracts see of a processor, and what a turn does.
 use Rattle.std.specs.Prelude.{◌≡◌, ◌⊎◌, ◌<◌, ◌&&◌, ℕ, Bool, true, false, List, Option, Some, None}
-use Rattle.packet_ledger.specs.Share.{Held, new_share}
+use Rattle.packet_ledger.specs.Share.{Held}
 use Rattle.order_laws.specs.Item.{Arrival, Outgoing}
 use Rattle.order_laws.specs.Rules.{Decision, Sends, Asks, Drops}
 use Rattle.order_laws.specs.Settled.{SlowPathRequest}
@@ -39,8 +39,8 @@ out x l y = record { arrived = x.link; number = x.number; answer = false; link =
 abbrev pub AskedAs : SlowPathRequest kinds → Leaving → Leaving → Offering (SlowPathRequest kinds) → Offering (SlowPathRequest kinds) → Type 0
 AskedAs q old new slow slow' = ((slow' ≡ gave slow q) × (new ≡ old)) ⊎ ((slow' ≡ kept slow q) × DroppedAs q.arrival.link cause.AnswerFull old new)
 
-abbrev pub first_leaving : Config → List (Offering (Outgoing kinds)) → List (Sender (List ℕ)) → Leaving
-first_leaving c links free = record { config = c; links = links; free = free; share = new_share }
+abbrev pub first_leaving : Config → List (Offering (Outgoing kinds)) → List (Sender (List ℕ)) → Held → Leaving
+first_leaving c links free share = record { config = c; links = links; free = free; share = share }
 
 -- what the decision makes of a packet: it is offered to its leaving link's pipe, or asked about, or dropped; what a full pipe
 -- refuses is dropped

@@ -2,7 +2,7 @@
 
 ghost use Rattle.std.specs.Prelude.{◌≡◌, ◌&&◌, ◌*◌, ◌∷◌, true, Some, [], is_some, length};
 ghost use Rattle.std.specs.Arc.{arc_value};
-ghost use Rattle.packet_ledger.specs.Share.{HasRoom, new_share};
+ghost use Rattle.packet_ledger.specs.Share.{HasRoom, IsNew};
 ghost use Rattle.worker_order.specs.Keeping.{IsWorking};
 ghost use Rattle.worker_parts.specs.Turn.{ending};
 ghost use Rattle.worker_processor.specs.Working.{EndsWorking, IsDone, WorksFor, first_leaving, first_working};
@@ -91,8 +91,8 @@ impl<N: RunBrand, G: Gate> Processor<N, G> {
         requires links { (length links.items ≡ 2 * link_count (arc_value shared).config) × AreFresh links.items }
         requires slow { AreFresh (slow ∷ []) }
         requires free { length free.items ≡ link_count (arc_value shared).config }
-        requires share { share ≡ new_share }
-        ensures { result ≡ first_working (arc_value gate) index from slow (first_leaving (arc_value shared).config links.items free.items) }
+        requires share { IsNew share }
+        ensures { result ≡ first_working (arc_value gate) index from slow (first_leaving (arc_value shared).config links.items free.items share) }
     {
         let exits = Exits {
             shared,
@@ -241,5 +241,5 @@ impl<N: RunBrand, G: Gate> Turns<Book<N>> for Processor<N, G> {
 
     ghost wait_keeps = { λ waited x y is. processor_as x y is.1 };
 
-    ghost post_keeps = { λ x y is. (processor_posted x y is.1, λ ended. processor_still x y is.1 ended, posted_drains x.side.share y.side.share is.0) };
+    ghost post_keeps = { λ x y is. (processor_posted x y is.0 is.1, λ ended. processor_still x y is.1 ended, posted_drains x.side.share y.side.share is.0) };
 }

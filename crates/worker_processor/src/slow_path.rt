@@ -2,7 +2,7 @@
 
 ghost use Rattle.std.specs.Prelude.{◌≡◌, ◌*◌, ◌<◌, Some, [], length};
 ghost use Rattle.std.specs.Arc.{arc_value};
-ghost use Rattle.packet_ledger.specs.Share.{new_share};
+ghost use Rattle.packet_ledger.specs.Share.{IsNew};
 ghost use Rattle.worker_order.specs.Keeping.{IsAnswering};
 ghost use Rattle.router_rules.specs.Links.{link_count};
 ghost use Rattle.worker_processor.specs.Answering.{EndsAnswering, IsDone, first_answering};
@@ -66,8 +66,8 @@ impl<N: RunBrand> SlowPath<N> {
         requires from { from.taken ≡ [] }
         requires links { (length links.items ≡ 2 * link_count (arc_value shared).config) × AreFresh links.items }
         requires free { length free.items ≡ link_count (arc_value shared).config }
-        requires share { share ≡ new_share }
-        ensures { result ≡ first_answering from (first_leaving (arc_value shared).config links.items free.items) }
+        requires share { IsNew share }
+        ensures { result ≡ first_answering from (first_leaving (arc_value shared).config links.items free.items share) }
     {
         let exits = Exits {
             shared,
@@ -179,5 +179,5 @@ impl<N: RunBrand> Turns<Book<N>> for SlowPath<N> {
 
     ghost wait_keeps = { λ waited x y is. slow_as x y is.1 };
 
-    ghost post_keeps = { λ x y is. (slow_posted x y is.1, λ ended. slow_still x y is.1 ended, posted_drains x.side.share y.side.share is.0) };
+    ghost post_keeps = { λ x y is. (slow_posted x y is.0 is.1, λ ended. slow_still x y is.1 ended, posted_drains x.side.share y.side.share is.0) };
 }

@@ -1,6 +1,6 @@
 -- One turn of a receiver keeps its law.
 use Rattle.std.proofs.Common.{◌≡◌, inl, inr, ℕ, ◌+◌, ◌<◌, Bool, true, false, nat_eq, List, [], ◌∷◌, length, Option, refl, sym, ap, subst, ◌∙◌, arith}
-use Rattle.packet_ledger.specs.Share.{Held, IsPosted, new_share}
+use Rattle.packet_ledger.specs.Share.{Held, IsNew, IsPosted}
 use Rattle.order_laws.specs.Item.{Arrival}
 use Rattle.order_laws.specs.Rules.{Rules}
 use Rattle.order_laws.specs.Deeds.{Ending, Accepted, Refused, Lacked, Counted}
@@ -97,10 +97,10 @@ keeps_posted told number ended old new (inl is) is_shared k =
 keeps_posted told number ended old new (inr is) is_shared k = subst (λ (i : Intake). KeepsReceiving told number ended i) (sym (is_shared ∙ ap (λ (s : Held). with_share s old) is.1)) k
 
 -- nothing came yet
-pub keeps_first : (told : Option (List Heard)) (side : Intake) → side.stock.free.looks ≡ [] → side.share ≡ new_share → AreFresh side.processors → ToldNothing told → KeepsReceiving told 0 false side
+pub keeps_first : (told : Option (List Heard)) (side : Intake) → side.stock.free.looks ≡ [] → IsNew side.share → AreFresh side.processors → ToldNothing told → KeepsReceiving told 0 false side
 keeps_first told side unlooked unraised fresh untold = record {
   law =
-      let law = hears_none side.config side.link side.interface told (senders side.processors) untold (fresh_senders side.processors fresh) in
+      let law = hears_none side.config side.link side.interface side.share.place told (senders side.processors) untold (fresh_senders side.processors fresh) in
       subst (λ (ls : List ℕ). IsReceiving side.config side.link side.interface 0 told ls (senders side.processors) side.share) (sym unlooked)
       (subst (λ (s : Held). IsReceiving side.config side.link side.interface 0 told [] (senders side.processors) s) (sym unraised) law);
   unended = λ e. fresh_open side.processors fresh;

@@ -3,6 +3,11 @@ use Rattle.std.proofs.Common.{◌≡◌, ◌⊎◌, inl, inr, ℕ, ◌+◌, Bool
 use Rattle.order_laws.specs.Item.{Arrival}
 use Rattle.order_laws.specs.Deeds.{Ending, Accepted, Refused, Lacked, Counted}
 use Rattle.process_packet.specs.declared.cause.Cause.{Cause}
+use Rattle.packet_ledger.specs.Share.{Held, IsPosted}
+use Rattle.packet_ledger.proofs.Posting.{posted_place}
+use Rattle.worker_laws.specs.Counting.{receiver_counts}
+use Rattle.worker_laws.specs.Works.{deed}
+use Rattle.worker_order.proofs.Shares.{all_place}
 use Rattle.worker_order.specs.Heard.{Heard, Gave, WasQuiet, HadFailed, WasAtEnd, arrival}
 use Rattle.router_rules.specs.Rules.{kinds}
 use Rattle.worker_receiver.specs.Intake.{Intake, EndedAs, place}
@@ -56,6 +61,7 @@ module _ {S : Type 0} (same : S → S → Type 0) (itself : (s : S) → same s s
     interface = ap (λ (i : Intake). i.interface) e;
     source = source;
     processors = ends_as every old.side.processors new.side.processors (ap (λ (i : Intake). i.processors) e);
+    place = ap (λ (i : Intake). i.share.place) e;
   }
 
   -- a source that was not touched
@@ -70,6 +76,7 @@ module _ {S : Type 0} (same : S → S → Type 0) (itself : (s : S) → same s s
         interface = p.same.2;
         source = source;
         processors = outcome_same (arrival old.side.link old.side.interface (old.number + 1) from now bytes) p.outcome old.side new.side p.ended;
+        place = ap (λ (s : Held). s.place) p.share ∙ all_place (receiver_counts {K = kinds} (deed (arrival old.side.link old.side.interface (old.number + 1) from now bytes) p.outcome)) old.side.share;
       }
   heard_same turn WasQuiet old new source is = as_side old new source is.1
   heard_same turn HadFailed old new source is = as_side old new source is.1
@@ -84,6 +91,7 @@ module _ {S : Type 0} (same : S → S → Type 0) (itself : (s : S) → same s s
           interface = ap (λ (r : Receiving S). r.side.interface) e;
           source = kept old new (ap (λ (r : Receiving S). r.source) e);
           processors = tried_same every old.side.processors new.side.processors trying.tried;
+          place = ap (λ (r : Receiving S). r.side.share.place) e;
         }
     received_same turn (inr (inl is)) = as_side old new (kept old new (ap (λ (r : Receiving S). r.source) is.3)) (ap (λ (r : Receiving S). r.side) is.3)
     received_same turn (inr (inr is)) = heard_same turn is.1.0 old new is.1.1.3 is.1.2
@@ -91,5 +99,5 @@ module _ {S : Type 0} (same : S → S → Type 0) (itself : (s : S) → same s s
     pub waited_same : Waited told failed same old new → IsSameReceiver same old new
     waited_same is = as_side old new is.3 (ap (λ (r : Receiving S). r.side) is.2)
 
-  pub receiver_posted : (old new : Receiving S) → new ≡ posted new.side.share old → IsSameReceiver same old new
-  receiver_posted old new e = subst (λ (r : Receiving S). IsSameReceiver same old r) (sym e) (record { config = refl; link = refl; interface = refl; source = itself old.source; processors = ends_self every old.side.processors })
+  pub receiver_posted : (old new : Receiving S) → IsPosted old.side.share new.side.share → new ≡ posted new.side.share old → IsSameReceiver same old new
+  receiver_posted old new is e = subst (λ (r : Receiving S). IsSameReceiver same old r) (sym e) (record { config = refl; link = refl; interface = refl; source = itself old.source; processors = ends_self every old.side.processors; place = posted_place old.side.share new.side.share is })

@@ -1,6 +1,6 @@
 -- What contracts see of a receiver, and what a turn does.
 use Rattle.std.specs.Prelude.{◌≡◌, ◌⊎◌, ◌+◌, ◌-◌, ◌^◌, ◌<◌, ◌==◌, ℕ, Bool, true, false, List, [], ◌∷◌, ◌++◌, Option, Some, None}
-use Rattle.packet_ledger.specs.Share.{Held, new_share}
+use Rattle.packet_ledger.specs.Share.{Held}
 use Rattle.order_laws.specs.Item.{Arrival}
 use Rattle.process_packet.specs.declared.config.Config.{Config}
 use Rattle.ruled_pipe.specs.Consumer.{Taker}
@@ -58,12 +58,12 @@ module _ {S : Type 0} where
   abbrev pub with_side : Intake → Receiving S → Receiving S
   with_side side r = record { number = r.number; source = r.source; ended = r.ended; side = side }
 
-  abbrev pub first_receiving : Config → ℕ → S → Taker (List ℕ) → List (Offering (Arrival kinds)) → Receiving S
-  first_receiving c link source free processors = record {
+  abbrev pub first_receiving : Config → ℕ → S → Taker (List ℕ) → List (Offering (Arrival kinds)) → Held → Receiving S
+  first_receiving c link source free processors share = record {
     number = 0;
     source = source;
     ended = false;
-    side = record { config = c; link = link; interface = interface_at c link; stock = stock None free; processors = processors; share = new_share };
+    side = record { config = c; link = link; interface = interface_at c link; stock = stock None free; processors = processors; share = share };
   }
 
   -- nothing came: it goes on, or, with the stop flag seen, it met its end

@@ -2,7 +2,7 @@
 
 ghost use Rattle.std.specs.Prelude.{◌≡◌, ◌<◌, true, Some, [], length};
 ghost use Rattle.std.specs.Arc.{arc_value};
-ghost use Rattle.packet_ledger.specs.Share.{new_share};
+ghost use Rattle.packet_ledger.specs.Share.{IsNew};
 ghost use Rattle.worker_order.specs.Heard.{ToldNothing};
 ghost use Rattle.worker_order.specs.Keeping.{IsReceiving};
 ghost use Rattle.router_rules.specs.Links.{link_count};
@@ -81,9 +81,9 @@ impl<N: RunBrand, S: Source> Receiver<N, S> {
         requires link { link < link_count (arc_value shared).config }
         requires processors { (length processors.items ≡ (arc_value shared).config.processors) × AreFresh processors.items }
         requires free { free.looks ≡ [] }
-        requires share { share ≡ new_share }
+        requires share { IsNew share }
         requires untold { ToldNothing (S.told source) }
-        ensures { result ≡ first_receiving (arc_value shared).config link source free processors.items }
+        ensures { result ≡ first_receiving (arc_value shared).config link source free processors.items share }
     {
         links_stand_in_order();
         let interface = shared.ports.interface(link);
@@ -223,5 +223,5 @@ impl<N: RunBrand, S: Source> Turns<Book<N>> for Receiver<N, S> {
 
     ghost wait_keeps = { λ waited x y is. waited_same S.same S.same_self S.told S.failed x y is.0 };
 
-    ghost post_keeps = { λ x y is. (receiver_posted S.same S.same_self x y is.1, λ ended. receiver_still x y is.1 ended, posted_drains x.side.share y.side.share is.0) };
+    ghost post_keeps = { λ x y is. (receiver_posted S.same S.same_self x y is.0 is.1, λ ended. receiver_still x y is.1 ended, posted_drains x.side.share y.side.share is.0) };
 }

@@ -13,8 +13,10 @@ split_pass-requires g c =
     let v = cell_view c.args.keeper.now in
     let by = c.args.keeper.now.id in
     let rows = rows_of c.args.inputs.now c.args.outputs.now in
-    let P : ℕ → Type 0 = λ n. Forks Balanced by v (kept n c.args.counts.now rows v) (given n c.args.counts.now v) in
-    let Q : Totals → Type 0 = λ t. Forks Balanced by v (kept g.K.Amount.parts t rows v) (given g.K.Amount.parts t v) in
-    let T : Table → Type 0 = λ t. Forks Balanced by v (kept g.K.Amount.parts g.K.Amount.counts t v) (given g.K.Amount.parts g.K.Amount.counts v) in
-    let move = gives by v c.args.parts c.args.counts.now rows c.requires.keeps c.requires.parts c.requires.few c.requires.long c.requires.rows in
-    (search rules, (search rules, (c.requires.own, subst T (sym c.requires.pick.2) (subst Q (sym c.requires.pick.1) (subst P (sym c.requires.pick.0) move)))))
+    let at = c.args.place in
+    let P : ℕ → Type 0 = λ n. Forks Balanced by v (kept n c.args.counts.now rows v) (given n c.args.counts.now at v) in
+    let Q : Totals → Type 0 = λ t. Forks Balanced by v (kept g.K.Amount.parts t rows v) (given g.K.Amount.parts t at v) in
+    let R : ℕ → Type 0 = λ k. Forks Balanced by v (kept g.K.Amount.parts g.K.Amount.counts rows v) (given g.K.Amount.parts g.K.Amount.counts k v) in
+    let T : Table → Type 0 = λ t. Forks Balanced by v (kept g.K.Amount.parts g.K.Amount.counts t v) (given g.K.Amount.parts g.K.Amount.counts g.K.Amount.place v) in
+    let move = gives by v c.args.parts c.args.counts.now at rows c.requires.keeps c.requires.parts c.requires.few c.requires.long c.requires.rows in
+    (search rules, (search rules, (c.requires.own, subst T (sym c.requires.pick.3) (subst R (sym c.requires.pick.2) (subst Q (sym c.requires.pick.1) (subst P (sym c.requires.pick.0) move))))))

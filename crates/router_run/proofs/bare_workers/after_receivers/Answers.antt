@@ -1,9 +1,7 @@
 use Rattle.std.proofs.Common.{◌≡◌, ◌+◌, ℕ, length, ◌∙◌, ap, subst, arith}
 use Rattle.std.proofs.lemmas.List.{length-map}
 use Rattle.std.specs.Arc.{arc_value}
-use Rattle.order_laws.specs.Deeds.{Each}
 use Rattle.order_laws.specs.Item.{Outgoing}
-use Rattle.packet_ledger.specs.Share.{new_share}
 use Rattle.router_rules.specs.Links.{link_count}
 use Rattle.router_rules.specs.Rules.{kinds}
 use Rattle.router_rules.specs.declared.shared.Shared.{Shared}
@@ -11,7 +9,7 @@ use Rattle.worker_parts.specs.Outlets.{are_used}
 use Rattle.run_ends.specs.Opened.{made_pipe, made_pipes}
 use Rattle.run_ends.specs.Rows.{fresh_ends}
 use Rattle.run_ends.specs.Shutting.{AreNew}
-use Rattle.run_workers.proofs.Making.{next_new}
+use Rattle.run_workers.proofs.Making.{left_new, next_new, one_gone}
 use Rattle.router_run.proofs.bare_workers.after_receivers.Goals as goal
 
 pub processors_of-requires-clause-pipes : goal.processors_of-requires-clause-pipes
@@ -27,7 +25,7 @@ pub slow_path_of-requires-clause-pipes : goal.slow_path_of-requires-clause-pipes
 slow_path_of-requires-clause-pipes g c = let was = c.requires.pipes in (was.0, (c.in_ok-processors.ensures.made was.0 was.1 was.2).0, was.3)
 
 pub slow_path_of-requires-clause-share : goal.slow_path_of-requires-clause-share
-slow_path_of-requires-clause-share g c = next_new (arc_value c.args.common.now.shared).config.processors c.args.shares.now c.processors_of.new.shares c.next.new.self c.next.result c.next.ensures c.in_ok-processors.ensures.shares
+slow_path_of-requires-clause-share g c = next_new (link_count (arc_value c.args.common.now.shared).config) (arc_value c.args.common.now.shared).config.processors c.args.shares.now c.processors_of.new.shares c.next.new.self c.next.result c.next.ensures c.in_ok-processors.ensures.shares
 
 pub shutters-requires-clause-pipes : goal.shutters-requires-clause-pipes
 shutters-requires-clause-pipes g c =
@@ -60,9 +58,9 @@ all_leaving-requires-clause-pipes g c =
 
 pub all_leaving-requires-clause-shares : goal.all_leaving-requires-clause-shares
 all_leaving-requires-clause-shares g c =
-    let gone = c.in_ok-processors.ensures.shares in
-    let next = ap length c.next.ensures in
-    record { each = (subst (λ xs. Each (λ s. s ≡ new_share) xs) c.next.ensures gone.each).1; enough = let k = gone.count in let e = c.requires.shares.enough in omega arith }
+    let config = (arc_value c.args.common.now.shared).config in
+    let gone = one_gone (link_count config) config.processors c.args.shares.now c.processors_of.new.shares c.next.new.self c.next.result c.next.ensures c.in_ok-processors.ensures.shares in
+    left_new (link_count config) (config.processors + 1) (link_count config) (link_count config + config.processors + 1) c.args.shares.now c.next.new.self gone (omega arith) c.requires.shares.enough
 
 pub returns : goal.returns
 returns g c = λ p made packets requests egress_packets.

@@ -1,7 +1,6 @@
 use Rattle.std.proofs.Common.{◌≡◌, ◌+◌, ◌-◌, ℕ, List, length, sym, ◌∙◌, ap, subst, arith}
 use Rattle.std.specs.Arc.{arc_value}
-use Rattle.packet_ledger.specs.Share.{Held, new_share}
-use Rattle.order_laws.specs.Deeds.{Each}
+use Rattle.packet_ledger.specs.Share.{AreNew, Held}
 use Rattle.router_rules.specs.Links.{link_count}
 use Rattle.router_rules.specs.declared.shared.Shared.{Shared}
 use Rattle.run_ends.specs.Opened.{made_pipes}
@@ -11,6 +10,7 @@ use Rattle.run_pipes.specs.Pipes.{HaveReceivers}
 use Rattle.run_pipes.proofs.PipesLemmas.{own_piping}
 use Rattle.run_pipes.specs.declared.pipes.Pipes.{Pipes}
 use Rattle.router_run.specs.BareWorkers.{AllMade, AreOver}
+use Rattle.run_workers.proofs.Making.{left_new}
 use Rattle.router_run.proofs.bare_workers.make_all.Goals as goal
 
 pub all_entering-requires-clause-pipes : goal.all_entering-requires-clause-pipes
@@ -22,7 +22,7 @@ pub all_entering-requires-clause-shares : goal.all_entering-requires-clause-shar
 all_entering-requires-clause-shares g c =
     let is = c.of-shares.ensures in
     record {
-      each = subst (λ (xs : List Held). Each (λ (s : Held). s ≡ new_share) xs) (sym is) c.requires.shares.each;
+      each = subst (λ (xs : List Held). AreNew 0 xs) (sym is) c.requires.shares.each;
       enough = let e = c.requires.shares.enough in let l = ap length is in omega arith;
     }
 
@@ -35,8 +35,8 @@ after_receivers-requires-clause-pipes g c =
 
 pub after_receivers-requires-clause-shares : goal.after_receivers-requires-clause-shares
 after_receivers-requires-clause-shares g c =
-    let gone = c.in_ok-receivers.ensures.shares in
-    record { each = gone.each; enough = let k = gone.count in let e = c.requires.shares.enough in let l = ap length c.of-shares.ensures in omega arith }
+    let config = (arc_value c.args.common.now.shared).config in
+    left_new 0 (link_count config) (config.processors + 1 + link_count config) (link_count config) _ _ c.in_ok-receivers.ensures.shares (omega arith) (let e = c.requires.shares.enough in let l = ap length c.of-shares.ensures in omega arith)
 
 pub fill-requires : goal.fill-requires
 fill-requires g c =

@@ -12,3 +12,6 @@ returns-clause-seen g c = c.close-totals.ensures.seen
 
 pub returns-clause-sent : goal.returns-clause-sent
 returns-clause-sent g c = refl
+
+pub returns-clause-rows : goal.returns-clause-rows
+returns-clause-rows g c = c.close-totals.ensures.rows

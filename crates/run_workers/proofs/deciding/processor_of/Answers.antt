@@ -14,6 +14,8 @@ use Rattle.worker_parts.specs.Outlets.{AreFresh, senders}
 use Rattle.run_pipes.proofs.Fresh.{fresh_long, outlets_fresh, outlets_long, outlets_of}
 use Rattle.run_pipes.proofs.OkLemmas.{of_ok}
 use Rattle.run_pipes.proofs.PipesLemmas.{one_to_make}
+use Rattle.packet_ledger.specs.Share.{Held}
+use Rattle.run_workers.proofs.Making.{is_new}
 use Rattle.run_workers.proofs.deciding.processor_of.Goals as goal
 
 pub producer-requires : goal.producer-requires
@@ -71,7 +73,7 @@ new-processor-requires-clause-free g c =
     ap length (c.in_ok-free.ensures.ends c.args.index was.0.free was.1.free) ∙ (fresh_long _ c.args.index was.0.free ∙ (was.1.piping.free_links ∙ ap (λ (s : Shared). link_count s.config) (sym own)))
 
 pub new-processor-requires-clause-share : goal.new-processor-requires-clause-share
-new-processor-requires-clause-share g c = c.requires.share
+new-processor-requires-clause-share g c = is_new _ c.args.share c.requires.share
 
 pub returns : goal.returns
 returns g c = λ p made.
@@ -94,5 +96,6 @@ returns g c = λ p made.
         links = subst (λ xs. AreEndsOf i p.egress_packets (senders xs)) (sym (ap (λ w. w.side.links) is)) (outlets_of _ i p.egress_packets _ ends);
         fresh = subst (λ xs. AreFresh xs) (sym (ap (λ w. w.side.links) is)) (outlets_fresh _ 0 i p.egress_packets _ ends).1;
         free = ap (λ w. w.side.free) is ∙ c.in_ok-free.ensures.ends i p.free made.free;
+        place = ap (λ w. w.side.share.place) is ∙ ap (λ (s : Held). s.place) c.requires.share;
       }),
     )

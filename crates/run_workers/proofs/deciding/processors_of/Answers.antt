@@ -16,7 +16,7 @@ loop-index-init g c =
     let config = (arc_value c.args.common.now.shared).config in
     record {
       count = (ap length c.in_ok-made.ensures.items, let r = c.in_ok-made.ensures.capacity in let f = c.from.ensures in omega arith);
-      shares = none_gone config.processors c.args.shares.now c.requires.shares;
+      shares = none_gone (link_count config) config.processors c.args.shares.now c.requires.shares;
       made = λ p made takers. (all_none (IsWorkingThere config p) 0 c.in_ok-made.made.items c.in_ok-made.ensures.items, made, takers_are p.packets config.processors c.of-takers.result (c.of-takers.ensures ∙ takers) made.piping.processors);
     }
 
@@ -48,7 +48,7 @@ processor_of-requires-clause-taker g c =
     taker_new (link_count (arc_value c.args.common.now.shared).config) was.0.packets at.index c.next-taker.result was.1.piping.packets there
 
 pub processor_of-requires-clause-share : goal.processor_of-requires-clause-share
-processor_of-requires-clause-share g c = next_new c.loop-index.index c.args.shares.now c.loop-index.shares c.next-share.new.self c.next-share.result c.next-share.ensures c.loop-index.invariant.shares
+processor_of-requires-clause-share g c = next_new (link_count (arc_value c.args.common.now.shared).config) c.loop-index.index c.args.shares.now c.loop-index.shares c.next-share.new.self c.next-share.result c.next-share.ensures c.loop-index.invariant.shares
 
 pub push_reserved-requires : goal.push_reserved-requires
 push_reserved-requires g c = let t = c.loop-index-test.true in let n = c.loop-index.invariant.count.0 in let room = c.loop-index.invariant.count.1 in omega arith
@@ -61,7 +61,7 @@ loop-index-preserved g c =
     let w = c.in_ok-processor.processor in
     record {
       count = (pushed_long at.index at.made.items c.push_reserved.new.self.items w c.push_reserved.ensures.items inv.count.0, rw c.push_reserved.ensures.capacity inv.count.1);
-      shares = one_gone at.index c.args.shares.now at.shares c.next-share.new.self c.next-share.result c.next-share.ensures inv.shares;
+      shares = one_gone (link_count config) at.index c.args.shares.now at.shares c.next-share.new.self c.next-share.result c.next-share.ensures inv.shares;
       made = λ p made takers.
           let was = inv.made p made takers in
           let there : IsTakerThere p.packets at.index c.next-taker.result = rest_first (IsTakerThere p.packets) at.index _ at.takers c.next-taker.new.self c.next-taker.result c.next-taker.ensures was.2 in
@@ -77,7 +77,7 @@ pub returns-clause-shares : goal.returns-clause-shares
 returns-clause-shares g c =
     let at = c.loop-index in
     let n = all_taken at.index _ (arc_value c.args.common.now.shared).config.processors at.auto.index-end c.loop-index-test.false (ap (λ (s : Shared). s.config.processors) c.deref.ensures) in
-    subst (λ (k : ℕ). HaveGone k c.args.shares.now at.shares) n at.invariant.shares
+    subst (λ (k : ℕ). HaveGone (link_count (arc_value c.args.common.now.shared).config) k c.args.shares.now at.shares) n at.invariant.shares
 
 pub returns-clause-made : goal.returns-clause-made
 returns-clause-made g c = λ p made takers.

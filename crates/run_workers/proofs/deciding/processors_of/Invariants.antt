@@ -1,5 +1,6 @@
 use Rattle.std.proofs.Common.{◌≡◌, ◌≤◌, length, vec_capacity}
 use Rattle.std.specs.Arc.{arc_value}
+use Rattle.router_rules.specs.Links.{link_count}
 use Rattle.worker_order.specs.Returned.{AllAt}
 use Rattle.run_ends.specs.Rows.{new_takers}
 use Rattle.run_pipes.specs.Piping.{IsTakerThere, Piping}
@@ -14,6 +15,6 @@ invariant-loop-index g l =
     let c = (arc_value l.common.shared).config in
     record {
       count : (length l.made.items ≡ l.index) × (l.count ≤ vec_capacity l.made);
-      shares : HaveGone l.index l.initial.shares l.shares;
+      shares : HaveGone (link_count c) l.index l.initial.shares l.shares;
       made : (p : Piping) → HaveProcessors c 0 p l.initial.pipes → l.fn.takers.items ≡ new_takers p.packets → AllAt (IsWorkingThere c p) 0 l.made.items × HaveProcessors c l.index p l.pipes × IsRest (IsTakerThere p.packets) l.index c.processors l.takers;
     }

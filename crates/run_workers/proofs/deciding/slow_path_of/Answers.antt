@@ -9,6 +9,8 @@ use Rattle.router_rules.specs.Rules.{kinds}
 use Rattle.router_rules.specs.declared.shared.Shared.{Shared}
 use Rattle.worker_parts.specs.Outlets.{AreFresh, senders}
 use Rattle.run_pipes.proofs.Fresh.{fresh_long, outlets_fresh, outlets_long, outlets_of}
+use Rattle.packet_ledger.specs.Share.{Held}
+use Rattle.run_workers.proofs.Making.{is_new}
 use Rattle.run_workers.proofs.deciding.slow_path_of.Goals as goal
 
 pub outlets-requires-clause-pipes : goal.outlets-requires-clause-pipes
@@ -54,7 +56,7 @@ new-slow_path-requires-clause-free g c =
     ap length (c.in_ok-free.ensures.ends m was.0.free was.1.free) ∙ (fresh_long _ m was.0.free ∙ (was.1.piping.free_links ∙ ap (λ (s : Shared). link_count s.config) (sym c.in_ok-shared.ensures)))
 
 pub new-slow_path-requires-clause-share : goal.new-slow_path-requires-clause-share
-new-slow_path-requires-clause-share g c = c.requires.share
+new-slow_path-requires-clause-share g c = is_new _ c.args.share c.requires.share
 
 pub returns : goal.returns
 returns g c = λ p made own.
@@ -69,5 +71,6 @@ returns g c = λ p made own.
         links = subst (λ xs. AreEndsOf m p.egress_packets (senders xs)) (sym (ap (λ a. a.side.links) is)) (outlets_of _ m p.egress_packets _ ends);
         fresh = subst (λ xs. AreFresh xs) (sym (ap (λ a. a.side.links) is)) (outlets_fresh _ 0 m p.egress_packets _ ends).1;
         free = ap (λ a. a.side.free) is ∙ c.in_ok-free.ensures.ends m p.free made.free;
+        place = ap (λ a. a.side.share.place) is ∙ ap (λ (s : Held). s.place) c.requires.share;
       },
     )

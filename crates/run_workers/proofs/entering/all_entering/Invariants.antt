@@ -15,6 +15,6 @@ invariant-loop-link g l =
     let c = (arc_value l.common.shared).config in
     record {
       count : (length l.made.items ≡ l.link) × (l.links ≤ vec_capacity l.made);
-      shares : HaveGone l.link l.initial.shares l.shares;
+      shares : HaveGone 0 l.link l.initial.shares l.shares;
       made : (p : Piping) → HaveReceivers c 0 p l.initial.pipes → l.fn.free.items ≡ new_takers p.free → AllAt (IsEnteringAt c p) 0 l.made.items × HaveReceivers c l.link p l.pipes × IsRest (IsTakerThere p.free) l.link (link_count c) l.free;
     }

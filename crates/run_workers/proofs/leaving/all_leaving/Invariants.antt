@@ -1,4 +1,4 @@
-use Rattle.std.proofs.Common.{◌≡◌, ◌*◌, ◌≤◌, length, vec_capacity}
+use Rattle.std.proofs.Common.{◌≡◌, ◌+◌, ◌*◌, ◌≤◌, length, vec_capacity}
 use Rattle.std.specs.Arc.{arc_value}
 use Rattle.worker_order.specs.Returned.{AllAt}
 use Rattle.router_rules.specs.Links.{link_count}
@@ -15,6 +15,6 @@ invariant-loop-link g l =
     let c = (arc_value l.common.shared).config in
     record {
       count : (length l.made.items ≡ l.link) × (l.links ≤ vec_capacity l.made);
-      shares : HaveGone l.link l.initial.shares l.shares;
+      shares : HaveGone (link_count c + c.processors + 1) l.link l.initial.shares l.shares;
       made : (p : Piping) → HaveForwarders c 0 p l.initial.pipes → l.fn.takers.items ≡ new_takers p.egress_packets → AllAt (IsLeavingAt c p) 0 l.made.items × HaveForwarders c l.link p l.pipes × IsRest (IsTakerThere p.egress_packets) (2 * l.link) (2 * link_count c) l.takers;
     }

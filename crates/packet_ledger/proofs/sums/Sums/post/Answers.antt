@@ -1,9 +1,9 @@
-use Rattle.std.proofs.Common.{◌≡◌, ◌-◌, ◌<◌, length, rules, sym, ap, ◌∙◌, subst, arith}
+use Rattle.std.proofs.Common.{◌≡◌, ◌-◌, length, rules, refl, sym, ap, ◌∙◌, subst, arith}
 use Rattle.crossbeam_utils.specs.Seq.{cell_view}
 use Rattle.process_packet.specs.Cause.{causes}
 use Rattle.process_packet.specs.declared.totals.Totals.{Totals}
 use Rattle.packet_ledger.specs.Amounts.{AtMost, count_at, nothing, plus}
-use Rattle.packet_ledger.specs.Shown.{rows_of}
+use Rattle.packet_ledger.specs.Shown.{counted_at, no_rows, rows_of}
 use Rattle.packet_ledger.specs.Tokens.{holder, keeper, kept}
 use Rattle.packet_ledger.proofs.Counting.{nothing_at}
 use Rattle.packet_ledger.proofs.Moves.{booked_most, gives_one, joins, posts}
@@ -26,9 +26,9 @@ give-requires-clause-few g c =
     let longP : length posted.dropped ≡ causes = search rules in
     let rows = rows_of c.self.inside.inputs.items c.self.inside.outputs.items in
     let spared = c.give-spare.ensures.kept.1 ∙ (λ i. kept 0 c.none.result (rows_of (c.as_slice.ensures.value i) (c.as_slice-2.ensures.value i)) (cell_view c.self.inside.token)) in
-    let all = joins g.N.RunBrand.workers totals posted c.none.result rows _ _ _ (cell_view c.replace-token.result) c.self.invariant.3 longT longP c.none.ensures c.self.invariant.1 spared
+    let all = joins g.N.RunBrand.workers totals posted c.none.result (counted_at c.share.inside.place posted) rows _ _ _ (cell_view c.replace-token.result) c.self.invariant.3 longT longP c.none.ensures c.self.invariant.1 spared
     (ap cell_view c.replace-token.ensures.value ∙ c.share.invariant.2) c.take_in.ensures.1 in
-    gives_one _ totals posted c.share.inside.counts c.added-posted.result rows _ (c.audit.ensures.known.0 ∙ all) c.added-posted.ensures c.if-not-at_most.ensures
+    gives_one _ totals posted c.share.inside.counts c.added-posted.result _ rows _ (c.audit.ensures.known.0 ∙ all) c.added-posted.ensures c.if-not-at_most.ensures
 
 pub raise-requires-2-clause-room : goal.raise-requires-2-clause-room
 raise-requires-2-clause-room g c =
@@ -36,10 +36,9 @@ raise-requires-2-clause-room g c =
 
 pub returns-clause-sums : goal.returns-clause-sums
 returns-clause-sums g c =
-    let place : c.share.inside.place < length c.self.inside.inputs.items = let within = c.share.invariant.6 in let each = c.self.invariant.5 in omega arith in
     books (record { totals = c.self.inside.totals; inputs = c.self.inside.inputs.items; outputs = c.self.inside.outputs.items }) c.args.self.now
-    (record { counts = c.share.inside.counts; posted = c.share.inside.posted }) c.args.share.now
-    c.update.new.counts c.raise.new.row.items c.raise-2.new.row.items c.share.inside.place c.self.view_is c.share.view_is place (c.update.ensures ∙ c.added-sums.ensures) c.raise.ensures.row c.raise-2.ensures.row
+    (record { counts = c.share.inside.counts; posted = c.share.inside.posted; place = c.share.inside.place }) c.args.share.now
+    c.update.new.counts c.raise.new.row.items c.raise-2.new.row.items c.share.inside.place c.self.view_is c.share.view_is refl (c.update.ensures ∙ c.added-sums.ensures) c.raise.ensures.row c.raise-2.ensures.row
 
 pub invariant_of-self : goal.invariant_of-self
 invariant_of-self g c =
@@ -49,14 +48,14 @@ invariant_of-self g c =
     let longP : length posted.dropped ≡ causes = search rules in
     let rows = rows_of c.self.inside.inputs.items c.self.inside.outputs.items in
     let spared = c.give-spare.ensures.kept.1 ∙ (λ i. kept 0 c.none.result (rows_of (c.as_slice.ensures.value i) (c.as_slice-2.ensures.value i)) (cell_view c.self.inside.token)) in
-    let all = joins g.N.RunBrand.workers totals posted c.none.result rows _ _ _ (cell_view c.replace-token.result) c.self.invariant.3 longT longP c.none.ensures c.self.invariant.1 spared
+    let all = joins g.N.RunBrand.workers totals posted c.none.result (counted_at c.share.inside.place posted) rows _ _ _ (cell_view c.replace-token.result) c.self.invariant.3 longT longP c.none.ensures c.self.invariant.1 spared
     (ap cell_view c.replace-token.ensures.value ∙ c.share.invariant.2) c.take_in.ensures.1 in
     let next = rows_of c.raise.new.row.items c.raise-2.new.row.items in
     let given = c.give.ensures.kept.1 ∙ (λ i. kept 1 c.share.inside.counts (rows_of (c.as_slice-3.ensures.value i) (c.as_slice-4.ensures.value i)) (cell_view c.audit.new.keeper)) in
-    let moved = posts g.N.RunBrand.workers totals posted c.share.inside.counts rows next _ _ _ c.self.invariant.3 (c.audit.ensures.known.0 ∙ all) given c.give.ensures.given.2 in (
+    let moved = posts g.N.RunBrand.workers c.share.inside.place totals posted c.share.inside.counts rows next _ _ _ c.self.invariant.3 (c.audit.ensures.known.0 ∙ all) given c.give.ensures.given.2 in (
       c.give.ensures.kept.0 ∙ c.audit.ensures.own ∙ c.take_in.ensures.0 ∙ c.give-spare.ensures.kept.0 ∙ c.self.invariant.0,
-      moved.0 ∙ (λ i. keeper (65537 - g.N.RunBrand.workers) nothing (sym (c.update.ensures ∙ c.added-sums.ensures) i) next),
-      booked_most _ totals posted c.share.inside.counts c.update.new.counts rows _ all c.audit.ensures.known.1 c.share.invariant.3 (c.update.ensures ∙ c.added-sums.ensures),
+      moved.0 ∙ (λ i. keeper (65537 - g.N.RunBrand.workers) nothing no_rows (sym (c.update.ensures ∙ c.added-sums.ensures) i) next),
+      booked_most _ totals posted c.share.inside.counts c.update.new.counts _ rows _ all c.audit.ensures.known.1 c.share.invariant.3 (c.update.ensures ∙ c.added-sums.ensures),
       c.self.invariant.3,
       adds_up totals c.share.inside.counts c.update.new.counts c.self.inside.inputs.items c.self.inside.outputs.items c.raise.new.row.items c.raise-2.new.row.items c.self.invariant.4 (c.update.ensures ∙ c.added-sums.ensures) c.raise.ensures.sum c.raise-2.ensures.sum,
       c.raise.ensures.same ∙ c.self.invariant.5,
@@ -71,12 +70,12 @@ invariant_of-share g c =
     let longP : length posted.dropped ≡ causes = search rules in
     let rows = rows_of c.self.inside.inputs.items c.self.inside.outputs.items in
     let spared = c.give-spare.ensures.kept.1 ∙ (λ i. kept 0 c.none.result (rows_of (c.as_slice.ensures.value i) (c.as_slice-2.ensures.value i)) (cell_view c.self.inside.token)) in
-    let all = joins g.N.RunBrand.workers totals posted c.none.result rows _ _ _ (cell_view c.replace-token.result) c.self.invariant.3 longT longP c.none.ensures c.self.invariant.1 spared
+    let all = joins g.N.RunBrand.workers totals posted c.none.result (counted_at c.share.inside.place posted) rows _ _ _ (cell_view c.replace-token.result) c.self.invariant.3 longT longP c.none.ensures c.self.invariant.1 spared
     (ap cell_view c.replace-token.ensures.value ∙ c.share.invariant.2) c.take_in.ensures.1 in
-    let moved = posts g.N.RunBrand.workers totals posted c.share.inside.counts rows _ _ _ _ c.self.invariant.3 (c.audit.ensures.known.0 ∙ all) c.give.ensures.kept.1 c.give.ensures.given.2 in (
+    let moved = posts g.N.RunBrand.workers c.share.inside.place totals posted c.share.inside.counts rows _ _ _ _ c.self.invariant.3 (c.audit.ensures.known.0 ∙ all) c.give.ensures.kept.1 c.give.ensures.given.2 in (
       c.give.ensures.given.0 ∙ c.audit.ensures.own ∙ c.take_in.ensures.0 ∙ c.give-spare.ensures.kept.0 ∙ c.self.invariant.0,
       c.give.ensures.given.1,
-      moved.1 ∙ ap (holder 1) (sym c.added-posted.ensures),
+      moved.1 ∙ (λ i. holder 1 (sym c.added-posted.ensures i) (counted_at c.share.inside.place (sym c.added-posted.ensures i))),
       (λ i. let z = nothing_at i in let e = ap (count_at i) c.none-share-inside.ensures in omega arith),
       c.if-not-at_most.ensures,
       (λ i. let z = nothing_at i in let e = ap (count_at i) c.none-share-inside.ensures in omega arith),

@@ -1,9 +1,10 @@
-use Rattle.std.proofs.Common.{length, sym, ◌∙◌, ap, subst}
+use Rattle.std.proofs.Common.{IfSome, length, sym, ◌∙◌, ap, subst}
 use Rattle.worker_order.proofs.Returned.{runs_as_told}
 use Rattle.run_pipes.proofs.PipesLemmas.{none_are_all_back}
-use Rattle.router_run.specs.Run.{RouterHasRun, Run}
+use Rattle.router_run.specs.Run.{RouterHasRun, Run, SentWithin}
 use Rattle.router_run.proofs.Finish.{has_run, settled, shares_count}
 use Rattle.router_run.proofs.Crews.{crews_end, has_ends}
+use Rattle.router_run.proofs.Places.{rows_within}
 use Rattle.router_run.proofs.running.Running.finish.Goals as goal
 
 pub join_workers-joined-requires : goal.join_workers-joined-requires
@@ -34,3 +35,10 @@ returns-clause-run g c =
     subst (λ (r : Run _ _ _). RouterHasRun g.S.Source.told g.K.Sink.told g.K.Sink.failed g.S.Source.same g.K.Sink.same r told.totals told.sent.items told.sources.items told.sinks.items) c.self.view_is
     (has_run g.S.Source.told g.K.Sink.told g.K.Sink.failed g.S.Source.same g.K.Sink.same (runs_as_told c.rules_are_lawful.ensures c.links_stand_in_order.ensures c.causes_are_apart.ensures)
     _ _ _ _ _ _ _ c.self.invariant.1 c.join_workers-joined.ensures parted.kept set parted.shares report.totals (report.sent ∙ parted.sent) (report.sources ∙ parted.sources) (report.sinks ∙ parted.sinks))
+
+pub returns-clause-rows : goal.returns-clause-rows
+returns-clause-rows g c =
+    let parted = c.part_all-takers.ensures in
+    let report = c.report_of.ensures in
+    subst (λ (r : Run _ _ _). IfSome c.args.look (λ l. SentWithin r.config l c.report_of.result.sent.items)) c.self.view_is
+    (rows_within g.S.Source.same g.K.Sink.same _ _ _ _ c.self.invariant.1 c.join_workers-joined.ensures c.args.look _ _ parted.shares (report.sent ∙ parted.sent) report.rows)
