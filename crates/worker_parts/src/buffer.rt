@@ -12,10 +12,9 @@ use std::marker::Model;
 /// longer one is seen to be too long.
 pub const BUFFER_LEN: usize = 9217;
 
-/// The bytes of a buffer, and what is known of the datagram in them. It keeps its place in memory: what
-/// one worker hands to the next is its owner, a single pointer.
+/// The bytes of a buffer, and before them what is known of the datagram in them, on the same cache lines as its header.
+/// It keeps its place in memory: what one worker hands to the next is its owner, a single pointer.
 pub(crate) struct Storage {
-    pub(crate) bytes: Vec<u8>,
     pub(crate) len: usize,
     // of the datagram's arrival: its link, and its number among the link's
     pub(crate) link: LinkIndex,
@@ -27,12 +26,12 @@ pub(crate) struct Storage {
     pub(crate) answer: bool,
     pub(crate) egress: LinkIndex,
     pub(crate) to: Option<Underlay>,
+    pub(crate) bytes: [u8; BUFFER_LEN],
 }
 
 impl Drop for Storage {
     fn drop(self) {
         let Storage {
-            bytes: _,
             len: _,
             link: _,
             interface: _,
@@ -42,6 +41,7 @@ impl Drop for Storage {
             answer: _,
             egress: _,
             to: _,
+            bytes: _,
         } = self;
     }
 }
@@ -58,9 +58,9 @@ impl Model for Buffer {
 
     ghost Value = { List ℕ };
 
-    ghost view = { λ b. b.storage.value.bytes.items };
+    ghost view = { λ b. b.storage.value.bytes };
 
-    ghost invariant = { λ b. length b.storage.value.bytes.items ≡ buffer_len };
+    ghost invariant = { λ b. length b.storage.value.bytes ≡ buffer_len };
 }
 
 impl Buffer {
@@ -68,9 +68,7 @@ impl Buffer {
     pub fn new(alloc: Global) -> Result<Buffer, AllocError>
         ensures { IfOk result (λ b. length b ≡ buffer_len) }
     {
-        let bytes = vec![in alloc; 0; BUFFER_LEN]?;
         let storage = Storage {
-            bytes,
             len: 0,
             link: LinkIndex::of(0),
             interface: Interface::of(0),
@@ -83,6 +81,7 @@ impl Buffer {
             answer: false,
             egress: LinkIndex::of(0),
             to: None,
+            bytes: [0; BUFFER_LEN],
         };
         let storage = Box::new(alloc, storage)?;
         Ok(Buffer { storage })

@@ -25,9 +25,9 @@ impl<N: RunBrand> Model for EgressPacket<N> {
 
     ghost Value = { Outgoing kinds };
 
-    ghost view = { λ o. record { arrived = o.storage.value.link; number = o.storage.value.number; answer = o.storage.value.answer; link = o.storage.value.egress; parcel = record { came_by = o.storage.value.interface; to = o.storage.value.to; bytes = take o.storage.value.len o.storage.value.bytes.items } } };
+    ghost view = { λ o. record { arrived = o.storage.value.link; number = o.storage.value.number; answer = o.storage.value.answer; link = o.storage.value.egress; parcel = record { came_by = o.storage.value.interface; to = o.storage.value.to; bytes = take o.storage.value.len o.storage.value.bytes } } };
 
-    ghost invariant = { λ o. (length o.storage.value.bytes.items ≡ buffer_len) × (o.storage.value.len ≤ buffer_len) × StandsIn N.config o.storage.value.link o.storage.value.interface };
+    ghost invariant = { λ o. (length o.storage.value.bytes ≡ buffer_len) × (o.storage.value.len ≤ buffer_len) × StandsIn N.config o.storage.value.link o.storage.value.interface };
 }
 
 impl<N: RunBrand> Drop for EgressPacket<N> {

@@ -36,9 +36,9 @@ impl<N: RunBrand> Model for Packet<N> {
 
     ghost Value = { Arrival kinds };
 
-    ghost view = { λ p. arrival p.storage.value.link p.storage.value.interface p.storage.value.number p.storage.value.source p.storage.value.moment (take p.storage.value.len p.storage.value.bytes.items) };
+    ghost view = { λ p. arrival p.storage.value.link p.storage.value.interface p.storage.value.number p.storage.value.source p.storage.value.moment (take p.storage.value.len p.storage.value.bytes) };
 
-    ghost invariant = { λ p. (length p.storage.value.bytes.items ≡ buffer_len) × (p.storage.value.len ≤ buffer_len) × StandsIn N.config p.storage.value.link p.storage.value.interface };
+    ghost invariant = { λ p. (length p.storage.value.bytes ≡ buffer_len) × (p.storage.value.len ≤ buffer_len) × StandsIn N.config p.storage.value.link p.storage.value.interface };
 }
 
 // Decides on the datagram at the front of a buffer, where it lies.
@@ -47,13 +47,13 @@ fn decide_at_front(
     interface: Interface,
     source: Underlay,
     now: u64,
-    bytes: &mut Vec<u8>,
+    bytes: &mut [u8],
     len: usize,
 ) -> Decision
-    requires { len ≤ length bytes.old.items }
-    ensures decision { result ≡ decide (network config.now) interface source now (take len bytes.old.items) }
-    ensures bytes { take len bytes.new.items ≡ moved (network config.now) interface source now (take len bytes.old.items) }
-    ensures same { length bytes.new.items ≡ length bytes.old.items }
+    requires { len ≤ length bytes.old }
+    ensures decision { result ≡ decide (network config.now) interface source now (take len bytes.old) }
+    ensures bytes { take len bytes.new ≡ moved (network config.now) interface source now (take len bytes.old) }
+    ensures same { length bytes.new ≡ length bytes.old }
 {
     let (front, _) = bytes.split_at_mut(len);
     route_in_place(config, interface.id(), source, now, front)
@@ -120,7 +120,14 @@ impl<N: RunBrand> Packet<N> {
         let storage = &mut *self.storage;
         let (interface, source, now) = (storage.interface, storage.source, storage.moment);
         let len = storage.len;
-        decide_at_front(config, interface, source, now, &mut storage.bytes, len)
+        decide_at_front(
+            config,
+            interface,
+            source,
+            now,
+            storage.bytes.as_mut_slice(),
+            len,
+        )
     }
 
     /// Its buffer, which begins with its bytes and is free again.

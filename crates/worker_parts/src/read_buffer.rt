@@ -21,9 +21,9 @@ impl Model for ReadBuffer {
 
     ghost Value = { List ℕ };
 
-    ghost view = { λ b. b.storage.value.bytes.items };
+    ghost view = { λ b. b.storage.value.bytes };
 
-    ghost invariant = { λ b. length b.storage.value.bytes.items ≡ buffer_len };
+    ghost invariant = { λ b. length b.storage.value.bytes ≡ buffer_len };
 }
 
 impl ReadBuffer {

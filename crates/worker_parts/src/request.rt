@@ -52,15 +52,15 @@ fn answer_over(
     source: Underlay,
     now: u64,
     problem: &Problem,
-    bytes: &mut Vec<u8>,
+    bytes: &mut [u8],
     len: usize,
 ) -> AnswerLen
-    requires long { length bytes.old.items ≡ buffer_len }
+    requires long { length bytes.old ≡ buffer_len }
     requires len { len ≤ buffer_len }
-    requires sound { IsAnswerable (take len bytes.old.items) problem.now }
-    ensures answer { outcome_in bytes.new.items result ≡ answered config.now link source now (take len bytes.old.items) problem.now }
+    requires sound { IsAnswerable (take len bytes.old) problem.now }
+    ensures answer { outcome_in bytes.new result ≡ answered config.now link source now (take len bytes.old) problem.now }
     ensures fits { used result ≤ 1232 }
-    ensures same { length bytes.new.items ≡ buffer_len }
+    ensures same { length bytes.new ≡ buffer_len }
 {
     let mut out = [0; LONGEST_ANSWER];
     let answer = answer_into(config, link, source, now, &bytes[..len], problem, &mut out);
@@ -123,7 +123,7 @@ fn answer_packet<N: RunBrand>(
         source,
         now,
         problem,
-        &mut storage.bytes,
+        storage.bytes.as_mut_slice(),
         len,
     ) {
         AnswerLen::Send { link, to, len } => {
