@@ -5,6 +5,7 @@ use Rattle.process_packet.specs.declared.config.Config.{Config}
 use Rattle.packet_ledger.specs.Share.{AreWithinTheirs, Held, forwarded, sum_at}
 use Rattle.packet_ledger.specs.Shown.{Shown}
 use Rattle.router_rules.specs.Links.{link_count}
+use Rattle.worker_laws.proofs.Composed.{map_get}
 use Rattle.worker_order.specs.Returned.{AllAt}
 use Rattle.worker_forwarder.specs.Forwarding.{Forwarding}
 use Rattle.worker_receiver.specs.Receiving.{Receiving}
@@ -53,11 +54,6 @@ after_get (x ∷ xs) ys (suc n) k y long at =
     let e : suc n + k ≡ suc (n + k) = omega arith in
     ap (λ (m : ℕ). slice_get (x ∷ (xs ++ ys)) m) e ∙ after_get xs ys n k y (omega arith) at
 
-map_at : {X Y : Type 0} (f : X → Y) (xs : List X) (k : ℕ) (x : X) → slice_get xs k ≡ Some x → slice_get (map f xs) k ≡ Some (f x)
-map_at f [] k x at = absurd cc
-map_at f (y ∷ xs) zero x at = let e : y ≡ x = cc in ap (λ z. Some (f z)) e
-map_at f (y ∷ xs) (suc k) x at = map_at f xs k x at
-
 -- ---- the shares of a crew that came back
 
 module _ {S G K : Type 0} (same_source : S → S → Type 0) (same_sink : K → K → Type 0) (c : Config) (p : Piping) (old new : Crew S G K) (is : IsCrew c p old) (back : IsBack same_source same_sink old new) where
@@ -97,7 +93,7 @@ module _ {S G K : Type 0} (same_source : S → S → Type 0) (same_sink : K → 
   sent_within look sent within are l n at =
       let found = found_at (λ (f : Forwarding K). forwarded f.side.share) new.forwarders l n (sym (ap (λ (xs : List ℕ). slice_get xs l) are) ∙ at) in
       let s = found.0.side.share in
-      let own = map_at (λ (f : Forwarding K). f.side.share) new.forwarders l found.0 found.1.0 in
+      let own = map_get (λ (f : Forwarding K). f.side.share) new.forwarders l found.0 found.1.0 in
       let there : slice_get (shares_in new) (link_count c + (c.processors + suc l)) ≡ Some s = after_get rs (ps ++ new.slow.side.share ∷ fs) (link_count c) (c.processors + suc l) s rs_long (after_get ps (new.slow.side.share ∷ fs) c.processors (suc l) s ps_long own) in
       let out : Held → ℕ = λ h. h.posted.sent + h.posted.answered in
       let one = sum_one out 0 (link_count c + (c.processors + suc l)) (shares_in new) s placed there in
