@@ -10,16 +10,11 @@ all: bin/router
 # What a proof reads.
 PROVED = crates.txt HANDLES $(shell find crates -name out -prune -o \( -name '*.rt' -o -name '*.antt' \) -print)
 
-# How many checks are made side by side: one for each processor that has 4 GiB of memory. Each is one job, since two jobs
-# take more of the processors' time for the same check.
-LANES ?= $(shell awk -v cores=$$(nproc) '/^MemAvailable/ { n = int($$2 / 4194304) } \
-	END { if (n > cores) n = cores; print (n > 1 ? n : 1) }' /proc/meminfo)
+# Proves the program and all that it stands on, and builds it.
+$(PROGRAM): $(PROVED)
+	RT="$(RT)" tools/prove.sh router_program $@
 
-# Proves the program and all that it stands on, and builds it. Where nothing changed it is taken as it is: the kit takes
-# minutes to find that out.
-bin/router: $(PROVED)
-	RT="$(RT)" tools/prove.sh router_program router_run $(LANES)
-	cd crates/router_program && $(RT) run -- --version
+bin/router: $(PROGRAM)
 	mkdir -p bin
 	cp $(PROGRAM) bin/router
 
@@ -46,9 +41,7 @@ demo: bin/router
 	bin/router $(ROUTE_FIRST) < examples/first-datagram.hex
 
 bin/path_probe: $(PROVED)
-	cd crates/path_probe && $(RT) run -- --help
-	mkdir -p bin
-	cp crates/path_probe/out/path_probe bin/path_probe
+	RT="$(RT)" tools/prove.sh path_probe $@
 
 # What `make try-net` does, by the proved program, in a process for each router.
 demo-net: bin/router bin/path_probe
@@ -58,18 +51,19 @@ demo-net: bin/router bin/path_probe
 GROWN = engine_tests pipeline_tests run_tests
 GROWN_TESTS = $(foreach it,$(GROWN),crates/$(it)/out/$(it)_tests)
 
+# How many crates the gate proves side by side: one for each processor that has 4 GiB of memory.
+LANES ?= $(shell awk -v cores=$$(nproc) '/^MemAvailable/ { n = int($$2 / 4194304) } \
+	END { if (n > cores) n = cores; print (n > 1 ? n : 1) }' /proc/meminfo)
+
 # The merge gate; last, the program that it built is given the tables of tests/lines, and its commands and some tests are
-# refused each growth in turn, unless the system forbids that (77). It needs python3 too.
+# refused each growth in turn, unless the system forbids that (77). It needs python3 too. Where it took an earlier run's
+# results, it may have built no program and no tests.
 test:
 	rm -f $(PROGRAM) $(GROWN_TESTS)
 	RT_JOBS=$(LANES) $(RT) ci
 	$(MAKE) $(PROGRAM) $(GROWN_TESTS)
 	tests/lines/check.py $(PROGRAM)
 	tests/faults/growths.py check check-net import route replay run run-metrics $(GROWN) || [ $$? -eq 77 ]
-
-# Where the gate took an earlier run's results, it may have built no program.
-$(PROGRAM):
-	cd crates/router_program && $(RT) run -- --version
 
 TESTS = $(GROWN_TESTS) $(foreach it,packet_tests stages_tests,crates/$(it)/out/$(it)_tests)
 
