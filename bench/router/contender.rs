@@ -1,9 +1,10 @@
-//! The programs that carry datagrams from port 41001 to port 42002.
+//! The programs that carry datagrams from port 41001 to port 42002, each of a loopback address of its own.
 
 use crate::cores::Cores;
 use std::fmt;
 use std::fs;
 use std::io::{BufRead, BufReader, Read, Write};
+use std::net::Ipv4Addr;
 use std::path::Path;
 use std::process::{Child, ChildStdout, Command, Stdio};
 use std::thread;
@@ -22,6 +23,8 @@ pub struct Programs<'a> {
 pub enum Kind {
     /// The router.
     Router { links: u16, processors: u16 },
+    /// The router once more: how far two of the same come apart in a run.
+    Twin { links: u16, processors: u16 },
     /// The same in plain Rust.
     Plain { links: u16, processors: u16 },
     /// C by recvfrom and sendto.
@@ -36,6 +39,9 @@ impl fmt::Display for Kind {
     fn fmt(&self, f: &mut fmt::Formatter) -> fmt::Result {
         match self {
             Kind::Router { links, processors } => write!(f, "router, {links} links, {processors}"),
+            Kind::Twin { links, processors } => {
+                write!(f, "router again, {links} links, {processors}")
+            }
             Kind::Plain { links, processors } => write!(f, "rust, {links} links, {processors}"),
             Kind::One => write!(f, "c, recvfrom and sendto"),
             Kind::Many => write!(f, "c, recvmmsg and sendmmsg"),
@@ -51,33 +57,34 @@ pub struct Contender {
     output: BufReader<ChildStdout>,
 }
 
-fn configuration(links: u16, processors: u16) -> String {
+fn configuration(host: Ipv4Addr, links: u16, processors: u16) -> String {
     let mut text = format!(
         "version = 1\nisd_as = \"1-ff00:0:110\"\nkey = \"2b7e151628aed2a6abf7158809cf4f3c\"\n\
-         internal = \"127.0.0.1:41000\"\nhost_port = 30041\nprocessors = {processors}\n\
+         internal = \"{host}:41000\"\nhost_port = 30041\nprocessors = {processors}\n\
          capacity = 1024\nbuffers = 2048\nseed = 0\n"
     );
     for id in 1..=links {
         let (local, remote) = (41000 + id, 42000 + id);
         text.push_str(&format!(
-            "[[link]]\nid = {id}\nkind = \"core\"\nlocal = \"127.0.0.1:{local}\"\nremote = \"127.0.0.1:{remote}\"\n"
+            "[[link]]\nid = {id}\nkind = \"core\"\nlocal = \"{host}:{local}\"\nremote = \"{host}:{remote}\"\n"
         ));
     }
     text
 }
 
-fn command(programs: &Programs, kind: Kind) -> Command {
+fn command(programs: &Programs, kind: Kind, host: Ipv4Addr) -> Command {
     match kind {
-        Kind::Router { links, processors } => {
-            let path = programs.room.join(format!("{links}-{processors}.toml"));
-            fs::write(&path, configuration(links, processors)).expect("room for a configuration");
+        Kind::Router { links, processors } | Kind::Twin { links, processors } => {
+            let path = programs.room.join(format!("{host}.toml"));
+            fs::write(&path, configuration(host, links, processors))
+                .expect("room for a configuration");
             let mut command = Command::new(programs.router);
             command.arg("run").arg("--config").arg(path);
             command
         }
         Kind::Plain { links, processors } => {
             let mut command = Command::new(programs.plain);
-            command.arg(links.to_string()).arg(processors.to_string());
+            command.args([host.to_string(), links.to_string(), processors.to_string()]);
             command
         }
         Kind::One | Kind::Many | Kind::Three => {
@@ -87,16 +94,16 @@ fn command(programs: &Programs, kind: Kind) -> Command {
                 Kind::Three => "three",
                 _ => "one",
             };
-            command.args([how, "41001", "41002", "42002"]);
+            command.args([how, &host.to_string(), "41001", "41002", "42002"]);
             command
         }
     }
 }
 
 impl Contender {
-    /// Starts it, and waits until it is ready.
-    pub fn start(programs: &Programs, kind: Kind, cores: &Cores) -> Contender {
-        let mut command = command(programs, kind);
+    /// Starts it at a loopback address, and waits until it is ready.
+    pub fn start(programs: &Programs, kind: Kind, host: Ipv4Addr, cores: &Cores) -> Contender {
+        let mut command = command(programs, kind, host);
         cores.keep_program(&mut command);
         let mut child = command
             .stdin(Stdio::piped())
@@ -136,7 +143,7 @@ impl Contender {
 
     /// Ends it. The router's report has to account for each datagram that was read.
     pub fn end(mut self) {
-        if !matches!(self.kind, Kind::Router { .. }) {
+        if !matches!(self.kind, Kind::Router { .. } | Kind::Twin { .. }) {
             return;
         }
         let mut commands = self.child.stdin.take().expect("an input");

@@ -1,9 +1,9 @@
-/* Carries datagrams from one UDP socket of the loopback address to another, without looking at them: what the sockets
+/* Carries datagrams from one UDP socket of a loopback address to another, without looking at them: what the sockets
    alone cost one thread, and what a pipeline of three threads costs that does nothing else.
 
-   forward one|many|three IN OUT TO: by recvfrom and sendto, by recvmmsg and sendmmsg with up to 64 at a time, or by
-   recvfrom, a thread between, and sendto. It reads at port IN, sends from port OUT to port TO, and prints "ready" once
-   it can. */
+   forward one|many|three HOST IN OUT TO: by recvfrom and sendto, by recvmmsg and sendmmsg with up to 64 at a time, or by
+   recvfrom, a thread between, and sendto. It reads at port IN of the address HOST, sends from port OUT to port TO, and
+   prints "ready" once it can. */
 #define _GNU_SOURCE
 #include <arpa/inet.h>
 #include <linux/futex.h>
@@ -18,16 +18,17 @@
 
 enum { ROOM = 9217, MANY = 64, SLOTS = 1024 };
 
-static struct sockaddr_in at(const char *port)
+static struct sockaddr_in at(const char *host, const char *port)
 {
     struct sockaddr_in address = {.sin_family = AF_INET, .sin_port = htons(atoi(port))};
-    address.sin_addr.s_addr = htonl(INADDR_LOOPBACK);
+    if (inet_pton(AF_INET, host, &address.sin_addr) != 1)
+        exit(2);
     return address;
 }
 
-static int bound(const char *port)
+static int bound(const char *host, const char *port)
 {
-    struct sockaddr_in address = at(port);
+    struct sockaddr_in address = at(host, port);
     int fd = socket(AF_INET, SOCK_DGRAM, 0), room = 1 << 30;
     setsockopt(fd, SOL_SOCKET, SO_RCVBUF, &room, sizeof room);
     if (fd < 0 || bind(fd, (struct sockaddr *)&address, sizeof address) != 0) {
@@ -179,15 +180,16 @@ static void by_three_threads(int in, int out, struct sockaddr_in to)
 
 int main(int count, char **words)
 {
-    if (count != 5)
+    if (count != 6)
         return 2;
-    int in = bound(words[2]), out = bound(words[3]);
+    int in = bound(words[2], words[3]), out = bound(words[2], words[4]);
+    struct sockaddr_in to = at(words[2], words[5]);
     puts("ready");
     fflush(stdout);
     if (strcmp(words[1], "many") == 0)
-        many_by_many(in, out, at(words[4]));
+        many_by_many(in, out, to);
     else if (strcmp(words[1], "three") == 0)
-        by_three_threads(in, out, at(words[4]));
+        by_three_threads(in, out, to);
     else
-        one_by_one(in, out, at(words[4]));
+        one_by_one(in, out, to);
 }

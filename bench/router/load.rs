@@ -96,13 +96,36 @@ pub struct Load {
     cores: Cores,
 }
 
-/// What came of a flood.
+/// What came of floods.
+#[derive(Default)]
 pub struct Flooded {
-    /// Datagrams a second that came through.
-    pub rate: f64,
-    /// Processor time of each of them, in nanoseconds.
-    pub nanos: f64,
+    /// Datagrams that came through, in so many seconds.
+    came: f64,
+    seconds: f64,
+    /// Processor time for them, in nanoseconds.
+    spent: f64,
 }
+
+impl Flooded {
+    pub fn add(&mut self, other: Flooded) {
+        self.came += other.came;
+        self.seconds += other.seconds;
+        self.spent += other.spent;
+    }
+
+    /// Datagrams a second that came through.
+    pub fn rate(&self) -> f64 {
+        self.came / self.seconds
+    }
+
+    /// Processor time of each of them, in nanoseconds.
+    pub fn nanos(&self) -> f64 {
+        self.spent / self.came.max(1.0)
+    }
+}
+
+/// How long a flood lasts before what comes through counts.
+const WARM: Duration = Duration::from_millis(50);
 
 /// Reads datagrams until it is stopped, and counts them.
 fn count_all(socket: &UdpSocket, size: usize, count: &AtomicU64, stop: &AtomicBool) {
@@ -131,12 +154,11 @@ fn send_all(socket: &UdpSocket, size: usize, stop: &AtomicBool) {
 }
 
 impl Load {
-    pub fn new(size: usize, cores: Cores) -> Load {
-        let sender = UdpSocket::bind((Ipv4Addr::LOCALHOST, 42001)).expect("port 42001");
-        sender
-            .connect((Ipv4Addr::LOCALHOST, 41001))
-            .expect("an address");
-        let receiver = UdpSocket::bind((Ipv4Addr::LOCALHOST, 42002)).expect("port 42002");
+    /// The neighbours of the program at a loopback address.
+    pub fn new(host: Ipv4Addr, size: usize, cores: Cores) -> Load {
+        let sender = UdpSocket::bind((host, 42001)).expect("port 42001");
+        sender.connect((host, 41001)).expect("an address");
+        let receiver = UdpSocket::bind((host, 42002)).expect("port 42002");
         let (level, receive_buffer) = (1, 8);
         unsafe { setsockopt(receiver.as_raw_fd(), level, receive_buffer, &(1 << 30), 4) };
         let patience = Some(Duration::from_millis(100));
@@ -161,14 +183,16 @@ impl Load {
                 self.cores.keep_sender();
                 send_all(&self.sender, self.size, &stop);
             });
-            thread::sleep(Duration::from_millis(300));
+            thread::sleep(WARM);
             let (start, before, used) = (Instant::now(), count.load(Ordering::Relaxed), spent());
             thread::sleep(length);
-            let came = (count.load(Ordering::Relaxed) - before) as f64;
-            let nanos = (spent() - used) as f64 / came.max(1.0);
-            let rate = came / start.elapsed().as_secs_f64();
+            let flooded = Flooded {
+                came: (count.load(Ordering::Relaxed) - before) as f64,
+                seconds: start.elapsed().as_secs_f64(),
+                spent: (spent() - used) as f64,
+            };
             stop.store(true, Ordering::Relaxed);
-            Flooded { rate, nanos }
+            flooded
         });
         self.drain();
         flooded

@@ -1,8 +1,8 @@
 //! Times the router over loopback beside plain Rust and C. `bench ROUTER PLAIN FORWARD ROOM`: the programs, and a
-//! directory for configurations. Each round starts each of them for each size of datagram, floods it for a while, and
-//! then sends at a steady pace; then each is left alone. Medians of all rounds are printed, and of a flood the least and
-//! the most too. The environment may have ROUNDS, SECONDS, how long each of these takes, and ONLY, a part of the names of
-//! those that are timed.
+//! directory for configurations. Each round starts all of them for each size of datagram, floods them by short turns,
+//! since what else the machine does changes within seconds, and then sends at a steady pace to each; then each is left
+//! alone. Medians of all rounds are printed, and of a flood the least and the most too. The environment may have ROUNDS,
+//! SECONDS, how long each of these takes in a round, and ONLY, a part of the names of those that are timed.
 
 #[path = "../decision/cipher.rs"]
 #[allow(dead_code)]
@@ -16,6 +16,7 @@ use contender::{Contender, Kind, Programs};
 use cores::Cores;
 use load::{Flooded, Load, Paced};
 use std::env;
+use std::net::Ipv4Addr;
 use std::path::PathBuf;
 use std::time::Duration;
 
@@ -23,6 +24,9 @@ use std::time::Duration;
 const PACE: u64 = 20_000;
 
 const SIZES: [usize; 2] = [200, 1400];
+
+/// How long one turn of a flood counts.
+const TURN: Duration = Duration::from_millis(125);
 
 /// How many processors the router and plain Rust have.
 const PROCESSORS: [u16; 3] = [1, 2, 4];
@@ -41,10 +45,17 @@ const fn plain(processors: u16) -> Kind {
     }
 }
 
+/// The router with two processors, once more.
+const TWIN: Kind = Kind::Twin {
+    links: 2,
+    processors: 2,
+};
+
 /// What is compared stands side by side, and so runs one after the other.
-const CONTENDERS: [Kind; 9] = [
+const CONTENDERS: [Kind; 10] = [
     router(1),
     plain(1),
+    TWIN,
     router(2),
     plain(2),
     router(4),
@@ -67,6 +78,11 @@ const IDLE: [Kind; 4] = [
     },
 ];
 
+/// A loopback address for each contender.
+fn hosts() -> impl Iterator<Item = Ipv4Addr> {
+    (1..=u8::MAX).map(|number| Ipv4Addr::new(127, 0, 0, number))
+}
+
 /// What one contender came to, in each round.
 #[derive(Default)]
 struct Figures {
@@ -85,8 +101,8 @@ struct Figures {
 
 impl Figures {
     fn add(&mut self, flooded: Flooded, paced: Paced) {
-        self.flooded.push(flooded.rate);
-        self.busy.push(flooded.nanos);
+        self.flooded.push(flooded.rate());
+        self.busy.push(flooded.nanos());
         self.nanos.push(paced.nanos);
         self.middle.push(paced.middle);
         self.late.push(paced.late);
@@ -141,19 +157,29 @@ fn main() {
     for round in 1..=rounds {
         eprintln!("round {round} of {rounds}");
         for (at, size) in SIZES.iter().enumerate() {
-            let load = Load::new(*size, cores);
-            let contenders = CONTENDERS.iter().zip(&mut figures);
-            let mut turns: Vec<_> = contenders.filter(|(kind, _)| is_timed(kind)).collect();
-            // what comes first in one round comes last in the next
+            let contenders = CONTENDERS.iter().zip(&mut figures).zip(hosts());
+            let timed = contenders.filter(|((kind, _), _)| is_timed(kind));
+            let mut turns: Vec<_> = timed
+                .map(|((kind, figures), host)| {
+                    let contender = Contender::start(&programs, *kind, host, &cores);
+                    let load = Load::new(host, *size, cores);
+                    (contender, load, Flooded::default(), &mut figures[at])
+                })
+                .collect();
+            // what comes first in one turn, or in one round, comes last in the next
+            for _ in 0..length.as_millis() / TURN.as_millis() {
+                for (contender, load, flooded, _) in &mut turns {
+                    flooded.add(load.flood(TURN, || contender.spent()));
+                }
+                turns.reverse();
+            }
             if round % 2 == 0 {
                 turns.reverse();
             }
-            for (kind, figures) in turns {
-                let contender = Contender::start(&programs, *kind, &cores);
-                let flooded = load.flood(length, || contender.spent());
+            for (contender, load, flooded, figures) in turns {
                 let paced = load.pace(PACE, length, || contender.spent());
                 contender.end();
-                figures[at].add(flooded, paced);
+                figures.add(flooded, paced);
             }
         }
         for (kind, shares) in IDLE
@@ -161,7 +187,7 @@ fn main() {
             .zip(&mut idle)
             .filter(|(kind, _)| is_timed(kind))
         {
-            let contender = Contender::start(&programs, *kind, &cores);
+            let contender = Contender::start(&programs, *kind, Ipv4Addr::LOCALHOST, &cores);
             shares.push(contender.idle_share(length));
             contender.end();
         }
@@ -223,6 +249,9 @@ fn main() {
             let ratio = sides.map(|(own, rust)| median(&ratios(&own.flooded, &rust.flooded)));
             print_or_skip(&format!("run/rust {size} {processors}"), ratio, 2);
         }
+        let sides = of(TWIN, at).zip(of(router(2), at));
+        let ratio = sides.map(|(again, own)| median(&ratios(&again.flooded, &own.flooded)));
+        print_or_skip(&format!("run/run {size} 2"), ratio, 2);
         let best = PROCESSORS
             .iter()
             .filter_map(|it| of(router(*it), at))

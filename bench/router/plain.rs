@@ -1,6 +1,6 @@
-//! The running router in plain Rust: threads, sockets and waiting around the workers of `workers.rs`. `plain LINKS
-//! PROCESSORS` takes link k's datagrams at port 41000 + k of the loopback address, sends them on to port 42000 + k, and
-//! prints `ready`; the internal network is port 41000. It runs until it is killed.
+//! The running router in plain Rust: threads, sockets and waiting around the workers of `workers.rs`. `plain HOST LINKS
+//! PROCESSORS` takes link k's datagrams at port 41000 + k of a loopback address, sends them on to port 42000 + k of it,
+//! and prints `ready`; the internal network is port 41000. It runs until it is killed.
 
 #[path = "../array_queue.rs"]
 mod array_queue;
@@ -16,7 +16,7 @@ mod workers;
 use cipher::{BlockCmac, HopMac};
 use plain::{Config, Link, LinkKind, Underlay};
 use std::env;
-use std::net::{IpAddr, Ipv4Addr, SocketAddr, UdpSocket};
+use std::net::{IpAddr, SocketAddr, UdpSocket};
 use std::os::fd::AsRawFd;
 use std::sync::Arc;
 use std::sync::atomic::AtomicU64;
@@ -34,15 +34,13 @@ const KEY: [u8; 16] = [
     0x2b, 0x7e, 0x15, 0x16, 0x28, 0xae, 0xd2, 0xa6, 0xab, 0xf7, 0x15, 0x88, 0x09, 0xcf, 0x4f, 0x3c,
 ];
 
-const HERE: IpAddr = IpAddr::V4(Ipv4Addr::LOCALHOST);
-
 unsafe extern "C" {
     fn setsockopt(fd: i32, level: i32, name: i32, value: *const i32, len: u32) -> i32;
 }
 
 /// A socket at a port, with the largest receive buffer that the system gives.
-fn socket_at(port: u16) -> UdpSocket {
-    let socket = UdpSocket::bind((HERE, port)).expect("a free port");
+fn socket_at(host: IpAddr, port: u16) -> UdpSocket {
+    let socket = UdpSocket::bind((host, port)).expect("a free port");
     let (level, receive_buffer) = (1, 8);
     unsafe { setsockopt(socket.as_raw_fd(), level, receive_buffer, &(1 << 30), 4) };
     socket
@@ -79,12 +77,12 @@ impl Sink for UdpSink {
     }
 }
 
-fn router(links: u16, processors: u32) -> Router {
+fn router(host: IpAddr, links: u16, processors: u32) -> Router {
     let link = |id| Link {
         id,
         kind: LinkKind::Core,
         remote: Underlay {
-            ip: HERE,
+            ip: host,
             port: 42000 + id,
         },
         neighbor: None,
@@ -159,15 +157,15 @@ fn spawn(run: impl FnOnce() + Send + 'static) {
 }
 
 fn main() {
-    let number = |at| {
-        env::args()
-            .nth(at)
-            .and_then(|word| word.parse::<u16>().ok())
+    let word = |at| env::args().nth(at).unwrap_or_default();
+    let (Ok(host), Ok(links), Ok(processors)) = (
+        word(1).parse::<IpAddr>(),
+        word(2).parse::<u16>(),
+        word(3).parse::<u16>(),
+    ) else {
+        panic!("plain HOST LINKS PROCESSORS");
     };
-    let (Some(links), Some(processors)) = (number(1), number(2)) else {
-        panic!("plain LINKS PROCESSORS");
-    };
-    let router = Arc::new(router(links, u32::from(processors)));
+    let router = Arc::new(router(host, links, u32::from(processors)));
     let (links, processors) = (usize::from(links) + 1, usize::from(processors));
     let stop = Arc::new(AtomicU64::new(0));
     let inner = pipes::<Packet>(processors);
@@ -185,10 +183,10 @@ fn main() {
     }
     let to_processors: Vec<_> = inner.iter().map(|(pipe, _)| Arc::clone(pipe)).collect();
     for link in 0..links {
-        let socket = socket_at(41000 + link as u16);
+        let socket = socket_at(host, 41000 + link as u16);
         let sink = UdpSink {
             socket: socket.try_clone().expect("a socket"),
-            remote: (link > 0).then(|| SocketAddr::new(HERE, 42000 + link as u16)),
+            remote: (link > 0).then(|| SocketAddr::new(host, 42000 + link as u16)),
         };
         let mut receiver = Receiver::new(
             Arc::clone(&router),
