@@ -3,8 +3,8 @@
 # Use: tools/prove.sh CRATE TO, with the kit's command in RT if it isn't `rt`. The program is put into the file TO.
 #
 # It is the gate, `rt ci`, over just these crates, without their must-fail edits: it works on all processors at the longest
-# chain of crates first, and loads of each crate below just what it states. `rt check` loads their proofs too, which takes
-# twice as long. What the gate proved is kept on the machine: neither `make test` nor the next call proves it again.
+# chain of crates first, and loads of each crate below just what it states, where `rt check` loads their proofs too. Where
+# the kit can write beside itself, what was proved is kept: neither `make test` nor the next call proves it again.
 set -eu
 
 crate=$1 to=$2
