@@ -12,7 +12,7 @@ PROVED = crates.txt HANDLES $(shell find crates -name out -prune -o \( -name '*.
 
 # Proves the program and all that it stands on, and builds it.
 $(PROGRAM): $(PROVED)
-	RT="$(RT)" tools/prove.sh router_program $@
+	RT="$(RT)" tools/prove.py router_program $@
 
 bin/router: $(PROGRAM)
 	mkdir -p bin
@@ -41,7 +41,7 @@ demo: bin/router
 	bin/router $(ROUTE_FIRST) < examples/first-datagram.hex
 
 bin/path_probe: $(PROVED)
-	RT="$(RT)" tools/prove.sh path_probe $@
+	RT="$(RT)" tools/prove.py path_probe $@
 
 # What `make try-net` does, by the proved program, in a process for each router.
 demo-net: bin/router bin/path_probe
