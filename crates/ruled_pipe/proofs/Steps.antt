@@ -23,10 +23,10 @@ module _ {T : Type 0} where
       subst P (sym is) (pushes n port p offers x own, refused port p n offers)
 
   pub takes_from : (n : Size) (port : ℕ) (v : View T) (taken : List (Entry T)) → v ≡ consumer n taken
-      → Pops Piped port v (λ x w. (x.from < v.size.producers) × (w ≡ consumer v.size (v.taken ++ x ∷ []))) × Learns Piped port v (λ held. ⊤)
+      → Pops Piped port v (λ x w. (x.from < v.size.producers) × (w ≡ consumer v.size (v.taken ++ x ∷ [])))
   takes_from n port v taken is =
-      let P : View T → Type 0 = λ u. Pops Piped port u (λ x w. (x.from < u.size.producers) × (w ≡ consumer u.size (u.taken ++ x ∷ []))) × Learns Piped port u (λ held. ⊤) in
-      subst P (sym is) (takes port n taken, λ held views h at. tt)
+      let P : View T → Type 0 = λ u. Pops Piped port u (λ x w. (x.from < u.size.producers) × (w ≡ consumer u.size (u.taken ++ x ∷ []))) in
+      subst P (sym is) (takes port n taken)
 
   -- what a refusal says stays true when more is offered
   stays_full : (m p n : ℕ) (offers : List (Entry T)) (e : Entry T) (r : Refusal T) → WasFull m p n offers r → WasFull m p n (offers ++ e ∷ []) r

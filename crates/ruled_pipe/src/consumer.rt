@@ -51,15 +51,17 @@ impl<T: Drop> Drop for Consumer<T> {
 }
 
 impl<T: Drop> Consumer<T> {
-    /// Takes the entry at the front. At `None` the look is noted; no clause says that the queue was empty. It
-    /// takes no memory. Where many looks in a row found an entry, and few are held, it spins for some
-    /// microseconds first, so that entries gather.
+    /// Takes the entry at the front. At `None` the look is noted; no clause says that the queue was empty: an
+    /// entry that a producer is still writing isn't there yet, nor is what stands behind it. It takes no memory.
+    /// Where many looks in a row found an entry, and few are held, it spins for some microseconds first, so that
+    /// entries gather.
     pub fn take<R: Wait>(&mut self, rt: &R) -> Option<Entry<T>>
         ensures step { MatchOption result (self.new ≡ looked self.old) (λ e. self.new ≡ took self.old e) }
         ensures below { IfSome result (λ e. e.from < self.old.producers) }
     {
         keep_apart(rt, &self.queue, &mut self.seat, &mut self.pace);
-        match self.queue.pop_as::<Takes, R>(rt, &mut self.seat) {
+        // it waits for no producer, which may have lost its processor halfway through an entry
+        match self.queue.try_pop_as::<Takes>(&mut self.seat) {
             Some(entry) => Some(entry),
             None => {
                 self.pace = Pace::new();
