@@ -12,6 +12,8 @@ use std::time::{Duration, Instant};
 
 pub struct Programs<'a> {
     pub router: &'a Path,
+    /// The router once more, or another build of it.
+    pub twin: &'a Path,
     pub plain: &'a Path,
     pub forward: &'a Path,
     /// Where configurations are written.
@@ -23,7 +25,7 @@ pub struct Programs<'a> {
 pub enum Kind {
     /// The router.
     Router { links: u16, processors: u16 },
-    /// The router once more: how far two of the same come apart in a run.
+    /// The router once more: how far two of the same come apart in a run, or two builds.
     Twin { links: u16, processors: u16 },
     /// The same in plain Rust.
     Plain { links: u16, processors: u16 },
@@ -75,10 +77,11 @@ fn configuration(host: Ipv4Addr, links: u16, processors: u16) -> String {
 fn command(programs: &Programs, kind: Kind, host: Ipv4Addr) -> Command {
     match kind {
         Kind::Router { links, processors } | Kind::Twin { links, processors } => {
+            let is_twin = matches!(kind, Kind::Twin { .. });
             let path = programs.room.join(format!("{host}.toml"));
             fs::write(&path, configuration(host, links, processors))
                 .expect("room for a configuration");
-            let mut command = Command::new(programs.router);
+            let mut command = Command::new(if is_twin { programs.twin } else { programs.router });
             command.arg("run").arg("--config").arg(path);
             command
         }

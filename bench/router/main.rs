@@ -2,7 +2,8 @@
 //! directory for configurations. Each round starts all of them for each size of datagram, floods them by short turns,
 //! since what else the machine does changes within seconds, and then sends at a steady pace to each; then each is left
 //! alone. Medians of all rounds are printed, and of a flood the least and the most too. The environment may have ROUNDS,
-//! SECONDS, how long each of these takes in a round, and ONLY, a part of the names of those that are timed.
+//! SECONDS, how long each of these takes in a round, ONLY, a part of the names of those that are timed, and TWIN, another
+//! build of the router to run beside it.
 
 #[path = "../decision/cipher.rs"]
 #[allow(dead_code)]
@@ -45,7 +46,7 @@ const fn plain(processors: u16) -> Kind {
     }
 }
 
-/// The router with two processors, once more.
+/// The router with two processors, once more, or another build of it.
 const TWIN: Kind = Kind::Twin {
     links: 2,
     processors: 2,
@@ -127,8 +128,10 @@ fn main() {
     let [own, rust, forward, room] = words.as_slice() else {
         panic!("bench ROUTER PLAIN FORWARD ROOM");
     };
+    let twin = env::var_os("TWIN").map_or_else(|| own.clone(), PathBuf::from);
     let programs = Programs {
         router: own,
+        twin: &twin,
         plain: rust,
         forward,
         room,
