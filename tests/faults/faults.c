@@ -270,7 +270,8 @@ static bool adds_up(const struct command *command, const struct ending *ending, 
 /* The fault of a socket: each link has one, and the counts have the last. They are made and bound in order. */
 static bool names_its_socket(const struct command *command, const struct ending *ending) {
     static const char *const faults[] = {"socket 0", "socket 1", "socket 2", "metrics", NULL};
-    if (!command->runs || page->kind == CONTROL) return command->runs && tells(command, ending, faults);
+    if (!command->runs || page->kind == CONTROL || page->kind == OPTION)
+        return command->runs && tells(command, ending, faults);
     return page->at <= (command->shows ? 4 : 3) && tells_one(command, ending, faults[page->at - 1]);
 }
 
@@ -296,9 +297,11 @@ static bool is_good(const struct command *command, const struct ending *ending) 
         /* Where no write succeeds the fault can't be printed. */
         return page->lasts ? silent : tells_one(command, ending, "output");
     case SOCKET:
-    case BIND:
-    case CONTROL: return names_its_socket(command, ending);
-    case OPTION: return is_right(command, ending) || (command->shows && tells_one(command, ending, "metrics"));
+    case BIND: return names_its_socket(command, ending);
+    /* A socket's waits are limited before it is used; while it carries packets a refusal changes nothing. Nor does it
+       for the size of its buffer. */
+    case CONTROL:
+    case OPTION: return is_right(command, ending) || names_its_socket(command, ending);
     case THREAD: return command->runs && tells_one(command, ending, "start 3");
     case SEND:
         /* Where there is no room a send is tried twice. */
@@ -396,7 +399,7 @@ static void refuse(const struct command *command, const struct refusal *refusal,
 /* Whether the library counts the program's calls. Where it couldn't be loaded, or stands before other
    functions than those that are called, nothing would ever be refused, and each run would be good. */
 static bool is_watched(const struct command *command) {
-    static const enum kind of_router[] = {GROWTH, SOCKET, BIND, THREAD, RECEIVE, SEND, POLL, CLOCK};
+    static const enum kind of_router[] = {GROWTH, SOCKET, BIND, THREAD, RECEIVE, SEND, CLOCK};
     bool watched = atomic_load(&page->counts[WRITE]) > 0;
     for (size_t k = 0; command->runs && k < sizeof of_router / sizeof *of_router; k++)
         watched = watched && atomic_load(&page->counts[of_router[k]]) > 0;

@@ -1,6 +1,6 @@
 /* Runs the router over loopback and floods it for a while, after a gentle beginning. Its neighbours are
    sockets of this program: some are read, one is not, one is closed during the flood; links are closed by
-   commands; and now and then the system refuses the router's sends, receives and polls. In the end the
+   commands; and now and then the system refuses the router's sends and receives. In the end the
    router's report has to account for every datagram that the system gave it. */
 #define _GNU_SOURCE
 #include "../datagrams.h"
@@ -474,9 +474,9 @@ static long resident(void) {
     return kilobytes;
 }
 
-/* The system refuses the router's sends, its receives or its polls, by turns, for 20 milliseconds. */
+/* The system refuses the router's sends or its receives, by turns, for 20 milliseconds. */
 static void refuse_a_while(int turn) {
-    static const enum kind kinds[] = {SEND, RECEIVE, POLL};
+    static const enum kind kinds[] = {SEND, RECEIVE, RECEIVE};
     static const int errors[] = {ENOBUFS, ECONNREFUSED, ENOMEM};
     page->error = errors[turn % 3];
     page->kind = kinds[turn % 3];
@@ -578,7 +578,6 @@ static void judge_flood(unsigned long crossed, unsigned long growths, unsigned l
         if (!atomic_load(&of_fault[fault]))
             fail("no answer for '%s' arrived, so this wasn't tried", names[fault]);
     if (!atomic_load(&page->failed[RECEIVE])) fail("no receive was refused, so this wasn't tried");
-    if (!atomic_load(&page->failed[POLL])) fail("no poll was refused, so this wasn't tried");
     if (growths > given) fail("%lu growths for %lu commands", growths, given);
 }
 
@@ -662,8 +661,8 @@ int main(int count, char **words) {
            atomic_load(&packets), atomic_load(&answers));
     for (int fault = 0; fault < FAULTS; fault++)
         printf("    %s %lu\n", names[fault], atomic_load(&of_fault[fault]));
-    printf("the system refused %lu sends, %lu receives, %lu polls\n", atomic_load(&page->failed[SEND]),
-           atomic_load(&page->failed[RECEIVE]), atomic_load(&page->failed[POLL]));
+    printf("the system refused %lu sends, %lu receives\n", atomic_load(&page->failed[SEND]),
+           atomic_load(&page->failed[RECEIVE]));
     printf("the flood made %lu growths for %lu commands; resident before it %ld KiB, and %ld at its end\n",
            growths, given, before, after);
     printf("failed %d\n", atomic_load(&failures));
