@@ -298,10 +298,11 @@ static bool is_good(const struct command *command, const struct ending *ending) 
         return page->lasts ? silent : tells_one(command, ending, "output");
     case SOCKET:
     case BIND: return names_its_socket(command, ending);
-    /* A socket's waits are limited before it is used; while it carries packets a refusal changes nothing. Nor does it
-       for the size of its buffer. */
-    case CONTROL:
-    case OPTION: return is_right(command, ending) || names_its_socket(command, ending);
+    case CONTROL: /* while a socket carries packets a refusal changes nothing */
+        return is_right(command, ending) || names_its_socket(command, ending);
+    case OPTION: /* of each link's socket two timeouts, which it needs, and the size of its buffer, which it doesn't */
+        if (command->runs && page->at <= 9 && page->at % 3) return names_its_socket(command, ending);
+        return is_right(command, ending) || (command->shows && tells_one(command, ending, "metrics"));
     case THREAD: return command->runs && tells_one(command, ending, "start 3");
     case SEND:
         /* Where there is no room a send is tried twice. */
