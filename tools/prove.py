@@ -4,9 +4,9 @@
 Use: tools/prove.py CRATE TO, with the kit's command in RT if it isn't `rt`. The program is put into the file TO.
 
 Each crate is proved by the kit's `rattle build` over what the crates below it state, as the gate proves it. The gate,
-`rt ci`, asks for more: that the contracts can be met, that wrong bodies are refused, that tests pass. A crate's result
-stands in its out/proved under a sum of all that it was proved from, so that the next call proves just what has changed
-and what stands on that.
+`rt ci`, asks for more: that the code keeps to HANDLES, that the contracts can be met, that wrong bodies are refused, that
+tests pass. A crate's result stands in its out/proved under a sum of all that it was proved from, so that the next call
+proves just what has changed and what stands on that.
 """
 
 import fcntl
@@ -92,7 +92,7 @@ def prove(crate, jobs):
 def prove_and_tell(crate, jobs, ended):
     try:
         ended.put((crate, *prove(crate, jobs)))
-    except OSError as error:
+    except (OSError, SystemExit) as error:
         ended.put((crate, 1, f"{error}\n"))
 
 
