@@ -1,14 +1,22 @@
 -- A post: after it a share holds nothing, or more than may stand in the book; and the rows still add up.
-use Rattle.std.proofs.Common.{◌≡◌, ◌+◌, ◌^◌, ◌<◌, ℕ, List, slice_index, slice_set, inl, inr, ap, subst, arith}
+use Rattle.std.proofs.Common.{◌≡◌, ◌∙◌, ◌+◌, ◌^◌, ◌<◌, ℕ, List, length, slice_index, slice_set, inl, inr, ap, subst, sym, arith}
 use Rattle.std.specs.List.{sum}
+use Rattle.process_packet.specs.Cause.{causes}
 use Rattle.process_packet.specs.declared.totals.Totals.{Totals}
-use Rattle.packet_ledger.specs.Amounts.{AtMost, plus}
+use Rattle.packet_ledger.specs.Amounts.{AtMost, nothing, plus}
 use Rattle.packet_ledger.specs.Share.{Held, IsDrained, IsPosted, MayPost}
 use Rattle.packet_ledger.specs.Shown.{AddUp, HasBooked, Shown}
+use Rattle.packet_ledger.proofs.Counting.{plus_nothing}
 
 pub posted_drains : (old new : Held) → IsPosted old new → IsDrained new
 posted_drains old new (inl is) = inl (ap (λ (s : Held). s.counts) is.1)
 posted_drains old new (inr is) = inr (λ may. is.0 (subst (λ (s : Held). MayPost s) is.1 may))
+
+-- where nothing is counted, a post leaves a share as it is
+pub posted_empty : (s : Held) → length s.posted.dropped ≡ causes → AtMost (2 ^ 109) s.posted → s.counts ≡ nothing → IsPosted s s
+posted_empty s long most none =
+    let same : plus s.posted s.counts ≡ s.posted = ap (plus s.posted) none ∙ plus_nothing s.posted long in
+    inl (subst (AtMost (2 ^ 109)) (sym same) most, λ i. record { counts = none i; posted = sym same i; place = s.place })
 
 pub posted_place : (old new : Held) → IsPosted old new → new.place ≡ old.place
 posted_place old new (inl is) = ap (λ (s : Held). s.place) is.1

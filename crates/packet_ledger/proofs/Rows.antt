@@ -41,6 +41,12 @@ raised (x ∷ xs) zero n there (suc k) = let z = none_at k in omega arith
 raised (x ∷ xs) (suc p) n there zero = omega arith
 raised (x ∷ xs) (suc p) n there (suc k) = raised xs p n (omega arith) k
 
+-- nothing more in one place
+pub raised_none : (xs : List ℕ) (p : ℕ) → p < length xs → slice_set xs p (slice_index xs p + 0) ≡ xs
+raised_none [] p there = absurd (omega arith)
+raised_none (x ∷ xs) zero there = let e : x + 0 ≡ x = omega arith in ap (λ (y : ℕ). y ∷ xs) e
+raised_none (x ∷ xs) (suc p) there = ap (λ (ys : List ℕ). x ∷ ys) (raised_none xs p (omega arith))
+
 -- a single number, place by place, at most, and added to another
 pub single_at : (p n k : ℕ) → slice_index (single p n) k ≡ (if k == p then n else 0)
 single_at zero n zero = refl
@@ -67,7 +73,7 @@ counted_plus p a b =
     λ i. rows_of (ins i) (outs i)
 
 -- rows with nothing more, and rows with more
-none_more : (p k : ℕ) → slice_index (single p 0) k ≡ 0
+pub none_more : (p k : ℕ) → slice_index (single p 0) k ≡ 0
 none_more zero zero = refl
 none_more zero (suc k) = none_at k
 none_more (suc p) zero = refl

@@ -86,6 +86,10 @@ impl<N: RunBrand> Book<N> {
     pub fn post<R: Wait>(&self, rt: &R, share: &mut Share<N>)
         ensures { IsPosted share.old share.new }
     {
+        // a worker that found nothing to do posts before it sleeps, and takes no lock for nothing
+        if share.is_empty() {
+            return;
+        }
         self.sums.lock(rt).post(rt, &self.cell, share);
     }
 

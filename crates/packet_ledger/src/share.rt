@@ -3,7 +3,7 @@
 ghost use Rattle.std.specs.Prelude.{◌≡◌, ◌+◌, ◌-◌, ◌^◌, ◌≤◌, true, MatchBool};
 ghost use Rattle.process_packet.specs.Totals.{dropped_for};
 ghost use Rattle.packet_ledger.specs.Amounts.{nothing};
-ghost use Rattle.packet_ledger.specs.Share.{HasRoom, MayRaise, counting, forwarded, with_answered, with_fate, with_received, with_sent};
+ghost use Rattle.packet_ledger.specs.Share.{HasRoom, IsPosted, MayRaise, counting, forwarded, with_answered, with_fate, with_received, with_sent};
 
 use crate::amounts::at_most;
 use crate::run_brand::RunBrand;
@@ -14,7 +14,7 @@ use std::marker::{Model, PhantomData};
 /// Each count of a share stays at or below this between two posts.
 pub const ROOM: u128 = 1 << 100;
 
-/// How many more times each count is known to fit where nothing is counted.
+/// How many more times each count is known to fit where nothing is counted, and nowhere else.
 pub(crate) const ALL_LEFT: u64 = u64::MAX;
 
 /// One worker's counts, the sums of all that it ever posted into the book `N`, and the place of its row there. Contracts
@@ -32,9 +32,10 @@ pub struct Share<N: RunBrand> {
 }
 
 impl<N: RunBrand> Model for Share<N> {
-    ghost use Rattle.std.specs.Prelude.{◌≡◌, ◌^◌, ◌<◌, []};
+    ghost use Rattle.std.specs.Prelude.{◌≡◌, ◌-◌, ◌^◌, ◌<◌, [], length};
     ghost use Rattle.crossbeam_utils.specs.Seq.{cell_view};
-    ghost use Rattle.packet_ledger.specs.Amounts.{AtMost};
+    ghost use Rattle.process_packet.specs.Cause.{causes};
+    ghost use Rattle.packet_ledger.specs.Amounts.{AtMost, nothing};
     ghost use Rattle.packet_ledger.specs.Shown.{counted_at};
     ghost use Rattle.packet_ledger.specs.Tokens.{holder};
     ghost use Rattle.packet_ledger.specs.Share.{Held, Leaves};
@@ -43,7 +44,7 @@ impl<N: RunBrand> Model for Share<N> {
 
     ghost view = { λ s. record { counts = s.counts; posted = s.posted; place = s.place } };
 
-    ghost invariant = { λ s. (s.token.table_id ≡ N.table) × (s.token.me.1 ≡ []) × (cell_view s.token ≡ holder 1 s.posted (counted_at s.place s.posted)) × AtMost (2 ^ 100) s.counts × AtMost (2 ^ 109) s.posted × Leaves s.left s.counts × (s.place < N.workers) };
+    ghost invariant = { λ s. (s.token.table_id ≡ N.table) × (s.token.me.1 ≡ []) × (cell_view s.token ≡ holder 1 s.posted (counted_at s.place s.posted)) × AtMost (2 ^ 100) s.counts × AtMost (2 ^ 109) s.posted × Leaves s.left s.counts × (s.place < N.workers) × (s.left ≡ 2 ^ 64 - 1 → s.counts ≡ nothing) × (length s.posted.dropped ≡ causes) };
 }
 
 // What is left after a count was raised by `n`.
@@ -103,6 +104,13 @@ impl<N: RunBrand> Share<N> {
             return true;
         }
         at_most(&self.counts, ROOM - 1)
+    }
+
+    /// Whether nothing was counted since it was last posted, so that a post leaves it as it is.
+    pub(crate) fn is_empty(&self) -> bool
+        ensures { result ≡ true → (self.now.counts ≡ nothing) × IsPosted self.now self.now }
+    {
+        self.left == ALL_LEFT
     }
 
     /// What it counted since it was last posted.

@@ -55,7 +55,8 @@ impl<N: RunBrand> Drop for Sums<N> {
     }
 }
 
-// Adds to a number of a row.
+// Adds to a number of a row. A row to which nothing is added isn't written, so that it stays in the caches of other
+// cores.
 fn raise(row: &mut Vec<u128>, place: usize, n: u128)
     requires place { place < length row.old.items }
     requires room { sum row.old.items + n < 2 ^ 128 }
@@ -64,7 +65,9 @@ fn raise(row: &mut Vec<u128>, place: usize, n: u128)
     ensures up { (k : ℕ) → slice_index row.new.items k ≡ slice_index row.old.items k + slice_index (single place n) k }
     ensures same { length row.new.items ≡ length row.old.items }
 {
-    row[place] += n;
+    if n > 0 {
+        row[place] += n;
+    }
 }
 
 impl<N: RunBrand> Sums<N> {

@@ -80,4 +80,6 @@ invariant_of-share g c =
       c.if-not-at_most.ensures,
       (λ i. let z = nothing_at i in let e = ap (count_at i) c.none-share-inside.ensures in omega arith),
       c.share.invariant.6,
+      (λ _. c.none-share-inside.ensures),
+      (search rules),
     )
