@@ -1,2 +1,3 @@
 mod Devices
 mod Led
+pub mod Pages
