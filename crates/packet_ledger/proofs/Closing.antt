@@ -8,7 +8,7 @@ use Rattle.packet_ledger.specs.declared.tokens.View.{View}
 use Rattle.packet_ledger.specs.Amounts.{count_at, nothing, plus}
 use Rattle.packet_ledger.specs.Shown.{add_rows, counted_at, no_rows, single}
 use Rattle.packet_ledger.specs.Tokens.{Audited, gathered, keeper, kept}
-use Rattle.packet_ledger.specs.Share.{AreNew, AreTheirRows, Held, new_share, counts_of, posted_by, rows_by, sum_at}
+use Rattle.packet_ledger.specs.Share.{AreNew, AreTheirRows, Held, IsNew, new_share, counts_of, posted_by, rows_by, sum_at}
 use Rattle.packet_ledger.proofs.Counting.{each_at, same_counts, plus_at, plus_nothing, nothing_at}
 use Rattle.packet_ledger.proofs.Rows.{none_at, single_at}
 
@@ -28,6 +28,10 @@ gathered_next xs s v0 v w is then =
     then ∙ ap (λ (u : View). gathered 1 (plus u.posted s.posted) (add_rows u.own (counted_at s.place s.posted)) u) is in
     let n : v0.parts + length xs + 1 ≡ v0.parts + length (xs ++ s ∷ []) = omega (arith, length-append xs (s ∷ [])) in
     next ∙ (λ i. record { keeps = v0.keeps; parts = n i; posted = sym (posted_next xs s) i; own = sym (rows_next xs s) i; booked = v0.booked; rows = v0.rows; seen = nothing; seen_rows = no_rows })
+
+-- the new share at a place is a new share
+pub is_new : (place : ℕ) (s : Held) → s ≡ new_share place → IsNew s
+is_new place s is = is ∙ ap new_share (sym (ap (λ (h : Held). h.place) is))
 
 -- one more new share
 pub new_next : (n : ℕ) (xs : List Held) (s : Held) → AreNew n xs → s ≡ new_share (n + length xs) → AreNew n (xs ++ s ∷ [])

@@ -5,7 +5,7 @@ use Rattle.process_packet.specs.declared.config.Config.{Config}
 use Rattle.packet_ledger.specs.Share.{AreWithinTheirs, Held, forwarded, sum_at}
 use Rattle.packet_ledger.specs.Shown.{Shown}
 use Rattle.router_rules.specs.Links.{link_count}
-use Rattle.worker_laws.proofs.Composed.{map_get}
+use Rattle.worker_laws.proofs.Composed.{back_get, map_get}
 use Rattle.worker_order.specs.Returned.{AllAt}
 use Rattle.worker_forwarder.specs.Forwarding.{Forwarding}
 use Rattle.worker_receiver.specs.Receiving.{Receiving}
@@ -45,14 +45,6 @@ sum_one f n (suc k) (x ∷ shares) s all at =
     let one : (if n + suc k == x.place then f x else 0) ≡ 0 = ap (λ (b : Bool). if b then f x else 0) other in
     let next : n + suc k ≡ n + 1 + k = omega arith in
     let rest = ap (λ (p : ℕ). sum_at f p shares) next ∙ sum_one f (n + 1) k shares s all.1 at in omega arith
-
--- after a first list
-after_get : {X : Type 0} (xs ys : List X) (n k : ℕ) (y : X) → length xs ≡ n → slice_get ys k ≡ Some y → slice_get (xs ++ ys) (n + k) ≡ Some y
-after_get [] ys n k y long at = subst (λ (m : ℕ). slice_get ys m ≡ Some y) (omega arith) at
-after_get (x ∷ xs) ys zero k y long at = absurd (omega arith)
-after_get (x ∷ xs) ys (suc n) k y long at =
-    let e : suc n + k ≡ suc (n + k) = omega arith in
-    ap (λ (m : ℕ). slice_get (x ∷ (xs ++ ys)) m) e ∙ after_get xs ys n k y (omega arith) at
 
 -- ---- the shares of a crew that came back
 
@@ -94,7 +86,9 @@ module _ {S G K : Type 0} (same_source : S → S → Type 0) (same_sink : K → 
       let found = found_at (λ (f : Forwarding K). forwarded f.side.share) new.forwarders l n (sym (ap (λ (xs : List ℕ). slice_get xs l) are) ∙ at) in
       let s = found.0.side.share in
       let own = map_get (λ (f : Forwarding K). f.side.share) new.forwarders l found.0 found.1.0 in
-      let there : slice_get (shares_in new) (link_count c + (c.processors + suc l)) ≡ Some s = after_get rs (ps ++ new.slow.side.share ∷ fs) (link_count c) (c.processors + suc l) s rs_long (after_get ps (new.slow.side.share ∷ fs) c.processors (suc l) s ps_long own) in
+      let there : slice_get (shares_in new) (link_count c + (c.processors + suc l)) ≡ Some s =
+      back_get rs (ps ++ new.slow.side.share ∷ fs) (c.processors + suc l) (link_count c + (c.processors + suc l)) (let e = rs_long in omega arith)
+      ∙ back_get ps (new.slow.side.share ∷ fs) (suc l) (c.processors + suc l) (let e = ps_long in omega arith) ∙ own in
       let out : Held → ℕ = λ h. h.posted.sent + h.posted.answered in
       let one = sum_one out 0 (link_count c + (c.processors + suc l)) (shares_in new) s placed there in
       let index : 0 + (link_count c + (c.processors + suc l)) ≡ link_count c + c.processors + 1 + l = omega arith in

@@ -1,6 +1,6 @@
 -- A worker made of what is next of each list.
 use Rattle.std.proofs.Common.{◌≡◌, ◌≤◌, ℕ, zero, suc, ◌+◌, List, [], ◌∷◌, ◌++◌, length, Some, slice_get, sym, ◌∙◌, ap, subst, arith, append_assoc, append-nil}
-use Rattle.packet_ledger.specs.Share.{AreNew, Held, IsNew, new_share}
+use Rattle.packet_ledger.specs.Share.{AreNew, Held, new_share}
 use Rattle.ruled_pipe.specs.Consumer.{Taker, new_taker}
 use Rattle.ruled_pipe.specs.Pipe.{Shape, IsTakerOf}
 use Rattle.run_ends.specs.Rows.{AreFor}
@@ -25,9 +25,6 @@ pub next_new : (place n : ℕ) (all old new : List Held) (x : Held) → old ≡ 
 next_new place n all old new x is gone =
     let e = subst (λ (xs : List Held). AreNew (place + n) xs) is gone.each in
     e.0
-
-pub is_new : (place : ℕ) (x : Held) → x ≡ new_share place → IsNew x
-is_new place x is = is ∙ ap new_share (sym (ap (λ (s : Held). s.place) is))
 
 -- the shares that are left, for those who come next
 pub left_new : (place n m next : ℕ) (old new : List Held) → HaveGone place n old new → place + n ≡ next → n + m ≤ length old → AreNewShares next m new

@@ -93,7 +93,8 @@ module _ {X : Type 0} where
   front_get (z ∷ xs) ys zero x at = at
   front_get (z ∷ xs) ys (suc k) x at = front_get xs ys k x at
 
-  back_get : (xs ys : List X) (k n : ℕ) → n ≡ length xs + k → slice_get (xs ++ ys) n ≡ slice_get ys k
+  -- what stands after a first list
+  pub back_get : (xs ys : List X) (k n : ℕ) → n ≡ length xs + k → slice_get (xs ++ ys) n ≡ slice_get ys k
   back_get [] ys k n e = let is : n ≡ k = omega arith in ap (λ (m : ℕ). slice_get ys m) is
   back_get (z ∷ xs) ys k zero e = absurd (omega arith)
   back_get (z ∷ xs) ys k (suc n) e = back_get xs ys k n (omega arith)

@@ -15,7 +15,7 @@ use Rattle.run_pipes.proofs.Fresh.{fresh_long, outlets_fresh, outlets_long, outl
 use Rattle.run_pipes.proofs.OkLemmas.{of_ok}
 use Rattle.run_pipes.proofs.PipesLemmas.{one_to_make}
 use Rattle.packet_ledger.specs.Share.{Held}
-use Rattle.run_workers.proofs.Making.{is_new}
+use Rattle.packet_ledger.proofs.Closing.{is_new}
 use Rattle.run_workers.proofs.deciding.processor_of.Goals as goal
 
 pub producer-requires : goal.producer-requires

@@ -10,7 +10,7 @@ use Rattle.router_rules.specs.declared.shared.Shared.{Shared}
 use Rattle.worker_parts.specs.Outlets.{AreFresh, senders}
 use Rattle.run_pipes.proofs.Fresh.{fresh_long, outlets_fresh, outlets_long, outlets_of}
 use Rattle.packet_ledger.specs.Share.{Held}
-use Rattle.run_workers.proofs.Making.{is_new}
+use Rattle.packet_ledger.proofs.Closing.{is_new}
 use Rattle.run_workers.proofs.deciding.slow_path_of.Goals as goal
 
 pub outlets-requires-clause-pipes : goal.outlets-requires-clause-pipes

@@ -12,7 +12,8 @@ use Rattle.run_pipes.specs.Piping.{IsTakerThere}
 use Rattle.run_pipes.specs.Pipes.{HaveReceivers}
 use Rattle.run_pipes.proofs.Fresh.{outlets_fresh, outlets_long, outlets_of, takers_are}
 use Rattle.run_workers.specs.Kits.{IsEnteringAt}
-use Rattle.run_workers.proofs.Making.{all_taken, is_new, next_new, none_gone, one_gone}
+use Rattle.packet_ledger.proofs.Closing.{is_new}
+use Rattle.run_workers.proofs.Making.{all_taken, next_new, none_gone, one_gone}
 use Rattle.run_pipes.proofs.RestLemmas.{all_made, all_none, all_pushed, pushed_long, rest_first, rest_next}
 use Rattle.run_workers.proofs.entering.all_entering.Goals as goal
 

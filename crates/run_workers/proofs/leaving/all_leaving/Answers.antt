@@ -16,7 +16,8 @@ use Rattle.run_pipes.specs.Pipes.{HaveForwarders}
 use Rattle.run_pipes.specs.Rest.{IsRest}
 use Rattle.run_pipes.proofs.Fresh.{fresh_long, takers_are}
 use Rattle.run_workers.specs.Kits.{Exit, IsLeavingAt}
-use Rattle.run_workers.proofs.Making.{all_taken, is_new, next_new, none_gone, one_gone, taker_new, taker_of}
+use Rattle.packet_ledger.proofs.Closing.{is_new}
+use Rattle.run_workers.proofs.Making.{all_taken, next_new, none_gone, one_gone, taker_new, taker_of}
 use Rattle.run_pipes.proofs.RestLemmas.{all_made, all_none, all_pushed, pushed_long, rest_first, rest_next}
 use Rattle.run_workers.proofs.leaving.all_leaving.Goals as goal
 
