@@ -81,7 +81,11 @@ fn command(programs: &Programs, kind: Kind, host: Ipv4Addr) -> Command {
             let path = programs.room.join(format!("{host}.toml"));
             fs::write(&path, configuration(host, links, processors))
                 .expect("room for a configuration");
-            let mut command = Command::new(if is_twin { programs.twin } else { programs.router });
+            let mut command = Command::new(if is_twin {
+                programs.twin
+            } else {
+                programs.router
+            });
             command.arg("run").arg("--config").arg(path);
             command
         }

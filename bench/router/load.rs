@@ -34,7 +34,6 @@ struct Message {
 }
 
 unsafe extern "C" {
-    fn sendmmsg(fd: i32, messages: *mut Message, count: u32, flags: i32) -> i32;
     fn recvmmsg(fd: i32, messages: *mut Message, count: u32, flags: i32, limit: *mut c_void)
     -> i32;
     fn setsockopt(fd: i32, level: i32, name: i32, value: *const i32, len: u32) -> i32;
@@ -42,6 +41,14 @@ unsafe extern "C" {
 
 /// Returns once one message is there, with all that are there then.
 const WAIT_FOR_ONE: i32 = 0x10000;
+
+/// The option by which the system cuts what is sent at once into datagrams of a size: a send then costs little for each of
+/// them, so that one thread sends more than any of the programs carries.
+const UDP: i32 = 17;
+const SEGMENT: i32 = 103;
+
+/// How much the system cuts at once, in bytes.
+const MOST_AT_ONCE: usize = 60_000;
 
 fn message(place: &mut Place) -> Message {
     Message {
@@ -99,7 +106,8 @@ pub struct Load {
 /// What came of floods.
 #[derive(Default)]
 pub struct Flooded {
-    /// Datagrams that came through, in so many seconds.
+    /// Datagrams that were sent, and that came through, in so many seconds.
+    sent: f64,
     came: f64,
     seconds: f64,
     /// Processor time for them, in nanoseconds.
@@ -108,6 +116,7 @@ pub struct Flooded {
 
 impl Flooded {
     pub fn add(&mut self, other: Flooded) {
+        self.sent += other.sent;
         self.came += other.came;
         self.seconds += other.seconds;
         self.spent += other.spent;
@@ -116,6 +125,11 @@ impl Flooded {
     /// Datagrams a second that came through.
     pub fn rate(&self) -> f64 {
         self.came / self.seconds
+    }
+
+    /// Of a hundred that were sent, how many came through: about all of them where the sender was the slowest.
+    pub fn share(&self) -> f64 {
+        self.came * 100.0 / self.sent.max(1.0)
     }
 
     /// Processor time of each of them, in nanoseconds.
@@ -143,13 +157,15 @@ fn count_all(socket: &UdpSocket, size: usize, count: &AtomicU64, stop: &AtomicBo
     }
 }
 
-/// Sends a datagram of each flow, again and again, until it is stopped.
-fn send_all(socket: &UdpSocket, size: usize, stop: &AtomicBool) {
-    let mut batch = Batch {
-        bytes: datagrams(size),
-    };
+/// Sends a datagram of each flow, again and again, until it is stopped, and counts them.
+fn send_all(socket: &UdpSocket, size: usize, count: &AtomicU64, stop: &AtomicBool) {
+    let all = datagrams(size).concat();
     while !stop.load(Ordering::Relaxed) {
-        batch.with(|messages, many| unsafe { sendmmsg(socket.as_raw_fd(), messages, many, 0) });
+        for some in all.chunks(MOST_AT_ONCE / size * size) {
+            if socket.send(some).is_ok() {
+                count.fetch_add((some.len() / size) as u64, Ordering::Relaxed);
+            }
+        }
     }
 }
 
@@ -158,6 +174,11 @@ impl Load {
     pub fn new(host: Ipv4Addr, size: usize, cores: Cores) -> Load {
         let sender = UdpSocket::bind((host, 42001)).expect("port 42001");
         sender.connect((host, 41001)).expect("an address");
+        let cut = unsafe { setsockopt(sender.as_raw_fd(), UDP, SEGMENT, &(size as i32), 4) };
+        assert_eq!(
+            cut, 0,
+            "the system cuts no datagrams: it has to be Linux 4.18 or later"
+        );
         let receiver = UdpSocket::bind((host, 42002)).expect("port 42002");
         let (level, receive_buffer) = (1, 8);
         unsafe { setsockopt(receiver.as_raw_fd(), level, receive_buffer, &(1 << 30), 4) };
@@ -173,7 +194,7 @@ impl Load {
 
     /// Sends as fast as it can for a while. `spent` is the processor time of the program that carries what is sent.
     pub fn flood(&self, length: Duration, spent: impl Fn() -> u64) -> Flooded {
-        let (count, stop) = (AtomicU64::new(0), AtomicBool::new(false));
+        let (sent, count, stop) = (AtomicU64::new(0), AtomicU64::new(0), AtomicBool::new(false));
         let flooded = thread::scope(|scope| {
             scope.spawn(|| {
                 self.cores.keep_reader();
@@ -181,13 +202,15 @@ impl Load {
             });
             scope.spawn(|| {
                 self.cores.keep_sender();
-                send_all(&self.sender, self.size, &stop);
+                send_all(&self.sender, self.size, &sent, &stop);
             });
             thread::sleep(WARM);
-            let (start, before, used) = (Instant::now(), count.load(Ordering::Relaxed), spent());
+            let (start, used) = (Instant::now(), spent());
+            let before = [&sent, &count].map(|it| it.load(Ordering::Relaxed));
             thread::sleep(length);
             let flooded = Flooded {
-                came: (count.load(Ordering::Relaxed) - before) as f64,
+                sent: (sent.load(Ordering::Relaxed) - before[0]) as f64,
+                came: (count.load(Ordering::Relaxed) - before[1]) as f64,
                 seconds: start.elapsed().as_secs_f64(),
                 spent: (spent() - used) as f64,
             };

@@ -89,6 +89,8 @@ fn hosts() -> impl Iterator<Item = Ipv4Addr> {
 struct Figures {
     /// Datagrams a second when flooded.
     flooded: Vec<f64>,
+    /// Of a hundred that were sent then, how many came through.
+    share: Vec<f64>,
     /// Nanoseconds of processor time a datagram then.
     busy: Vec<f64>,
     /// Nanoseconds of processor time a datagram, at the steady pace.
@@ -103,6 +105,7 @@ struct Figures {
 impl Figures {
     fn add(&mut self, flooded: Flooded, paced: Paced) {
         self.flooded.push(flooded.rate());
+        self.share.push(flooded.share());
         self.busy.push(flooded.nanos());
         self.nanos.push(paced.nanos);
         self.middle.push(paced.middle);
@@ -206,6 +209,7 @@ fn main() {
             "thousand/s",
             "least",
             "most",
+            "came of 100",
             "us in a flood",
             "us at 20,000/s",
             "p50 us",
@@ -220,6 +224,7 @@ fn main() {
                 median(&of.flooded) / 1000.0,
                 of.flooded.iter().copied().fold(f64::NAN, f64::min) / 1000.0,
                 of.flooded.iter().copied().fold(f64::NAN, f64::max) / 1000.0,
+                median(&of.share),
                 median(&of.busy) / 1000.0,
                 median(&of.nanos) / 1000.0,
                 median(&of.middle),
@@ -262,7 +267,11 @@ fn main() {
         let sides = best.zip(of(Kind::One, at));
         let ratio = sides.map(|(own, c)| median(&ratios(&own.flooded, &c.flooded)));
         print_or_skip(&format!("run/c {size}"), ratio, 2);
-        for (name, kind) in [("", router(1)), ("rust ", plain(1)), ("three threads ", Kind::Three)] {
+        for (name, kind) in [
+            ("", router(1)),
+            ("rust ", plain(1)),
+            ("three threads ", Kind::Three),
+        ] {
             let sides = of(kind, at).zip(of(Kind::One, at));
             let ratio = sides.map(|(own, c)| median(&ratios(&own.nanos, &c.nanos)));
             print_or_skip(&format!("{name}time/c {size}"), ratio, 2);
