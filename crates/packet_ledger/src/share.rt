@@ -106,7 +106,8 @@ impl<N: RunBrand> Share<N> {
         at_most(&self.counts, ROOM - 1)
     }
 
-    /// Whether nothing was counted since it was last posted, so that a post leaves it as it is.
+    /// True only where nothing was counted since it was last posted, so that a post leaves it as it is. Where
+    /// it is false there may be nothing to post either.
     pub(crate) fn is_empty(&self) -> bool
         ensures { result ≡ true → (self.now.counts ≡ nothing) × IsPosted self.now self.now }
     {
