@@ -1,6 +1,6 @@
 #!/bin/sh
-# Times the router over loopback, beside the same in plain Rust and beside C. ROUNDS, SECONDS and ONLY (a part of a
-# row's name) change what is measured; TWIN is another build of the router, to run beside it; `taskset -c 0,1 make
+# Times the router over loopback, beside the same in plain Rust and beside C. ROUNDS, SECONDS, FLOOD and ONLY (a part of
+# a row's name) change what is measured; TWIN is another build of the router, to run beside it; `taskset -c 0,1 make
 # bench-router` shows it on two cores.
 set -eu
 cd "$(dirname "$0")/.."

@@ -2,89 +2,17 @@
 
 use crate::cores::Cores;
 use crate::datagrams::{FLOWS, PAYLOAD_AT, datagrams};
-use std::ffi::c_void;
+use crate::options::{cut_into, keep_all, refuse, refused, take_largest_buffer, wake_in_time};
 use std::net::{Ipv4Addr, UdpSocket};
-use std::os::fd::AsRawFd;
-use std::ptr::null_mut;
 use std::sync::atomic::{AtomicBool, AtomicU64, Ordering};
 use std::thread;
 use std::time::{Duration, Instant};
 
-#[repr(C)]
-struct Place {
-    base: *mut u8,
-    len: usize,
-}
-
-#[repr(C)]
-struct Header {
-    name: *mut c_void,
-    name_len: u32,
-    places: *mut Place,
-    count: usize,
-    control: *mut c_void,
-    control_len: usize,
-    flags: i32,
-}
-
-#[repr(C)]
-struct Message {
-    header: Header,
-    len: u32,
-}
-
-unsafe extern "C" {
-    fn recvmmsg(fd: i32, messages: *mut Message, count: u32, flags: i32, limit: *mut c_void)
-    -> i32;
-    fn setsockopt(fd: i32, level: i32, name: i32, value: *const i32, len: u32) -> i32;
-}
-
-/// Returns once one message is there, with all that are there then.
-const WAIT_FOR_ONE: i32 = 0x10000;
-
-/// The option by which the system cuts what is sent at once into datagrams of a size: a send then costs little for each of
-/// them, so that one thread sends more than any of the programs carries.
-const UDP: i32 = 17;
-const SEGMENT: i32 = 103;
+/// How many datagrams a flood offers a second, unless it is told.
+pub const FLOOD: u64 = 500_000;
 
 /// How much the system cuts at once, in bytes.
 const MOST_AT_ONCE: usize = 60_000;
-
-fn message(place: &mut Place) -> Message {
-    Message {
-        header: Header {
-            name: null_mut(),
-            name_len: 0,
-            places: place,
-            count: 1,
-            control: null_mut(),
-            control_len: 0,
-            flags: 0,
-        },
-        len: 0,
-    }
-}
-
-/// Buffers for as many datagrams as there are flows, as the system wants them.
-struct Batch {
-    bytes: Vec<Vec<u8>>,
-}
-
-impl Batch {
-    /// Calls with the messages of all buffers, whose contents the call may change.
-    fn with<T>(&mut self, call: impl FnOnce(*mut Message, u32) -> T) -> T {
-        let mut places: Vec<Place> = self
-            .bytes
-            .iter_mut()
-            .map(|bytes| Place {
-                base: bytes.as_mut_ptr(),
-                len: bytes.len(),
-            })
-            .collect();
-        let mut messages: Vec<Message> = places.iter_mut().map(message).collect();
-        call(messages.as_mut_ptr(), messages.len() as u32)
-    }
-}
 
 /// What came of a steady pace.
 pub struct Paced {
@@ -127,7 +55,7 @@ impl Flooded {
         self.came / self.seconds
     }
 
-    /// Of a hundred that were sent, how many came through: about all of them where the sender was the slowest.
+    /// Of a hundred that were sent, how many came through: about all of them where more could have been carried.
     pub fn share(&self) -> f64 {
         self.came * 100.0 / self.sent.max(1.0)
     }
@@ -141,29 +69,21 @@ impl Flooded {
 /// How long a flood lasts before what comes through counts.
 const WARM: Duration = Duration::from_millis(50);
 
-/// Reads datagrams until it is stopped, and counts them.
-fn count_all(socket: &UdpSocket, size: usize, count: &AtomicU64, stop: &AtomicBool) {
-    let mut batch = Batch {
-        bytes: vec![vec![0; 2048]; FLOWS],
-    };
-    while !stop.load(Ordering::Relaxed) {
-        let came = batch.with(|messages, many| unsafe {
-            let came = recvmmsg(socket.as_raw_fd(), messages, many, WAIT_FOR_ONE, null_mut());
-            (0..came.max(0) as usize)
-                .filter(|at| (*messages.add(*at)).len as usize == size)
-                .count()
-        });
-        count.fetch_add(came as u64, Ordering::Relaxed);
-    }
-}
-
-/// Sends a datagram of each flow, again and again, until it is stopped, and counts them.
-fn send_all(socket: &UdpSocket, size: usize, count: &AtomicU64, stop: &AtomicBool) {
+/// Sends `flood` datagrams a second, flow by flow, until it is stopped, and counts them. Those that the system cuts out of
+/// one send go at once, and it sleeps until the next send is due: so it leaves the cores to the programs.
+fn send_all(socket: &UdpSocket, size: usize, flood: u64, count: &AtomicU64, stop: &AtomicBool) {
+    wake_in_time();
     let all = datagrams(size).concat();
+    let begin = Instant::now();
+    let mut sent = 0;
     while !stop.load(Ordering::Relaxed) {
         for some in all.chunks(MOST_AT_ONCE / size * size) {
+            let due = Duration::from_nanos(sent * 1_000_000_000 / flood);
+            thread::sleep(due.saturating_sub(begin.elapsed()));
+            let many = (some.len() / size) as u64;
+            sent += many;
             if socket.send(some).is_ok() {
-                count.fetch_add((some.len() / size) as u64, Ordering::Relaxed);
+                count.fetch_add(many, Ordering::Relaxed);
             }
         }
     }
@@ -174,14 +94,9 @@ impl Load {
     pub fn new(host: Ipv4Addr, size: usize, cores: Cores) -> Load {
         let sender = UdpSocket::bind((host, 42001)).expect("port 42001");
         sender.connect((host, 41001)).expect("an address");
-        let cut = unsafe { setsockopt(sender.as_raw_fd(), UDP, SEGMENT, &(size as i32), 4) };
-        assert_eq!(
-            cut, 0,
-            "the system cuts no datagrams: it has to be Linux 4.18 or later"
-        );
+        cut_into(&sender, size);
         let receiver = UdpSocket::bind((host, 42002)).expect("port 42002");
-        let (level, receive_buffer) = (1, 8);
-        unsafe { setsockopt(receiver.as_raw_fd(), level, receive_buffer, &(1 << 30), 4) };
+        take_largest_buffer(&receiver);
         let patience = Some(Duration::from_millis(100));
         receiver.set_read_timeout(patience).expect("a limit");
         Load {
@@ -192,30 +107,34 @@ impl Load {
         }
     }
 
-    /// Sends as fast as it can for a while. `spent` is the processor time of the program that carries what is sent.
-    pub fn flood(&self, length: Duration, spent: impl Fn() -> u64) -> Flooded {
-        let (sent, count, stop) = (AtomicU64::new(0), AtomicU64::new(0), AtomicBool::new(false));
+    /// Sends `flood` datagrams a second for a while. `spent` is the processor time of the program that carries them. The
+    /// reader's socket refuses what comes through, so that it is counted where it arrives and takes no thread.
+    pub fn flood(&self, flood: u64, length: Duration, spent: impl Fn() -> u64) -> Flooded {
+        refuse(&self.receiver, self.size);
+        let (sent, stop) = (AtomicU64::new(0), AtomicBool::new(false));
         let flooded = thread::scope(|scope| {
             scope.spawn(|| {
-                self.cores.keep_reader();
-                count_all(&self.receiver, self.size, &count, &stop);
-            });
-            scope.spawn(|| {
                 self.cores.keep_sender();
-                send_all(&self.sender, self.size, &sent, &stop);
+                send_all(&self.sender, self.size, flood, &sent, &stop);
             });
             thread::sleep(WARM);
-            let (start, used) = (Instant::now(), spent());
-            let before = [&sent, &count].map(|it| it.load(Ordering::Relaxed));
-            thread::sleep(length);
-            let flooded = Flooded {
-                sent: (sent.load(Ordering::Relaxed) - before[0]) as f64,
-                came: (count.load(Ordering::Relaxed) - before[1]) as f64,
-                seconds: start.elapsed().as_secs_f64(),
-                spent: (spent() - used) as f64,
+            let so_far = || {
+                (
+                    sent.load(Ordering::Relaxed),
+                    refused(&self.receiver),
+                    spent(),
+                )
             };
+            let (start, before) = (Instant::now(), so_far());
+            thread::sleep(length);
+            let after = so_far();
             stop.store(true, Ordering::Relaxed);
-            flooded
+            Flooded {
+                sent: (after.0 - before.0) as f64,
+                came: after.1.wrapping_sub(before.1) as f64,
+                seconds: start.elapsed().as_secs_f64(),
+                spent: (after.2 - before.2) as f64,
+            }
         });
         self.drain();
         flooded
@@ -223,8 +142,12 @@ impl Load {
 
     /// Waits until nothing comes any more.
     fn drain(&self) {
-        let mut room = [0; 2048];
-        while self.receiver.recv(&mut room).is_ok() {}
+        let mut before = None;
+        while before != Some(refused(&self.receiver)) {
+            before = Some(refused(&self.receiver));
+            thread::sleep(Duration::from_millis(50));
+        }
+        keep_all(&self.receiver);
     }
 
     /// Sends `pace` datagrams a second. `spent` is the processor time of the program that carries them.

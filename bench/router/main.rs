@@ -2,8 +2,8 @@
 //! directory for configurations. Each round starts all of them for each size of datagram, floods them by short turns,
 //! since what else the machine does changes within seconds, and then sends at a steady pace to each; then each is left
 //! alone. Medians of all rounds are printed, and of a flood the least and the most too. The environment may have ROUNDS,
-//! SECONDS, how long each of these takes in a round, ONLY, a part of the names of those that are timed, and TWIN, another
-//! build of the router to run beside it.
+//! SECONDS, how long each of these takes in a round, FLOOD, how many datagrams a flood has a second, ONLY, a part of the
+//! names of those that are timed, and TWIN, another build of the router to run beside it.
 
 #[path = "../decision/cipher.rs"]
 #[allow(dead_code)]
@@ -12,10 +12,11 @@ mod contender;
 mod cores;
 mod datagrams;
 mod load;
+mod options;
 
 use contender::{Contender, Kind, Programs};
 use cores::Cores;
-use load::{Flooded, Load, Paced};
+use load::{FLOOD, Flooded, Load, Paced};
 use std::env;
 use std::net::Ipv4Addr;
 use std::path::PathBuf;
@@ -141,9 +142,10 @@ fn main() {
     };
     let rounds = number("ROUNDS", 7);
     let length = Duration::from_secs(number("SECONDS", 2));
+    let flood = number("FLOOD", FLOOD);
     let only = env::var("ONLY").unwrap_or_default();
     let is_timed = |kind: &Kind| kind.to_string().contains(&only);
-    assert!(rounds > 0, "ROUNDS is 0");
+    assert!(rounds > 0 && flood > 0, "ROUNDS or FLOOD is 0");
     assert!(
         CONTENDERS.iter().chain(&IDLE).any(is_timed),
         "no row's name has {only:?}"
@@ -175,7 +177,7 @@ fn main() {
             // what comes first in one turn, or in one round, comes last in the next
             for _ in 0..length.as_millis() / TURN.as_millis() {
                 for (contender, load, flooded, _) in &mut turns {
-                    flooded.add(load.flood(TURN, || contender.spent()));
+                    flooded.add(load.flood(flood, TURN, || contender.spent()));
                 }
                 turns.reverse();
             }
