@@ -41,14 +41,17 @@ impl Drop for UdpSink {
     }
 }
 
-/// Whether the system took the datagram. Where it had no room, it is waited for once.
+/// Whether the system took the whole datagram. Where it has no room, this waits for room once, and tries again.
 fn sends(socket: &UdpSocket, bytes: &[u8], to: Underlay) -> bool {
     let address = socket_address(to);
-    match socket.send_to(bytes, address) {
-        Ok(count) => count == bytes.len(),
-        Err(error) if error.kind() == ErrorKind::WouldBlock => {
-            wait_for_room(socket) && socket.send_to(bytes, address).is_ok()
+    let mut sent = socket.send_to(bytes, address);
+    if let Err(error) = &sent {
+        if error.kind() == ErrorKind::WouldBlock && wait_for_room(socket) {
+            sent = socket.send_to(bytes, address);
         }
+    }
+    match sent {
+        Ok(count) => count == bytes.len(),
         Err(_) => false,
     }
 }
