@@ -73,7 +73,8 @@ pub record AddUpTo (views : List View) (rows : Table) (k : ℕ) : Type 0 where
   pub inputs : slice_index rows.inputs k ≡ total (λ (u : View). slice_index u.own.inputs k) views
   pub outputs : slice_index rows.outputs k ≡ total (λ (u : View). slice_index u.own.outputs k) views
 
--- one token keeps the sums and the rows; a token posted at most 2^109 for each of its parts, into rows of its own, and saw no more than the sums and the rows
+-- One token keeps the sums and the rows. A token posted at most 2^109 for each of its parts, into rows of its own, and
+-- saw no more than the sums and the rows.
 abbrev pub Fits : ℕ → (ℕ → ℕ) → Table → ℕ → View → Type 0
 Fits seat sum rows by v =
     (v.keeps ≡ true → (by ≡ seat) × ((i : ℕ) → count_at i v.booked ≡ sum i) × (v.rows ≡ rows))

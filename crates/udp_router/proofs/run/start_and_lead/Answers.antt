@@ -1,6 +1,6 @@
 use Rattle.udp_devices.specs.Devices.{Reading, Sending}
 use Rattle.udp_router.proofs.Devices.{is_new, is_no_count, own_links, own_new, own_workers, untold}
-use Rattle.udp_router.proofs.Led.{fault_from_own, from_own, no_listener, no_listener_fault, not_started}
+use Rattle.udp_router.proofs.Led.{fault_from_own, from_own, not_started}
 use Rattle.udp_router.proofs.run.start_and_lead.Goals as goal
 
 pub start-requires-clause-sources : goal.start-requires-clause-sources
