@@ -8,9 +8,6 @@ use std::sync::atomic::{AtomicBool, AtomicU64, Ordering};
 use std::thread;
 use std::time::{Duration, Instant};
 
-/// How many datagrams a flood offers a second, unless it is told.
-pub const FLOOD: u64 = 500_000;
-
 /// How much the system cuts at once, in bytes.
 const MOST_AT_ONCE: usize = 60_000;
 
@@ -118,22 +115,20 @@ impl Load {
                 send_all(&self.sender, self.size, flood, &sent, &stop);
             });
             thread::sleep(WARM);
+            // the processor time comes last, since to read it takes the longest
             let so_far = || {
-                (
-                    sent.load(Ordering::Relaxed),
-                    refused(&self.receiver),
-                    spent(),
-                )
+                let (moment, sent) = (Instant::now(), sent.load(Ordering::Relaxed));
+                (moment, sent, refused(&self.receiver), spent())
             };
-            let (start, before) = (Instant::now(), so_far());
+            let before = so_far();
             thread::sleep(length);
             let after = so_far();
             stop.store(true, Ordering::Relaxed);
             Flooded {
-                sent: (after.0 - before.0) as f64,
-                came: after.1.wrapping_sub(before.1) as f64,
-                seconds: start.elapsed().as_secs_f64(),
-                spent: (after.2 - before.2) as f64,
+                sent: (after.1 - before.1) as f64,
+                came: after.2.wrapping_sub(before.2) as f64,
+                seconds: (after.0 - before.0).as_secs_f64(),
+                spent: (after.3 - before.3) as f64,
             }
         });
         self.drain();

@@ -16,7 +16,7 @@ mod options;
 
 use contender::{Contender, Kind, Programs};
 use cores::Cores;
-use load::{FLOOD, Flooded, Load, Paced};
+use load::{Flooded, Load, Paced};
 use std::env;
 use std::net::Ipv4Addr;
 use std::path::PathBuf;
@@ -24,6 +24,9 @@ use std::time::Duration;
 
 /// Datagrams a second of the steady pace.
 const PACE: u64 = 20_000;
+
+/// Datagrams a second that a flood offers, unless it is told otherwise.
+const FLOOD: u64 = 500_000;
 
 const SIZES: [usize; 2] = [200, 1400];
 
