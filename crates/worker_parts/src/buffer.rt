@@ -13,7 +13,7 @@ use std::marker::Model;
 pub const BUFFER_LEN: usize = 9217;
 
 /// The bytes of a buffer, and before them what is known of the datagram in them, on the same cache lines as its header.
-/// It keeps its place in memory: what one worker hands to the next is its owner, a single pointer.
+/// It keeps its place in memory: what one worker hands to the next is its owner.
 pub(crate) struct Storage {
     pub(crate) len: usize,
     // of the datagram's arrival: its link, and its number among the link's
@@ -23,7 +23,6 @@ pub(crate) struct Storage {
     pub(crate) source: Underlay,
     pub(crate) moment: u64,
     // of what leaves
-    pub(crate) answer: bool,
     pub(crate) egress: LinkIndex,
     pub(crate) to: Option<Underlay>,
     pub(crate) bytes: [u8; BUFFER_LEN],
@@ -38,7 +37,6 @@ impl Drop for Storage {
             number: _,
             source: _,
             moment: _,
-            answer: _,
             egress: _,
             to: _,
             bytes: _,
@@ -78,7 +76,6 @@ impl Buffer {
                 port: 0,
             },
             moment: 0,
-            answer: false,
             egress: LinkIndex::of(0),
             to: None,
             bytes: [0; BUFFER_LEN],

@@ -142,11 +142,11 @@ impl<N: RunBrand> Packet<N> {
     pub fn into_egress_packet(self, link: LinkIndex, to: Option<Underlay>) -> EgressPacket<N>
         ensures { result ≡ leaving self link to }
     {
-        let Packet { mut storage, of } = self;
-        storage.answer = false;
+        let Packet { mut storage, of: _ } = self;
         storage.egress = link;
         storage.to = to;
-        EgressPacket { storage, of }
+        let len = storage.len;
+        EgressPacket::of(storage, len, false)
     }
 
     /// The packet with what it is answered.

@@ -114,7 +114,7 @@ fn answer_packet<N: RunBrand>(
     ensures replied { reply_of result ≡ replied shared.now.config packet.datagram problem.now }
     ensures named { IfOk result (λ o. o ≡ answering packet o.link o.parcel.to o.parcel.bytes) }
 {
-    let Packet { mut storage, of } = packet;
+    let Packet { mut storage, of: _ } = packet;
     let (interface, source, now) = (storage.interface, storage.source, storage.moment);
     let len = storage.len;
     match answer_over(
@@ -127,11 +127,9 @@ fn answer_packet<N: RunBrand>(
         len,
     ) {
         AnswerLen::Send { link, to, len } => {
-            storage.answer = true;
             storage.egress = shared.ports.index(Interface::of(link));
             storage.to = to;
-            storage.len = len;
-            Ok(EgressPacket { storage, of })
+            Ok(EgressPacket::of(storage, len, true))
         }
         AnswerLen::Drop(cause) => Err(Withheld {
             cause,
