@@ -4,31 +4,37 @@ ghost use Rattle.std.specs.Prelude.{◌≡◌, ◌+◌, ◌-◌, ◌^◌, ◌<�
 ghost use Rattle.worker_laws.specs.Forwards.{AddsTo};
 ghost use Rattle.worker_parts.specs.Told.{telling};
 ghost use Rattle.udp_devices.specs.Devices.{Sending};
-ghost use Rattle.udp_devices.specs.Ends.{destination};
+ghost use Rattle.udp_devices.specs.Ends.{IsAddressOf, destination};
 
 use crate::address::socket_address;
 use crate::ends::{Ends, destination};
 use crate::readiness::wait_for_room;
 use process_packet::Underlay;
 use router_rules::Outgoing;
-use std::io::ErrorKind;
+use std::io::{Error, ErrorKind};
 use std::marker::Model;
-use std::net::UdpSocket;
+use std::net::{SocketAddr, UdpSocket};
 use worker_parts::{Sink, SinkFault};
 
 /// Sends by a socket that isn't connected. Contracts see the ends of its link, and how often it failed.
 pub struct UdpSink {
     socket: UdpSocket,
     ends: Ends,
+    // Where a datagram goes that names no address; none where it goes nowhere. It's the same for each.
+    unnamed: Option<SocketAddr>,
     failed: u64,
 }
 
 impl Model for UdpSink {
+    ghost use Rattle.std.specs.Prelude.{None};
     ghost use Rattle.udp_devices.specs.Devices.{Sending};
+    ghost use Rattle.udp_devices.specs.Ends.{IsAddressOf, destination};
 
     ghost Value = { Sending };
 
     ghost view = { λ s. record { ends = s.ends; failed = s.failed } };
+
+    ghost invariant = { λ s. IsAddressOf s.unnamed (destination s.ends None) };
 }
 
 impl Drop for UdpSink {
@@ -36,21 +42,36 @@ impl Drop for UdpSink {
         let UdpSink {
             socket: _,
             ends: _,
+            unnamed: _,
             failed: _,
         } = self;
     }
 }
 
+/// Where a datagram goes, as the system's address.
+fn address_of(ends: &Ends, to: Option<Underlay>) -> Option<SocketAddr>
+    ensures { IsAddressOf result (destination ends.now to) }
+{
+    let to = destination(ends, to)?;
+    Some(socket_address(to))
+}
+
 /// Whether the system took the whole datagram. Where it has no room, this waits for room once, and tries again.
-fn sends(socket: &UdpSocket, bytes: &[u8], to: Underlay) -> bool {
-    let address = socket_address(to);
-    let mut sent = socket.send_to(bytes, address);
-    if let Err(error) = &sent {
-        if error.kind() == ErrorKind::WouldBlock && wait_for_room(socket) {
-            sent = socket.send_to(bytes, address);
-        }
+fn sends(socket: &UdpSocket, bytes: &[u8], address: SocketAddr) -> bool {
+    match socket.send_to(bytes, address) {
+        Ok(count) => count == bytes.len(),
+        Err(error) => sends_after(socket, bytes, address, error),
     }
-    match sent {
+}
+
+/// The same after an error.
+#[cold]
+#[inline(never)]
+fn sends_after(socket: &UdpSocket, bytes: &[u8], address: SocketAddr, error: Error) -> bool {
+    if error.kind() != ErrorKind::WouldBlock || !wait_for_room(socket) {
+        return false;
+    }
+    match socket.send_to(bytes, address) {
         Ok(count) => count == bytes.len(),
         Err(_) => false,
     }
@@ -64,7 +85,18 @@ impl UdpSink {
         UdpSink {
             socket,
             ends,
+            unnamed: address_of(&ends, None),
             failed: 0,
+        }
+    }
+
+    /// Where a datagram goes, as the system's address.
+    fn address(&self, to: Option<Underlay>) -> Option<SocketAddr>
+        ensures { IsAddressOf result (destination self.now.ends to) }
+    {
+        match to {
+            Some(to) => address_of(&self.ends, Some(to)),
+            None => self.unnamed,
         }
     }
 
@@ -72,8 +104,8 @@ impl UdpSink {
     fn is_sent(&self, to: Option<Underlay>, bytes: &[u8]) -> bool
         ensures { destination self.now.ends to ≡ None → result ≡ false }
     {
-        match destination(&self.ends, to) {
-            Some(to) => sends(&self.socket, bytes, to),
+        match self.address(to) {
+            Some(address) => sends(&self.socket, bytes, address),
             None => false,
         }
     }
