@@ -136,6 +136,9 @@ impl<N: RunBrand, K: Sink> Delivery<N, K> {
         give_back(rt, &mut self.free, link, egress_packet.into_buffer());
     }
 
+    // It is seldom called, and stays out of the way of what is handed on.
+    #[cold]
+    #[inline(never)]
     fn sweep<R: Wait>(&mut self, rt: &R, egress_packet: EgressPacket<N>)
         requires { MayRaise self.old.share.counts }
         ensures { Swept egress_packet self.old self.new }
