@@ -1,13 +1,21 @@
 //! When a thread posts, waits and naps.
 
 use crate::idle::Idle;
-use std::time::Clock;
+use std::io;
+use std::sync::Wait;
+use std::time::{Clock, Instant};
+use worker_parts::Event;
 
 // How many turns that did something lie between two posts.
 const TURNS_PER_POST: u32 = 1023;
 
 // After this many turns in a row that did something, a thread naps once before it sleeps.
 const NAP_AFTER: u32 = 2;
+
+// A sleep that ends within so many microseconds costs more than it saves: pushes come faster than a sleep and a wake-up
+// for each can keep up with. Where the one who pushes shares a processor with the one who is woken, they can go on so
+// for ever, one packet at a time.
+const BRIEF: u128 = 10;
 
 // Where just one turn did something between two waits, packets come one by one, and a further turn would
 // find nothing: so many of the next turns that do something are each followed by a wait at once.
@@ -22,6 +30,19 @@ pub(crate) struct Pace {
     items: u32,
     // How many such turns more are each followed by a wait at once.
     alone: u32,
+    // Whether its last sleep was brief, and no nap has come since.
+    brief: bool,
+}
+
+// Whether it has been no longer than a brief sleep since a moment; not where the clock can't be read.
+fn is_brief<R: Clock>(rt: &R, since: io::Result<Instant>) -> bool {
+    let Ok(since) = since else {
+        return false;
+    };
+    match since.elapsed(rt) {
+        Ok(time) => time.as_micros() < BRIEF,
+        Err(_) => false,
+    }
 }
 
 impl Pace {
@@ -31,6 +52,7 @@ impl Pace {
             turns: 0,
             items: 0,
             alone: 0,
+            brief: false,
         }
     }
 
@@ -48,10 +70,11 @@ impl Pace {
         true
     }
 
-    // Whether there was much to do since it last waited: then more comes soon, and a nap in which items
-    // gather costs less than a sleep for each.
+    // Whether there was much to do since it last waited, or something after a brief sleep: then more comes soon, and a
+    // nap in which items gather costs less than a sleep for each.
     pub(crate) fn gathers(&mut self) -> bool {
-        let several = self.items >= NAP_AFTER;
+        let several = self.items >= NAP_AFTER || (self.items > 0 && self.brief);
+        self.brief = false;
         self.alone = if self.items == 1 {
             WAITS_AFTER_SINGLE
         } else {
@@ -69,6 +92,13 @@ impl Pace {
         self.alone -= 1;
         self.items = 0;
         true
+    }
+
+    // Sleeps until there is a push.
+    pub(crate) fn sleep<R: Wait + Clock>(&mut self, rt: &R, event: &Event) {
+        let since = Instant::now(rt);
+        event.sleep(rt);
+        self.brief = is_brief(rt, since);
     }
 
     // There was nothing to do, and nothing to sleep on.

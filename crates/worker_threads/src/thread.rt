@@ -93,11 +93,11 @@ fn rest_posted<B, W: Turns<B>, R: Clock>(rt: &R, worker: &mut W, pace: &mut Pace
 }
 
 // Sleeps until there is a push, where only one can end the worker's quiet.
-fn sleep_posted<B, W: Turns<B>, R: Wait>(rt: &R, worker: &W, event: &Event)
+fn sleep_posted<B, W: Turns<B>, R: Wait + Clock>(rt: &R, worker: &W, event: &Event, pace: &mut Pace)
     requires { W.is_drained worker.now }
 {
     if worker.awaits_push() {
-        event.sleep(rt);
+        pace.sleep(rt, event);
     } else {
         event.withdraw();
     }
@@ -106,7 +106,7 @@ fn sleep_posted<B, W: Turns<B>, R: Wait>(rt: &R, worker: &W, event: &Event)
 // Sleeps until there is a push. Since one may have come before the sleep was announced, there is a turn
 // between, and only where a push is still what ends its quiet it sleeps: the turn may have taken what a
 // gate holds back. Whether the worker has ended.
-fn sleep_on<B, W: Turns<B>, R: Wait>(
+fn sleep_on<B, W: Turns<B>, R: Wait + Clock>(
     rt: &R,
     worker: &mut W,
     book: &B,
@@ -124,14 +124,16 @@ fn sleep_on<B, W: Turns<B>, R: Wait>(
         }
         Turn::Quiet => {
             worker.post(rt, book);
-            sleep_posted(rt, worker, event);
+            sleep_posted(rt, worker, event, pace);
             false
         }
         Turn::Ended => true,
     }
 }
 
-// There was nothing to do. Whether the worker has ended.
+// There was nothing to do. Whether the worker has ended. A busy thread has no need of this code, so it stays out of the
+// way of a turn's.
+#[inline(never)]
 fn pause<B, W: Turns<B>, R: Wait + Clock>(
     rt: &R,
     worker: &mut W,
