@@ -28,8 +28,7 @@ pub struct Load {
     cores: Cores,
 }
 
-/// What came of floods.
-#[derive(Default)]
+/// What came of a flood.
 pub struct Flooded {
     /// Datagrams that were sent, and that came through, in so many seconds.
     sent: f64,
@@ -40,13 +39,6 @@ pub struct Flooded {
 }
 
 impl Flooded {
-    pub fn add(&mut self, other: Flooded) {
-        self.sent += other.sent;
-        self.came += other.came;
-        self.seconds += other.seconds;
-        self.spent += other.spent;
-    }
-
     /// Datagrams a second that came through.
     pub fn rate(&self) -> f64 {
         self.came / self.seconds

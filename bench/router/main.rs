@@ -1,9 +1,9 @@
 //! Times the router over loopback beside plain Rust and C. `bench ROUTER PLAIN FORWARD ROOM`: the programs, and a
 //! directory for configurations. Each round starts all of them for each size of datagram, floods them by short turns,
 //! since what else the machine does changes within seconds, and then sends at a steady pace to each; then each is left
-//! alone. Medians of all rounds are printed, and of a flood the least and the most too. The environment may have ROUNDS,
-//! SECONDS, how long each of these takes in a round, FLOOD, how many datagrams a flood has a second, ONLY, a part of the
-//! names of those that are timed, and TWIN, another build of the router to run beside it.
+//! alone. Medians of all turns and rounds are printed, and of a flood the least and the most too. The environment may
+//! have ROUNDS, SECONDS, how long each of these takes in a round, FLOOD, how many datagrams a flood has a second, ONLY, a
+//! part of the names of those that are timed, and TWIN, another build of the router to run beside it.
 
 #[path = "../decision/cipher.rs"]
 #[allow(dead_code)]
@@ -26,7 +26,7 @@ use std::time::Duration;
 const PACE: u64 = 20_000;
 
 /// Datagrams a second that a flood offers, unless it is told otherwise.
-const FLOOD: u64 = 500_000;
+const FLOOD: u64 = 600_000;
 
 const SIZES: [usize; 2] = [200, 1400];
 
@@ -88,7 +88,7 @@ fn hosts() -> impl Iterator<Item = Ipv4Addr> {
     (1..=u8::MAX).map(|number| Ipv4Addr::new(127, 0, 0, number))
 }
 
-/// What one contender came to, in each round.
+/// What one contender came to: in each turn of the floods, and in each round at the steady pace.
 #[derive(Default)]
 struct Figures {
     /// Datagrams a second when flooded.
@@ -107,10 +107,13 @@ struct Figures {
 }
 
 impl Figures {
-    fn add(&mut self, flooded: Flooded, paced: Paced) {
+    fn add_flood(&mut self, flooded: Flooded) {
         self.flooded.push(flooded.rate());
         self.share.push(flooded.share());
         self.busy.push(flooded.nanos());
+    }
+
+    fn add_pace(&mut self, paced: Paced) {
         self.nanos.push(paced.nanos);
         self.middle.push(paced.middle);
         self.late.push(paced.late);
@@ -174,23 +177,23 @@ fn main() {
                 .map(|((kind, figures), host)| {
                     let contender = Contender::start(&programs, *kind, host, &cores);
                     let load = Load::new(host, *size, cores);
-                    (contender, load, Flooded::default(), &mut figures[at])
+                    (contender, load, &mut figures[at])
                 })
                 .collect();
             // what comes first in one turn, or in one round, comes last in the next
             for _ in 0..length.as_millis() / TURN.as_millis() {
-                for (contender, load, flooded, _) in &mut turns {
-                    flooded.add(load.flood(flood, TURN, || contender.spent()));
+                for (contender, load, figures) in &mut turns {
+                    figures.add_flood(load.flood(flood, TURN, || contender.spent()));
                 }
                 turns.reverse();
             }
             if round % 2 == 0 {
                 turns.reverse();
             }
-            for (contender, load, flooded, figures) in turns {
+            for (contender, load, figures) in turns {
                 let paced = load.pace(PACE, length, || contender.spent());
                 contender.end();
-                figures.add(flooded, paced);
+                figures.add_pace(paced);
             }
         }
         for (kind, shares) in IDLE
@@ -287,7 +290,7 @@ fn main() {
     print_or_skip("idle", is_timed(&router(1)).then(|| median(&idle[0])), 1);
 }
 
-/// What one side came to over the other, in each round.
+/// What one side came to over the other, in each turn or round.
 fn ratios(over: &[f64], under: &[f64]) -> Vec<f64> {
     over.iter().zip(under).map(|(a, b)| a / b).collect()
 }
