@@ -1,9 +1,10 @@
 -- Counts, one by one.
-use Rattle.std.proofs.Common.{◌≡◌, ℕ, zero, suc, ◌+◌, List, [], ◌∷◌, length, replicate, slice_index_or, sym, refl, ap, ◌∙◌, arith}
+use Rattle.std.proofs.Common.{◌≡◌, ◌≤◌, ℕ, zero, suc, ◌+◌, ◌-◌, List, [], ◌∷◌, length, replicate, slice_index_or, sym, refl, ap, ◌∙◌, arith}
 use Rattle.std.proofs.lemmas.List.{ext_get_or}
-use Rattle.process_packet.specs.Cause.{causes}
+use Rattle.process_packet.specs.Cause.{causes, number_of}
 use Rattle.process_packet.specs.declared.totals.Totals.{Totals}
-use Rattle.packet_ledger.specs.Amounts.{count_at, nothing, add_each, plus}
+use Rattle.packet_ledger.specs.Amounts.{AtMost, count_at, nothing, add_each, plus}
+use Rattle.packet_ledger.specs.Share.{MayRaise}
 use Rattle.std.specs.Prelude.{Bool, true, false, MatchBool}
 
 pub zero_of : (n k : ℕ) → slice_index_or {A = ℕ} (replicate n 0) k 0 ≡ 0
@@ -52,3 +53,25 @@ nothing_plus a long = same_counts (plus nothing a) a (length-add_each causes (re
 pub match_as : {P Q P' Q' : Type 0} → (b : Bool) → (P → P') → (Q → Q') → MatchBool b P Q → MatchBool b P' Q'
 match_as true yes' no' m = yes' m
 match_as false yes' no' m = no' m
+
+-- without drops among what is added, those that were counted stay
+pub add_none : (xs ys : List ℕ) → length xs ≡ causes → ys ≡ replicate causes 0 → add_each xs ys ≡ xs
+add_none xs ys long none =
+    ap (add_each xs) none ∙ ext_get_or 0 (add_each xs (replicate causes 0)) xs (length-add_each causes xs (replicate causes 0) long refl ∙ sym long) (λ k lt. let e = each_at xs (replicate causes 0) k in let z = zero_of causes k in omega arith)
+
+-- and the sums of the others decide whether all are small enough
+pub most_without : (most : ℕ) (a b : Totals) → b.dropped ≡ replicate causes 0 → AtMost most a → a.received + b.received ≤ most → a.sent + b.sent ≤ most → a.answered + b.answered ≤ most → AtMost most (plus a b)
+most_without most a b none few r s w zero = r
+most_without most a b none few r s w (suc zero) = s
+most_without most a b none few r s w (suc (suc zero)) = w
+most_without most a b none few r s w (suc (suc (suc k))) =
+    let e = each_at a.dropped b.dropped k in let n = ap (λ (ys : List ℕ). slice_index_or ys k 0) none in let z = zero_of causes k in let f = few (suc (suc (suc k))) in omega arith
+
+-- below 2^100 each count can be raised
+pub may_raise : (t : Totals) → AtMost 1267650600228229401496703205375 t → MayRaise t
+may_raise t most = (
+  (let a = most 0 in omega arith),
+  (let a = most 1 in omega arith),
+  (let a = most 2 in omega arith),
+  λ cause. let a = most (suc (suc (suc (number_of cause - 1)))) in omega arith,
+)

@@ -1,6 +1,7 @@
 //! Counts added up, count by count.
 
-ghost use Rattle.std.specs.Prelude.{◌≡◌, ◌^◌, ◌≤◌, ℕ, MatchBool, slice_index_or};
+ghost use Rattle.std.specs.Prelude.{◌≡◌, ◌+◌, ◌^◌, ◌<◌, ◌≤◌, ℕ, MatchBool, false, replicate, slice_index_or};
+ghost use Rattle.process_packet.specs.Cause.{causes};
 ghost use Rattle.packet_ledger.specs.Amounts.{AtMost, add_each, nothing, plus};
 
 use process_packet::{CAUSES, Totals};
@@ -47,22 +48,46 @@ fn added_each(xs: &[u128; CAUSES], ys: &[u128; CAUSES]) -> [u128; CAUSES]
     sums
 }
 
-/// Sets each count that differs. The others aren't written, so that they stay in the caches of other cores.
-pub fn update(counts: &mut Totals, to: &Totals)
-    ensures { counts.new ≡ to.now }
+// A count to which nothing is added isn't written, so that it stays in the caches of other cores.
+fn raise_count(count: &mut u128, n: u128)
+    requires { count.old + n < 2 ^ 128 }
+    ensures { count.new ≡ count.old + n }
 {
-    if counts.received != to.received {
-        counts.received = to.received;
+    if n > 0 {
+        *count += n;
     }
-    if counts.sent != to.sent {
-        counts.sent = to.sent;
-    }
-    if counts.answered != to.answered {
-        counts.answered = to.answered;
-    }
-    update_each(&mut counts.dropped, &to.dropped);
 }
 
+/// Adds counts, kind by kind. Without `drops` no drop is among them, and those that are counted aren't read.
+pub fn add(counts: &mut Totals, more: &Totals, drops: bool)
+    requires counts { AtMost (2 ^ 126) counts.old }
+    requires more { AtMost (2 ^ 126) more.now }
+    requires drops { drops ≡ false → more.now.dropped ≡ replicate causes 0 }
+    ensures { counts.new ≡ plus counts.old more.now }
+{
+    raise_count(&mut counts.received, more.received);
+    raise_count(&mut counts.sent, more.sent);
+    raise_count(&mut counts.answered, more.answered);
+    if drops {
+        let sums = added_each(&counts.dropped, &more.dropped);
+        update_each(&mut counts.dropped, &sums);
+    }
+}
+
+/// Sets all counts to 0. Without `drops` no drop is counted.
+pub fn clear(counts: &mut Totals, drops: bool)
+    requires { drops ≡ false → counts.old.dropped ≡ replicate causes 0 }
+    ensures { counts.new ≡ nothing }
+{
+    counts.received = 0;
+    counts.sent = 0;
+    counts.answered = 0;
+    if drops {
+        counts.dropped = [0; CAUSES];
+    }
+}
+
+// Sets each count that differs.
 fn update_each(counts: &mut [u128; CAUSES], to: &[u128; CAUSES])
     ensures { counts.new ≡ to.now }
 {
@@ -92,4 +117,28 @@ pub fn at_most(counts: &Totals, most: u128) -> bool
         }
     }
     true
+}
+
+/// Whether no sum of two counts, kind by kind, is above `MOST`, as none of the first is. Without `drops` no drop is
+/// among the second.
+pub fn sums_fit(a: &Totals, b: &Totals, drops: bool) -> bool
+    requires a { AtMost (2 ^ 109) a.now }
+    requires b { AtMost (2 ^ 126) b.now }
+    requires drops { drops ≡ false → b.now.dropped ≡ replicate causes 0 }
+    ensures { MatchBool result (AtMost (2 ^ 109) (plus a.now b.now)) (AtMost (2 ^ 109) (plus a.now b.now) → ⊥) }
+{
+    if a.received + b.received > MOST {
+        return false;
+    }
+    if a.sent + b.sent > MOST {
+        return false;
+    }
+    if a.answered + b.answered > MOST {
+        return false;
+    }
+    if drops {
+        at_most(&added(a, b), MOST)
+    } else {
+        true
+    }
 }

@@ -26,13 +26,16 @@ pub struct Share<N: RunBrand> {
     // Each count can be raised by one at least this many times, so that most looks for room need not
     // read each count.
     pub(crate) left: u64,
+    // Whether a drop may have been counted since the last post. Few are, and a post without them leaves the many counts
+    // of drops alone.
+    pub(crate) drops: bool,
     pub(crate) place: usize,
     pub(crate) token: Token,
     pub(crate) of: PhantomData<N>,
 }
 
 impl<N: RunBrand> Model for Share<N> {
-    ghost use Rattle.std.specs.Prelude.{◌≡◌, ◌-◌, ◌^◌, ◌<◌, [], length};
+    ghost use Rattle.std.specs.Prelude.{◌≡◌, ◌-◌, ◌^◌, ◌<◌, [], false, length, replicate};
     ghost use Rattle.crossbeam_utils.specs.Seq.{cell_view};
     ghost use Rattle.process_packet.specs.Cause.{causes};
     ghost use Rattle.packet_ledger.specs.Amounts.{AtMost, nothing};
@@ -44,7 +47,7 @@ impl<N: RunBrand> Model for Share<N> {
 
     ghost view = { λ s. record { counts = s.counts; posted = s.posted; place = s.place } };
 
-    ghost invariant = { λ s. (s.token.table_id ≡ N.table) × (s.token.me.1 ≡ []) × (cell_view s.token ≡ holder 1 s.posted (counted_at s.place s.posted)) × AtMost (2 ^ 100) s.counts × AtMost (2 ^ 109) s.posted × Leaves s.left s.counts × (s.place < N.workers) × (s.left ≡ 2 ^ 64 - 1 → s.counts ≡ nothing) × (length s.posted.dropped ≡ causes) };
+    ghost invariant = { λ s. (s.token.table_id ≡ N.table) × (s.token.me.1 ≡ []) × (cell_view s.token ≡ holder 1 s.posted (counted_at s.place s.posted)) × AtMost (2 ^ 100) s.counts × AtMost (2 ^ 109) s.posted × Leaves s.left s.counts × (s.place < N.workers) × (s.left ≡ 2 ^ 64 - 1 → s.counts ≡ nothing) × (length s.posted.dropped ≡ causes) × (s.drops ≡ false → s.counts.dropped ≡ replicate causes 0) };
 }
 
 // What is left after a count was raised by `n`.
@@ -92,6 +95,7 @@ impl<N: RunBrand> Share<N> {
         ensures { self.new ≡ counting self.old (with_fate cause self.old.counts) }
     {
         self.counts.dropped[usize::from(cause.number()) - 1] += 1;
+        self.drops = true;
         self.left = left_after(self.left, 1);
     }
 
@@ -103,6 +107,16 @@ impl<N: RunBrand> Share<N> {
         if self.left > 0 {
             return true;
         }
+        self.has_room_by_count()
+    }
+
+    // The same, read count by count. It is seldom called, and stays out of the way of a turn.
+    #[cold]
+    #[inline(never)]
+    fn has_room_by_count(&self) -> bool
+        ensures room { MatchBool result (HasRoom self.now.counts) (HasRoom self.now.counts → ⊥) }
+        ensures each { result ≡ true → MayRaise self.now.counts }
+    {
         at_most(&self.counts, ROOM - 1)
     }
 

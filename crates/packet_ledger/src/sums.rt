@@ -8,7 +8,7 @@ ghost use Rattle.packet_ledger.specs.Shown.{AddUp, HasBooked, HasGrown, add_rows
 ghost use Rattle.packet_ledger.specs.Tokens.{gathered, keeper, unlooked};
 ghost use Rattle.packet_ledger.specs.Share.{AreNew, AreTheirRows, MayPost, counts_of, emptied, new_share, posted_by, rows_by};
 
-use crate::amounts::{MOST, added, at_most, none, update};
+use crate::amounts::{add, added, clear, none, sums_fit};
 use crate::look::Look;
 use crate::run_brand::RunBrand;
 use crate::share::{ALL_LEFT, Share};
@@ -109,11 +109,10 @@ impl<N: RunBrand> Sums<N> {
         ensures share { MatchBool result (share.new ≡ emptied share.old) (share.new ≡ share.old) }
         ensures room { MatchBool result (MayPost share.old) (MayPost share.old → ⊥) }
     {
-        let posted = added(&share.posted, &share.counts);
-        if !at_most(&posted, MOST) {
+        let drops = share.drops;
+        if !sums_fit(&share.posted, &share.counts, drops) {
             return false;
         }
-        let sums = added(&self.totals, &share.counts);
         let spare = give(
             cell,
             &mut self.token,
@@ -138,10 +137,11 @@ impl<N: RunBrand> Sums<N> {
             self.inputs.as_slice(),
             self.outputs.as_slice(),
         );
-        share.posted = posted;
-        share.counts = none();
+        add(&mut share.posted, &share.counts, drops);
+        add(&mut self.totals, &share.counts, drops);
+        clear(&mut share.counts, drops);
+        share.drops = false;
         share.left = ALL_LEFT;
-        update(&mut self.totals, &sums);
         true
     }
 
@@ -266,6 +266,7 @@ fn split_share<N: RunBrand>(cell: &Cell, token: &mut Token, place: usize) -> Sha
         counts,
         posted: counts,
         left: ALL_LEFT,
+        drops: false,
         place,
         of: PhantomData,
     }
@@ -310,6 +311,7 @@ fn add_share<N: RunBrand>(
         counts: own,
         posted: _,
         left: _,
+        drops: _,
         place: _,
         token: other,
         of: _,
