@@ -107,6 +107,12 @@ module _ {K : Type 0} (told : K → Option (List Told)) (failed : K → ℕ) (lo
   keeps_posted new (inl is) is_shared = subst (λ (n : Delivery K). KeepsForwarding told failed low high began n) (sym (is_shared ∙ ap (λ (s : Held). with_share s side) is.1)) (forwards_posted told_of low.taker high.taker low.shut high.shut (told side.sink) began (failed side.sink) side.share k)
   keeps_posted new (inr is) is_shared = subst (λ (n : Delivery K). KeepsForwarding told failed low high began n) (sym (is_shared ∙ ap (λ (s : Held). with_share s side) is.1)) k
 
+-- what is passed on leaves the configuration as it is
+pub passed_config : {K : Type 0} (told : K → Option (List Told)) (failed : K → ℕ) (is_same : K → K → Type 0) (shut : Bool) (met : Taken (Outgoing kinds)) (side new : Delivery K) → PassedMet told failed is_same shut met side new → new.config ≡ side.config
+passed_config told failed is_same shut taken.Mark side new is = ap (λ d. d.config) is
+passed_config told failed is_same true (taken.Packet o) side new is = ap (λ d. d.config) is.1
+passed_config told failed is_same false (taken.Packet o) side new is = ap (λ d. d.config) is.4
+
 -- nothing was taken yet
 pub keeps_first : {K : Type 0} (told : K → Option (List Told)) (failed : K → ℕ) (low high : Band) (began : ℕ) (side : Delivery K) → (low.taker.taken ≡ []) × (low.shut ≡ false) → (high.taker.taken ≡ []) × (high.shut ≡ false)
     → IsNew side.share → began ≡ failed side.sink → ToldNothing (told side.sink) → KeepsForwarding told failed low high began side

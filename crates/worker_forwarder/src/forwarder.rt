@@ -23,6 +23,8 @@ use worker_parts::{Buffer, EgressPacket, RunBrand, Sink, Stage, Turn, Turns};
 /// What comes after a closing mark in a pipe is swept.
 pub struct Forwarder<N: RunBrand, K: Sink> {
     link: LinkIndex,
+    // Whether its link has two bands, which each turn asks.
+    two_bands: bool,
     low: Band<N>,
     high: Band<N>,
     // How often the sink had failed before.
@@ -31,19 +33,22 @@ pub struct Forwarder<N: RunBrand, K: Sink> {
 }
 
 impl<N: RunBrand, K: Sink> Model for Forwarder<N, K> {
+    ghost use Rattle.std.specs.Prelude.{◌≡◌};
+    ghost use Rattle.router_rules.specs.Links.{has_two_bands};
     ghost use Rattle.worker_forwarder.specs.Forwarding.{Forwarding, KeepsForwarding};
 
     ghost Value = { Forwarding K };
 
     ghost view = { λ f. record { link = f.link; low = f.low; high = f.high; began = f.began; side = f.delivery } };
 
-    ghost invariant = { λ f. KeepsForwarding K.told K.failed f.low f.high f.began f.delivery };
+    ghost invariant = { λ f. (f.two_bands ≡ has_two_bands f.delivery.config f.link) × KeepsForwarding K.told K.failed f.low f.high f.began f.delivery };
 }
 
 impl<N: RunBrand, K: Sink + Drop> Drop for Forwarder<N, K> {
     fn drop(self) {
         let Forwarder {
             link: _,
+            two_bands: _,
             low: _,
             high: _,
             began: _,
@@ -91,6 +96,7 @@ impl<N: RunBrand, K: Sink> Forwarder<N, K> {
         };
         Forwarder {
             link,
+            two_bands: delivery.has_two_bands(link),
             low,
             high,
             began,
@@ -105,6 +111,7 @@ impl<N: RunBrand, K: Sink> Forwarder<N, K> {
     {
         let Forwarder {
             link: _,
+            two_bands: _,
             low,
             high,
             began: _,
@@ -127,7 +134,7 @@ impl<N: RunBrand, K: Sink> Forwarder<N, K> {
         if !self.low.is_over() {
             return false;
         }
-        if !self.delivery.has_two_bands(self.link) {
+        if !self.two_bands {
             return true;
         }
         self.high.is_over()
@@ -178,8 +185,7 @@ impl<N: RunBrand, K: Sink> Turns<Book<N>> for Forwarder<N, K> {
         if self.delivery.failures() == u64::MAX {
             return Turn::Quiet;
         }
-        let two_bands = self.delivery.has_two_bands(self.link);
-        if let Some(met) = self.high.take_if(rt, two_bands) {
+        if let Some(met) = self.high.take_if(rt, self.two_bands) {
             self.delivery.pass(rt, self.high.is_shut(), met);
             return Turn::Did;
         }

@@ -4,8 +4,5 @@ use Rattle.worker_forwarder.proofs.forwarder.Forwarder.is_over.Goals as goal
 pub returns-then-not-is_over : goal.returns-then-not-is_over
 returns-then-not-is_over g c = search rules
 
-pub returns-then-not-has_two_bands : goal.returns-then-not-has_two_bands
-returns-then-not-has_two_bands g c = search rules
-
 pub returns : goal.returns
 returns g c = search rules
