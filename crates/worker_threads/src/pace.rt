@@ -1,7 +1,6 @@
 //! When a thread posts, waits and naps.
 
 use crate::idle::Idle;
-use std::io;
 use std::sync::Wait;
 use std::time::{Clock, Instant};
 use worker_parts::Event;
@@ -12,14 +11,17 @@ const TURNS_PER_POST: u32 = 1023;
 // After this many turns in a row that did something, a thread naps once before it sleeps.
 const NAP_AFTER: u32 = 2;
 
-// A sleep that ends within so many microseconds costs more than it saves: pushes come faster than a sleep and a wake-up
-// for each can keep up with. Where the one who pushes shares a processor with the one who is woken, they can go on so
-// for ever, one packet at a time.
-const BRIEF: u128 = 10;
+// How many sleeps lie between two after which the clock is read.
+const SLEEPS_PER_LOOK: u32 = 15;
+
+// Where no more microseconds passed between two looks at the clock, sleeps cost more than they save: pushes come faster
+// than a sleep and a wake-up for each can keep up with. Where the one who pushes shares a processor with the one who is
+// woken, they can go on so for ever, one packet at a time.
+const BRIEF: u128 = 200;
 
 // Where just one turn did something between two waits, packets come one by one, and a further turn would
 // find nothing: so many of the next turns that do something are each followed by a wait at once.
-const WAITS_AFTER_SINGLE: u32 = 15;
+const WAITS_AFTER_SINGLE: u32 = 63;
 
 // How a thread has worked of late, and waited.
 #[derive(Drop)]
@@ -30,17 +32,20 @@ pub(crate) struct Pace {
     items: u32,
     // How many such turns more are each followed by a wait at once.
     alone: u32,
-    // Whether its last sleep was brief, and no nap has come since.
+    // Sleeps since the last look at the clock, and what that showed.
+    sleeps: u32,
+    since: Option<Instant>,
+    // Whether the sleeps before it were brief, and no nap has come since.
     brief: bool,
 }
 
-// Whether it has been no longer than a brief sleep since a moment; not where the clock can't be read.
-fn is_brief<R: Clock>(rt: &R, since: io::Result<Instant>) -> bool {
-    let Ok(since) = since else {
+// Whether so little time has passed since a moment; not where the clock can't be read.
+fn is_brief<R: Clock>(rt: &R, since: Option<Instant>) -> bool {
+    let Some(since) = since else {
         return false;
     };
     match since.elapsed(rt) {
-        Ok(time) => time.as_micros() < BRIEF,
+        Ok(time) => time.as_micros() <= BRIEF,
         Err(_) => false,
     }
 }
@@ -52,6 +57,8 @@ impl Pace {
             turns: 0,
             items: 0,
             alone: 0,
+            sleeps: 0,
+            since: None,
             brief: false,
         }
     }
@@ -70,7 +77,7 @@ impl Pace {
         true
     }
 
-    // Whether there was much to do since it last waited, or something after a brief sleep: then more comes soon, and a
+    // Whether there was much to do since it last waited, or something after brief sleeps: then more comes soon, and a
     // nap in which items gather costs less than a sleep for each.
     pub(crate) fn gathers(&mut self) -> bool {
         let several = self.items >= NAP_AFTER || (self.items > 0 && self.brief);
@@ -96,9 +103,14 @@ impl Pace {
 
     // Sleeps until there is a push.
     pub(crate) fn sleep<R: Wait + Clock>(&mut self, rt: &R, event: &Event) {
-        let since = Instant::now(rt);
         event.sleep(rt);
-        self.brief = is_brief(rt, since);
+        if self.sleeps < SLEEPS_PER_LOOK {
+            self.sleeps += 1;
+            return;
+        }
+        self.sleeps = 0;
+        self.brief = is_brief(rt, self.since);
+        self.since = Instant::now(rt).ok();
     }
 
     // There was nothing to do, and nothing to sleep on.
