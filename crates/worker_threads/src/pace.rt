@@ -12,16 +12,18 @@ const TURNS_PER_POST: u32 = 1023;
 const NAP_AFTER: u32 = 2;
 
 // How many sleeps lie between two after which the clock is read.
-const SLEEPS_PER_LOOK: u32 = 15;
+const SLEEPS_PER_LOOK: u32 = 7;
 
 // Where no more microseconds passed between two looks at the clock, sleeps cost more than they save: pushes come faster
 // than a sleep and a wake-up for each can keep up with. Where the one who pushes shares a processor with the one who is
-// woken, they can go on so for ever, one packet at a time.
-const BRIEF: u128 = 200;
+// woken, they can go on so for ever, one packet at a time. So many of the next pauses after a single item are naps then.
+const BRIEF: u128 = 120;
+
+const NAPS_AFTER_BRIEF: u32 = 63;
 
 // Where just one turn did something between two waits, packets come one by one, and a further turn would
 // find nothing: so many of the next turns that do something are each followed by a wait at once.
-const WAITS_AFTER_SINGLE: u32 = 63;
+const WAITS_AFTER_SINGLE: u32 = 15;
 
 // How a thread has worked of late, and waited.
 #[derive(Drop)]
@@ -35,8 +37,8 @@ pub(crate) struct Pace {
     // Sleeps since the last look at the clock, and what that showed.
     sleeps: u32,
     since: Option<Instant>,
-    // Whether the sleeps before it were brief, and no nap has come since.
-    brief: bool,
+    // How many more pauses after a single item are naps.
+    naps: u32,
 }
 
 // Whether so little time has passed since a moment; not where the clock can't be read.
@@ -59,7 +61,7 @@ impl Pace {
             alone: 0,
             sleeps: 0,
             since: None,
-            brief: false,
+            naps: 0,
         }
     }
 
@@ -77,17 +79,17 @@ impl Pace {
         true
     }
 
-    // Whether there was much to do since it last waited, or something after brief sleeps: then more comes soon, and a
-    // nap in which items gather costs less than a sleep for each.
+    // Whether more is likely to come soon, so that a nap in which items gather costs less than a sleep for each: there was
+    // much to do since it last waited, or something, and sleeps were brief of late.
     pub(crate) fn gathers(&mut self) -> bool {
-        let several = self.items >= NAP_AFTER || (self.items > 0 && self.brief);
-        self.brief = false;
-        self.alone = if self.items == 1 {
-            WAITS_AFTER_SINGLE
-        } else {
-            0
-        };
+        let single = self.items == 1;
+        let several = self.items >= NAP_AFTER;
         self.items = 0;
+        self.alone = if single { WAITS_AFTER_SINGLE } else { 0 };
+        if single && self.naps > 0 {
+            self.naps -= 1;
+            return true;
+        }
         several
     }
 
@@ -109,7 +111,9 @@ impl Pace {
             return;
         }
         self.sleeps = 0;
-        self.brief = is_brief(rt, self.since);
+        if is_brief(rt, self.since) {
+            self.naps = NAPS_AFTER_BRIEF;
+        }
         self.since = Instant::now(rt).ok();
     }
 
